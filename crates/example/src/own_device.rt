@@ -2,7 +2,7 @@
 
 ghost use Rattle.std.specs.Prelude.{◌≡◌, ◌≤◌, ◌<◌, ◌+◌, ◌*◌, length, replicate};
 ghost use Rattle.lfs_model.specs.Blocks.{cut, bytes_after_overwrite_at};
-ghost use Rattle.lfs_model.specs.Conformance.{AreConformingDeviceCalls};
+ghost use Rattle.lfs_model.specs.Conformance.{DoSuccessfulCallsHaveOnlyTheirEffect};
 ghost use Rattle.lfs_model.specs.History.{AreBlocksLeftByNewestCall};
 ghost use Rattle.lfs_device.specs.Bytes.{AreAllNumbersBytes};
 
@@ -20,7 +20,7 @@ struct Chip {
     ghost are_bytes: { AreAllNumbersBytes bytes.items },
     ghost size: { length bytes.items ≡ geometry.block_size * geometry.block_count },
     ghost newest: { AreBlocksLeftByNewestCall trace.events (cut geometry.block_size geometry.block_count bytes.items) },
-    ghost conforms: { AreConformingDeviceCalls trace.events },
+    ghost conforms: { DoSuccessfulCallsHaveOnlyTheirEffect trace.events },
 }
 
 impl Chip {

@@ -1,6 +1,6 @@
 ghost use Rattle.std.specs.Prelude.{◌≡◌, ◌≤◌, ◌<◌, ◌↔◌, ◌%◌, ℕ, Some, length, replicate, slice_get, slice_set, IsTrue, IfErr, IfNone, IfOk, IfSome};
 ghost use Rattle.std.specs.Bool.{OnFalse, OnTrue};
-ghost use Rattle.lfs_model.specs.BlockSets.{IsBlockFree, IsBlockInFlight, IsBlockUsed, used_count};
+ghost use Rattle.lfs_model.specs.BlockSets.{IsBlockFree, IsBlockInFlight, IsBlockMarkedUsedInMap, used_count};
 ghost use Rattle.lfs_model.specs.BlockSets.BlockState.{Free, InFlight, Used};
 ghost use Rattle.lfs_alloc.specs.Marks.{block_state_of_block_use};
 ghost use Rattle.lfs_alloc.specs.Next.{IsNextFreeBlockInCircle};
@@ -70,7 +70,7 @@ impl BlockMap {
     /// Returns whether a block is used. A block in flight isn't.
     pub fn is_used(&self, block: u32) -> bool
         requires { block < length self.now }
-        ensures { IsTrue result ↔ IsBlockUsed self.now block }
+        ensures { IsTrue result ↔ IsBlockMarkedUsedInMap self.now block }
     {
         self.state(block).is_used()
     }

@@ -12,7 +12,7 @@ use Rattle.lfs_model.proofs.Histories.{AreBytesStillUnprogrammed-trans, AreBytes
 use Rattle.lfs_model.specs.SkipLists.{data_capacity_of_list_block, list_blocks_from_head, list_block_count_for_size}
 use Rattle.lfs_ctz.specs.declared.rest.RestLocation.{RestLocation}
 use Rattle.lfs_ctz.specs.declared.rest.RestLocation.TheVariants.{Closed, Shared, Handed, Held}
-use Rattle.lfs_ctz.specs.Growing.{GrowingList, unwritten_block_after_full_blocks, block_after_full_blocks, are_last_bytes_of_list_only_in_buffer, are_last_bytes_only_in_buffer, unwritten_block_of_list, blocks_kept_when_growing, blocks_of_growing_list, growing_list_size_with_block_size, block_for_next_bytes_with_used_count, AreLastBytesAtLocation, HasGrowingListOnDisk}
+use Rattle.lfs_ctz.specs.Growing.{GrowingList, unwritten_block_after_full_blocks, block_after_full_blocks, are_last_bytes_of_list_only_in_buffer, have_last_bytes_no_block, unwritten_block_of_list, blocks_kept_when_growing, blocks_of_growing_list, growing_list_size_with_block_size, block_for_next_bytes_with_used_count, AreLastBytesAtLocation, HasGrowingListOnDisk}
 use Rattle.lfs_ctz.proofs.Sizes.{list_block_count_for_size-above, list_block_count_for_size-within}
 use Rattle.lfs_ctz.proofs.Chains.{length_back}
 
@@ -116,7 +116,7 @@ size_fits : (d : Blocks) (block_size : ℕ) (g : GrowingList) → 1024 ≤ block
     → list_block_count_for_size block_size (growing_list_size_with_block_size block_size g) ≤ g.full + length (unwritten_block_of_list g)
 size_fits d block_size g large held short own listed = go g.stand held.stand listed own
   where
-    go : (t : RestLocation) → AreLastBytesAtLocation d g.full g.head g.rest t → are_last_bytes_only_in_buffer t ≡ false → list_blocks_from_head d g.full g.head ++ block_after_full_blocks t ≡ list_blocks_from_head d g.full g.head ++ unwritten_block_after_full_blocks t
+    go : (t : RestLocation) → AreLastBytesAtLocation d g.full g.head g.rest t → have_last_bytes_no_block t ≡ false → list_blocks_from_head d g.full g.head ++ block_after_full_blocks t ≡ list_blocks_from_head d g.full g.head ++ unwritten_block_after_full_blocks t
         → list_block_count_for_size block_size (growing_list_size_with_block_size block_size g) ≤ g.full + length (unwritten_block_after_full_blocks t)
     go Closed none out e = let w = list_block_count_for_size-within block_size (growing_list_size_with_block_size block_size g) g.full large (omega (arith, ap length none)) in omega arith
     go (Shared b) shared out e =

@@ -11,7 +11,7 @@ use Rattle.lfs_ctz.specs.declared.rest.RestLocation.{RestLocation}
 use Rattle.lfs_ctz.specs.declared.rest.RestLocation.TheVariants.{Closed, Shared, Handed, Held}
 use Rattle.lfs_ctz.specs.Extended.{GrowingListHasBytesAndBlocks}
 use Rattle.lfs_ctz.specs.Extending.{HasTheseBytesOnlyInBuffer}
-use Rattle.lfs_ctz.specs.Growing.{GrowingList, HasGrowingListOnDisk, HasAllBytesInBuffer, AreLastBytesAtLocation, AreLastBytesShorterThanBlock, IsSameListOnLaterDisk, blocks_of_growing_list, bytes_of_growing_list, are_last_bytes_only_in_buffer, data_of_list_blocks, blocks_kept_when_growing, block_after_full_blocks, unwritten_block_after_full_blocks, growing_list_size_with_block_size}
+use Rattle.lfs_ctz.specs.Growing.{GrowingList, HasGrowingListOnDisk, HasAllBytesInBuffer, AreLastBytesAtLocation, AreLastBytesShorterThanBlock, IsSameListOnLaterDisk, blocks_of_growing_list, bytes_of_growing_list, have_last_bytes_no_block, data_of_list_blocks, blocks_kept_when_growing, block_after_full_blocks, unwritten_block_after_full_blocks, growing_list_size_with_block_size}
 use Rattle.lfs_ctz.proofs.Filling.{length-full, none_chain}
 
 module _ (d later : Blocks) (count : length later ≡ length d) where
@@ -69,7 +69,7 @@ is_grown divided d e bytes size count own all shape geometry short growing conte
     }
 
 -- all bytes in memory
-pub stands_held : (t : RestLocation) → are_last_bytes_only_in_buffer t ≡ true → t ≡ Held
+pub stands_held : (t : RestLocation) → have_last_bytes_no_block t ≡ true → t ≡ Held
 stands_held Closed is = absurd (cc)
 stands_held (Shared b) is = absurd (cc)
 stands_held (Handed b) is = absurd (cc)

@@ -32,14 +32,14 @@ block_after_full_blocks (Handed b) = b ∷ []
 block_after_full_blocks Held = []
 
 -- the rest is in memory for no block
-abbrev pub are_last_bytes_only_in_buffer : RestLocation → Bool
-are_last_bytes_only_in_buffer Closed = false
-are_last_bytes_only_in_buffer (Shared b) = false
-are_last_bytes_only_in_buffer (Handed b) = false
-are_last_bytes_only_in_buffer Held = true
+abbrev pub have_last_bytes_no_block : RestLocation → Bool
+have_last_bytes_no_block Closed = false
+have_last_bytes_no_block (Shared b) = false
+have_last_bytes_no_block (Handed b) = false
+have_last_bytes_no_block Held = true
 
 abbrev pub are_last_bytes_of_list_only_in_buffer : GrowingList → Bool
-are_last_bytes_of_list_only_in_buffer g = are_last_bytes_only_in_buffer g.stand
+are_last_bytes_of_list_only_in_buffer g = have_last_bytes_no_block g.stand
 
 abbrev pub unwritten_block_of_list : GrowingList → List ℕ
 unwritten_block_of_list g = unwritten_block_after_full_blocks g.stand

@@ -3,9 +3,9 @@ use Rattle.std.proofs.Common.{◌≡◌, ℕ, Bool, true, false, cond, length, O
 use Rattle.std.proofs.Math.Logic.{∥∥₁_map}
 use Rattle.lfs_model.specs.Blocks.{Blocks, block_bytes_by_number}
 use Rattle.lfs_model.specs.History.{DeviceCall, Read, Program, Erase, DeviceCallEvent, device_call_event_with_blocks}
-use Rattle.lfs_model.specs.Conformance.{AreConformingDeviceCalls}
+use Rattle.lfs_model.specs.Conformance.{DoSuccessfulCallsHaveOnlyTheirEffect}
 use Rattle.lfs_model.specs.Premises.{IsHistoryMeetingPowerLossPremises}
-use Rattle.lfs_model.specs.Stops.{IsBlockLeftByStoppedEraseCall}
+use Rattle.lfs_model.specs.Stops.{MayStoppedEraseLeaveBlock}
 use Rattle.lfs_model.proofs.Premises.{Meets, meets_nothing, meets_whole, premises_newest, premises_next}
 use Rattle.lfs_model.proofs.RepeatedBytes.{no_log-repeated}
 use Rattle.lfs_device.specs.declared.device.BlockDevice.{Ghosts}
@@ -33,13 +33,13 @@ meets_read block off len before after = record { erases = tt; failed = λ is. ab
 pub meets_program : (block off : ℕ) (bytes : List ℕ) (before after : Blocks) → Meets (Program block off bytes) false before after
 meets_program block off bytes before after = record { erases = tt; failed = λ is. absurd (cc) }
 
-left_by_erased : (erased : Erased) (block : List ℕ) → ErasedFillIsByte erased → IsBlockLeftByStoppedEraseCall block (block_bytes_after_erase erased block)
+left_by_erased : (erased : Erased) (block : List ℕ) → ErasedFillIsByte erased → MayStoppedEraseLeaveBlock block (block_bytes_after_erase erased block)
 left_by_erased (Fill byte) block small = inr (no_log-repeated (length block) byte small)
 left_by_erased Keep block any = inl refl
 
 pub meets_erase : (erased : Erased) (block : ℕ) (before after : Blocks) → ErasedFillIsByte erased → block_bytes_by_number after block ≡ block_bytes_after_erase erased (block_bytes_by_number before block) → Meets (Erase block) false before after
 meets_erase erased block before after small is = record {
-  erases = subst (IsBlockLeftByStoppedEraseCall (block_bytes_by_number before block)) (sym is) (left_by_erased erased (block_bytes_by_number before block) small);
+  erases = subst (MayStoppedEraseLeaveBlock (block_bytes_by_number before block)) (sym is) (left_by_erased erased (block_bytes_by_number before block) small);
   failed = λ failed. absurd (cc);
 }
 
@@ -58,7 +58,7 @@ tears_none fault call older untorn = either (is_nth_counted_call (is_counted_cal
     either false false = refl
 
 meets_carried : {D : Type 0} (g : Ghosts D) (o : Option FaultExtent) (call : DeviceCall) (failed : Bool) (old new : D) → tears o ≡ false → PassesCallOrFailsAtPlannedExtent g o call failed old new
-    → AreConformingDeviceCalls (g.history new) → DevicesOfTypeNeverFailAndMeetPremises g → Meets call failed (g.blocks old) (g.blocks new)
+    → DoSuccessfulCallsHaveOnlyTheirEffect (g.history new) → DevicesOfTypeNeverFailAndMeetPremises g → Meets call failed (g.blocks old) (g.blocks new)
 meets_carried g None call failed old new untorn carried conforms reliable = premises_newest carried (reliable new).premises
 meets_carried g (Some Nothing) call failed old new untorn carried conforms reliable = rw (carried.0, carried.1) (meets_nothing call (g.blocks old))
 meets_carried g (Some (FirstBytes k)) call failed old new untorn carried conforms reliable = absurd (cc)
@@ -67,6 +67,6 @@ meets_carried g (Some Whole) call failed old new untorn carried conforms reliabl
 
 pub premises_call : {D : Type 0} {call : DeviceCall} {failed : Bool} {older later : List DeviceCallEvent} (g : Ghosts D) (fault : PlannedFault) (old new : D)
     → is_extent_of_first_bytes_only fault.extent ≡ false → PassesCallOrFailsAtPlannedExtent g (extent_of_call_if_due_to_fail fault call older) call failed old new → later ≡ device_call_event_with_blocks call (g.blocks old) (g.blocks new) failed ∷ older
-    → AreConformingDeviceCalls (g.history new) → DevicesOfTypeNeverFailAndMeetPremises g → ∥ IsHistoryMeetingPowerLossPremises older ∥₁ → ∥ IsHistoryMeetingPowerLossPremises later ∥₁
+    → DoSuccessfulCallsHaveOnlyTheirEffect (g.history new) → DevicesOfTypeNeverFailAndMeetPremises g → ∥ IsHistoryMeetingPowerLossPremises older ∥₁ → ∥ IsHistoryMeetingPowerLossPremises later ∥₁
 premises_call {call = call} {failed = failed} {older = older} g fault old new untorn carried is conforms reliable so_far =
     premises_after is (meets_carried g (extent_of_call_if_due_to_fail fault call older) call failed old new (tears_none fault call older untorn) carried conforms reliable) so_far

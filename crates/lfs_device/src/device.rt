@@ -2,7 +2,7 @@ ghost use Rattle.std.specs.Prelude.{◌≡◌, ◌≤◌, ◌<◌, ℕ, ◌+◌,
 ghost use Rattle.lfs_model.specs.Blocks.{Blocks, HasBlocksOfCountAndSize, AreBlocksEqualExceptOne, AreBytesEqualOutsideRange, block_bytes_by_number, programmed};
 ghost use Rattle.lfs_model.specs.History.{DeviceCallEvent, device_call_event_with_blocks, AreBytesUnprogrammed, AreBlocksLeftByNewestCall};
 ghost use Rattle.lfs_model.specs.History.DeviceCall.{Read, Program, Erase};
-ghost use Rattle.lfs_model.specs.Conformance.{AreConformingDeviceCalls};
+ghost use Rattle.lfs_model.specs.Conformance.{DoSuccessfulCallsHaveOnlyTheirEffect};
 ghost use Rattle.lfs_device.specs.declared.geometry.Geometry.{Geometry};
 ghost use Rattle.lfs_device.specs.Bytes.{AreAllBlockElementsBelow256};
 
@@ -85,5 +85,5 @@ pub trait BlockDevice {
 
     /// Each call that didn't fail conforms: it did what the call is for, and changed no other
     /// block.
-    ghost conforms: { (d : Self) → AreConformingDeviceCalls (history d) };
+    ghost conforms: { (d : Self) → DoSuccessfulCallsHaveOnlyTheirEffect (history d) };
 }

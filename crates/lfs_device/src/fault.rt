@@ -2,7 +2,7 @@ ghost use Rattle.std.specs.Prelude.{◌≡◌, ◌≤◌, ◌<◌, ◌+◌, ◌-
 ghost use Rattle.lfs_model.specs.Blocks.{AreBlocksEqualExceptOne, AreBytesEqualOutsideRange, block_bytes_by_number, programmed};
 ghost use Rattle.lfs_model.specs.History.{read_count_of_history, program_count_of_history, erase_count_of_history, fault_count_of_history, is_byte_unprogrammed, AreBytesUnprogrammed, AreBlocksLeftByNewestCall};
 ghost use Rattle.lfs_model.specs.History.DeviceCall.{Read, Program, Erase};
-ghost use Rattle.lfs_model.specs.Conformance.{AreConformingDeviceCalls};
+ghost use Rattle.lfs_model.specs.Conformance.{DoSuccessfulCallsHaveOnlyTheirEffect};
 ghost use Rattle.lfs_model.specs.Premises.{IsHistoryMeetingPowerLossPremises};
 ghost use Rattle.lfs_device.specs.Fault.{count_of_device_calls, extent_of_call_if_due_to_fail, extent_of_failing_call, have_due_calls_failed, is_extent_of_first_bytes_only, count_of_unplanned_faults};
 ghost use Rattle.lfs_device.specs.Premises.{DevicesOfTypeNeverFailAndMeetPremises};
@@ -66,7 +66,7 @@ pub struct FaultDevice<D: BlockDevice> {
     ghost programs_counted: { program_calls ≡ min (program_count_of_history trace.events) (2 ^ 64 - 1) },
     ghost erases_counted: { erase_calls ≡ min (erase_count_of_history trace.events) (2 ^ 64 - 1) },
     ghost newest: { AreBlocksLeftByNewestCall trace.events (D.blocks inner) },
-    ghost conforms: { AreConformingDeviceCalls trace.events },
+    ghost conforms: { DoSuccessfulCallsHaveOnlyTheirEffect trace.events },
     ghost below: { (block byte : ℕ) → is_byte_unprogrammed trace.events block byte ≡ true → is_byte_unprogrammed (D.history inner) block byte ≡ true },
     ghost untorn: { tears ≡ false → is_extent_of_first_bytes_only fault.extent ≡ false },
     pub ghost premises: { tears ≡ false → DevicesOfTypeNeverFailAndMeetPremises ⟦<D as BlockDevice>⟧ → ∥ IsHistoryMeetingPowerLossPremises trace.events ∥₁ },

@@ -2,7 +2,7 @@ ghost use Rattle.std.specs.Prelude.{◌≡◌, ◌≤◌, ◌<◌, ◌+◌, ◌*
 ghost use Rattle.lfs_model.specs.Blocks.{AreBlocksEqualExceptOne, block_bytes_by_number, cut, bytes_after_overwrite_at, programmed};
 ghost use Rattle.lfs_model.specs.History.{device_call_event_with_blocks, fault_count_of_history, AreBytesUnprogrammed, AreBlocksLeftByNewestCall};
 ghost use Rattle.lfs_model.specs.History.DeviceCall.{Read, Program, Erase};
-ghost use Rattle.lfs_model.specs.Conformance.{AreConformingDeviceCalls};
+ghost use Rattle.lfs_model.specs.Conformance.{DoSuccessfulCallsHaveOnlyTheirEffect};
 ghost use Rattle.lfs_model.specs.Premises.{IsHistoryMeetingPowerLossPremises};
 ghost use Rattle.lfs_device.specs.Bytes.{AreAllNumbersBytes};
 ghost use Rattle.lfs_device.specs.Premises.{DevicesOfTypeNeverFailAndMeetPremises};
@@ -31,7 +31,7 @@ pub struct RamDevice {
     ghost size: { length bytes.items ≡ geometry.block_size * geometry.block_count },
     pub ghost no_fault: { fault_count_of_history trace.events ≡ 0 },
     ghost newest: { AreBlocksLeftByNewestCall trace.events (cut geometry.block_size geometry.block_count bytes.items) },
-    ghost conforms: { AreConformingDeviceCalls trace.events },
+    ghost conforms: { DoSuccessfulCallsHaveOnlyTheirEffect trace.events },
     pub ghost premises: { ∥ IsHistoryMeetingPowerLossPremises trace.events ∥₁ },
 }
 

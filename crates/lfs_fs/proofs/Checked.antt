@@ -18,7 +18,7 @@ use Rattle.lfs_fs.specs.Replies.{value_unless_refused}
 use Rattle.lfs_tree.specs.TreeState.{TreeState, tree_view, disk_summary_of_tree, WasTreeOnlyRead, IsTreeFailedByRead, IsIoWithFaultOrNoMemory}
 use Rattle.lfs_tree.specs.Permissions.{CanMakeDirectoryAtPath}
 use Rattle.lfs_model.specs.BlockSets.{in_flight_block_count}
-use Rattle.lfs_lookup.specs.FileContents.{AreFileContentsAtPath}
+use Rattle.lfs_lookup.specs.FileContents.{IsInlineBytesOrSkipListOfFileAtPath}
 use Rattle.lfs_lookup.specs.Finds.{IsFoundNodeAtPath, is_absent_node, is_directory_node, is_file_node, size_of_node_if_file}
 use Rattle.lfs_fs.specs.SessionView.{SessionView, session_of_session_view, IsReadablePathWithContents, refusal_by_checks, PassesChecksWithoutDeviceCalls, EndsChecksWithError, IsResultOfOperationChecks}
 use Rattle.lfs_lookup.specs.declared.file_contents.FileContents.{FileContents}
@@ -187,7 +187,7 @@ open_refused h bytes p flags found works is write allowed f = go (is_none (tree_
     go false e = rw (works, allowed, write, is, f.parents, e, sym f.nothing ∙ e, there (tree_view h.tree p) ∙ ap not e, plain.1, plain.2, f.directories) refl
 
 pub open_checked : (h : SessionView) (bytes : List ℕ) (p : Path) (flags : FlagsOfOpen) (found : FoundNode) (tree : TreeState) (absent directory busy : Bool) (a b d : Option Refusal) (x : FileContents) (r : Result FileContents Error) →
-    (is_file (tree_view h.tree p) ≡ true → AreFileContentsAtPath h.tree.pairs p x) → false ≡ h.tree.failed → Some p ≡ path_of_bytes bytes → flags.write ≡ false → true ≡ are_flags_allowed flags → WasTreeOnlyRead h.tree tree → IsFoundNodeAtPath (tree_view h.tree) p found →
+    (is_file (tree_view h.tree p) ≡ true → IsInlineBytesOrSkipListOfFileAtPath h.tree.pairs p x) → false ≡ h.tree.failed → Some p ≡ path_of_bytes bytes → flags.write ≡ false → true ≡ are_flags_allowed flags → WasTreeOnlyRead h.tree tree → IsFoundNodeAtPath (tree_view h.tree) p found →
     absent ≡ is_absent_node found.node → a ≡ refuse_if absent ops.NoEnt → directory ≡ is_directory_node found.node → b ≡ refuse_if directory ops.IsDir → busy ≡ is_busy h p → d ≡ refuse_if busy ops.Busy →
     r ≡ value_unless_refused (first_refusal_in_list (found.fault ∷ a ∷ b ∷ d ∷ [])) x →
     IsResultOfOperationChecks h (ops.Open bytes flags) (IsReadablePathWithContents h.tree h.files bytes) r tree
@@ -229,5 +229,5 @@ open_checked h bytes p flags found tree absent directory busy a b d x r has work
             few = second (list_any (λ w. same_path p w.path) (writers_of_open_files h.files)) (nat_le 16 (length (readers_of_open_files h.files))) free;
             apart = ap (λ q. list_any (λ w. same_path q w.path) (writers_of_open_files h.files)) (sym path) ∙ first (list_any (λ w. same_path p w.path) (writers_of_open_files h.files)) (nat_le 16 (length (readers_of_open_files h.files))) free;
           };
-          contents = subst (λ q. AreFileContentsAtPath h.tree.pairs q x) path (has (f.files ∙ is_a_file found.node there leaf));
+          contents = subst (λ q. IsInlineBytesOrSkipListOfFileAtPath h.tree.pairs q x) path (has (f.files ∙ is_a_file found.node there leaf));
         }

@@ -5,7 +5,7 @@ use Rattle.lfs_device.specs.declared.error.Error.{Error}
 use Rattle.lfs_model.specs.Blocks.{Blocks}
 use Rattle.lfs_model.specs.Disk.{Disk}
 use Rattle.lfs_model.specs.History.{DeviceCallEvent, IsTrueOfEachCall, AreBlocksLeftByNewestCall, IsReadThatKeepsBlocks, AreCallsSinceOnlyReads, read_count_of_call}
-use Rattle.lfs_model.specs.Conformance.{AreConformingDeviceCalls, IsConformingDeviceCall}
+use Rattle.lfs_model.specs.Conformance.{DoSuccessfulCallsHaveOnlyTheirEffect, HasOnlyItsEffectIfSuccessful}
 use Rattle.lfs_model.specs.Operations.{Operation}
 use Rattle.lfs_model.proofs.Conformance.{conforms_next}
 use Rattle.lfs_tree.specs.TreeState.{WasTreeOnlyRead, TreeState}
@@ -15,15 +15,15 @@ use Rattle.lfs_fs.proofs.Answered.{asked_by_checks, checked_ready}
 use Rattle.lfs_fs.specs.DeviceLaws.{HasSessionInvariant, IsDiskLeftByConformingDeviceCalls}
 
 -- of the device that is lent
-pub laws_met : {D : Type 0} (g : Ghosts D) (device : D) (t : TreeState) → g.blocks device ≡ t.disk.blocks → g.history device ≡ t.history → AreBlocksLeftByNewestCall (g.history device) (g.blocks device) → AreConformingDeviceCalls (g.history device) → IsDiskLeftByConformingDeviceCalls t
+pub laws_met : {D : Type 0} (g : Ghosts D) (device : D) (t : TreeState) → g.blocks device ≡ t.disk.blocks → g.history device ≡ t.history → AreBlocksLeftByNewestCall (g.history device) (g.blocks device) → DoSuccessfulCallsHaveOnlyTheirEffect (g.history device) → IsDiskLeftByConformingDeviceCalls t
 laws_met g device t blocks history newest conforms = record {
   newest = subst (λ (bs : Blocks). AreBlocksLeftByNewestCall t.history bs) blocks (subst (λ (h : List DeviceCallEvent). AreBlocksLeftByNewestCall h (g.blocks device)) history newest);
-  conforms = subst AreConformingDeviceCalls history conforms;
+  conforms = subst DoSuccessfulCallsHaveOnlyTheirEffect history conforms;
 }
 
 -- ---- behind reads
 
-conforming_reads : (blocks : Blocks) (e : DeviceCallEvent) → IsReadThatKeepsBlocks blocks e → IsConformingDeviceCall e
+conforming_reads : (blocks : Blocks) (e : DeviceCallEvent) → IsReadThatKeepsBlocks blocks e → HasOnlyItsEffectIfSuccessful e
 conforming_reads blocks e read = record {
   reads = λ b o n is ok. read.after ∙ sym read.before;
   programs = λ b o bytes is ok. absurd (let k = sym (ap read_count_of_call is) ∙ read.reads in cc);
@@ -38,14 +38,14 @@ left_by (e ∷ older) = e.after
 reported_later : (t new : TreeState) → IsDiskLeftByConformingDeviceCalls t → AreCallsSinceOnlyReads t.disk.blocks t.history new.history → new.disk ≡ t.disk → IsDiskLeftByConformingDeviceCalls new
 reported_later t new reported reads same = record {
   newest = subst (λ (d : Disk). AreBlocksLeftByNewestCall new.history d.blocks) (sym same) (subst (λ h. AreBlocksLeftByNewestCall h t.disk.blocks) (sym reads.extends) (newest_on reads.events reads.each));
-  conforms = subst AreConformingDeviceCalls (sym reads.extends) (conforming_on reads.events reads.each);
+  conforms = subst DoSuccessfulCallsHaveOnlyTheirEffect (sym reads.extends) (conforming_on reads.events reads.each);
 }
   where
     newest_on : (events : List DeviceCallEvent) → IsTrueOfEachCall (IsReadThatKeepsBlocks t.disk.blocks) events → AreBlocksLeftByNewestCall (events ++ t.history) t.disk.blocks
     newest_on [] each = reported.newest
     newest_on (e ∷ events) each = λ first older is. ap left_by (sym is) ∙ each.0.after
 
-    conforming_on : (events : List DeviceCallEvent) → IsTrueOfEachCall (IsReadThatKeepsBlocks t.disk.blocks) events → AreConformingDeviceCalls (events ++ t.history)
+    conforming_on : (events : List DeviceCallEvent) → IsTrueOfEachCall (IsReadThatKeepsBlocks t.disk.blocks) events → DoSuccessfulCallsHaveOnlyTheirEffect (events ++ t.history)
     conforming_on [] each = reported.conforms
     conforming_on (e ∷ events) each = conforms_next refl (conforming_reads t.disk.blocks e each.0) (conforming_on events each.1)
 

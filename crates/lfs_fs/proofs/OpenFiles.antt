@@ -22,7 +22,7 @@ use Rattle.lfs_model.specs.Operations.{path_of_bytes}
 use Rattle.lfs_model.specs.Disk.{block_count}
 use Rattle.lfs_model.specs.Session.{lacks_free_blocks}
 use Rattle.lfs_tree.specs.TreeState.{TreeState, WasTreeOnlyRead, disk_summary_of_tree}
-use Rattle.lfs_fs.specs.FileView.{RuntimeOpenFilesByNumber, prepended_if_some, open_files_selected_by, unsaved_or_tree_bytes_of_writer, open_file_at, open_file_view, open_files_view, least_free_file_number, has_unsaved_writer, is_open_at_matching_path, is_unsaved_writer, blocks_reserved_by_writers, blocks_reserved_by_writer, blocks_reserved_for_size, open_file_with_position, open_files_with_entry_at_number, open_file_as_reader, reader_view, readers_among, is_unsaved_nonsequential, open_file_as_writer, writer_view, writers_among, paths_of_writers}
+use Rattle.lfs_fs.specs.FileView.{RuntimeOpenFilesByNumber, prepended_if_some, open_files_selected_by, unsaved_or_tree_bytes_of_writer, open_file_at, open_file_view, open_files_view, lowest_free_number_of_runtime_files, has_unsaved_writer, is_open_at_matching_path, is_unsaved_writer, blocks_reserved_by_writers, blocks_reserved_by_writer, blocks_reserved_for_size, open_file_with_position, open_files_with_entry_at_number, reader_of_open_file_or_none, reader_view, readers_among, is_unsaved_nonsequential, writer_of_open_file_or_none, writer_view, writers_among, paths_of_writers}
 use Rattle.lfs_fs.specs.SessionView.{IsReaderOfCurrentContentsWithoutWriter, IsSessionReadyForCalls, AreOptionalUnsavedContentsOfWriter, IsWriterOverWritableImage}
 use Rattle.lfs_fs.specs.declared.files.OpenFile.{OpenFile}
 use Rattle.lfs_fs.specs.declared.files.OpenFile.TheVariants as file
@@ -44,12 +44,12 @@ pub is_there : (t : TreeState) (o : Option OpenFile) → is_some (option_map (op
 is_there t None = refl
 is_there t (Some x) = refl
 
-pub reader_is : (t : TreeState) (o : Option OpenFile) → reader_of_open_file (option_map (open_file_view t) o) ≡ option_map reader_view (open_file_as_reader o)
+pub reader_is : (t : TreeState) (o : Option OpenFile) → reader_of_open_file (option_map (open_file_view t) o) ≡ option_map reader_view (reader_of_open_file_or_none o)
 reader_is t None = refl
 reader_is t (Some (file.Reading r)) = refl
 reader_is t (Some (file.Writing w)) = refl
 
-pub writer_is : (t : TreeState) (o : Option OpenFile) → session.writer_of_open_file (option_map (open_file_view t) o) ≡ option_map (writer_view t) (open_file_as_writer o)
+pub writer_is : (t : TreeState) (o : Option OpenFile) → session.writer_of_open_file (option_map (open_file_view t) o) ≡ option_map (writer_view t) (writer_of_open_file_or_none o)
 writer_is t None = refl
 writer_is t (Some (file.Reading r)) = refl
 writer_is t (Some (file.Writing w)) = refl
@@ -110,26 +110,26 @@ held_is block_size t fs ready = held_each block_size 0 t (writers_among fs) read
 
 -- ---- numbers
 
-pub free_is : (t : TreeState) (fs : RuntimeOpenFilesByNumber) → least_free_file_number fs ≡ free_file_number (open_files_view t fs)
+pub free_is : (t : TreeState) (fs : RuntimeOpenFilesByNumber) → lowest_free_number_of_runtime_files fs ≡ free_file_number (open_files_view t fs)
 free_is t [] = refl
 free_is t (None ∷ fs) = refl
 free_is t (Some x ∷ fs) = ap (λ n. 1 + n) (free_is t fs)
 
-pub free_at_most : (fs : RuntimeOpenFilesByNumber) → least_free_file_number fs ≤ length fs
+pub free_at_most : (fs : RuntimeOpenFilesByNumber) → lowest_free_number_of_runtime_files fs ≤ length fs
 free_at_most [] = omega arith
 free_at_most (None ∷ fs) = omega arith
 free_at_most (Some x ∷ fs) = let k = free_at_most fs in omega (arith, k)
 
-free_is_few : (fs : RuntimeOpenFilesByNumber) → least_free_file_number fs ≤ length (readers_among fs) + length (writers_among fs)
+free_is_few : (fs : RuntimeOpenFilesByNumber) → lowest_free_number_of_runtime_files fs ≤ length (readers_among fs) + length (writers_among fs)
 free_is_few [] = omega arith
 free_is_few (None ∷ fs) = omega arith
 free_is_few (Some (file.Reading r) ∷ fs) = let k = free_is_few fs in omega (arith, k)
 free_is_few (Some (file.Writing w) ∷ fs) = let k = free_is_few fs in omega (arith, k)
 
-pub few_open : (fs : RuntimeOpenFilesByNumber) → length (readers_among fs) < 16 → length (writers_among fs) ≤ 1 → least_free_file_number fs < 17
+pub few_open : (fs : RuntimeOpenFilesByNumber) → length (readers_among fs) < 16 → length (writers_among fs) ≤ 1 → lowest_free_number_of_runtime_files fs < 17
 few_open fs few one = let k = free_is_few fs in omega (arith, k, few, one)
 
-pub few_with_none : (fs : RuntimeOpenFilesByNumber) → length (readers_among fs) ≤ 16 → writers_among fs ≡ [] → least_free_file_number fs < 17
+pub few_with_none : (fs : RuntimeOpenFilesByNumber) → length (readers_among fs) ≤ 16 → writers_among fs ≡ [] → lowest_free_number_of_runtime_files fs < 17
 few_with_none fs few none = let k = free_is_few fs in let l = ap (λ ws. length ws) none in omega (arith, k, few, l)
 
 -- ---- changes
@@ -168,14 +168,14 @@ moved_is t fs fd position e =
 one_more : (n : ℕ) → 1 + n ≡ suc n
 one_more n = omega arith
 
-pub writers_put : (fs : RuntimeOpenFilesByNumber) (r : Reader) → writers_among (open_files_with_entry_at_number fs (least_free_file_number fs) (Some (file.Reading r))) ≡ writers_among fs
-writers_put fs r = go (nat_lt (least_free_file_number fs) (length fs)) refl
+pub writers_put : (fs : RuntimeOpenFilesByNumber) (r : Reader) → writers_among (open_files_with_entry_at_number fs (lowest_free_number_of_runtime_files fs) (Some (file.Reading r))) ≡ writers_among fs
+writers_put fs r = go (nat_lt (lowest_free_number_of_runtime_files fs) (length fs)) refl
   where
-    set_free : (fs : RuntimeOpenFilesByNumber) → writers_among (set fs (least_free_file_number fs) (Some (file.Reading r))) ≡ writers_among fs
+    set_free : (fs : RuntimeOpenFilesByNumber) → writers_among (set fs (lowest_free_number_of_runtime_files fs) (Some (file.Reading r))) ≡ writers_among fs
     set_free [] = refl
     set_free (None ∷ fs) = refl
-    set_free (Some (file.Reading q) ∷ fs) = ap (λ n. writers_among (set (Some (file.Reading q) ∷ fs) n (Some (file.Reading r)))) (one_more (least_free_file_number fs)) ∙ set_free fs
-    set_free (Some (file.Writing w) ∷ fs) = ap (λ n. writers_among (set (Some (file.Writing w) ∷ fs) n (Some (file.Reading r)))) (one_more (least_free_file_number fs)) ∙ ap (λ ws. w ∷ ws) (set_free fs)
+    set_free (Some (file.Reading q) ∷ fs) = ap (λ n. writers_among (set (Some (file.Reading q) ∷ fs) n (Some (file.Reading r)))) (one_more (lowest_free_number_of_runtime_files fs)) ∙ set_free fs
+    set_free (Some (file.Writing w) ∷ fs) = ap (λ n. writers_among (set (Some (file.Writing w) ∷ fs) n (Some (file.Reading r)))) (one_more (lowest_free_number_of_runtime_files fs)) ∙ ap (λ ws. w ∷ ws) (set_free fs)
 
     behind : (fs : RuntimeOpenFilesByNumber) → writers_among (fs ++ Some (file.Reading r) ∷ []) ≡ writers_among fs
     behind [] = refl
@@ -183,7 +183,7 @@ writers_put fs r = go (nat_lt (least_free_file_number fs) (length fs)) refl
     behind (Some (file.Reading q) ∷ fs) = behind fs
     behind (Some (file.Writing w) ∷ fs) = ap (λ ws. w ∷ ws) (behind fs)
 
-    go : (b : Bool) → nat_lt (least_free_file_number fs) (length fs) ≡ b → writers_among (open_files_with_entry_at_number fs (least_free_file_number fs) (Some (file.Reading r))) ≡ writers_among fs
+    go : (b : Bool) → nat_lt (lowest_free_number_of_runtime_files fs) (length fs) ≡ b → writers_among (open_files_with_entry_at_number fs (lowest_free_number_of_runtime_files fs) (Some (file.Reading r))) ≡ writers_among fs
     go true e = rw e (set_free fs)
     go false e = rw e (behind fs)
 
@@ -309,11 +309,11 @@ pub less_moved : {A : Type 0} (kind : Option OpenFile → Option A) (position : 
 less_moved kind position None same = omega arith
 less_moved kind position (Some f) same = let k = same f in omega (arith, k)
 
-pub reader_moved : (position : ℕ) (f : OpenFile) → one_of (open_file_as_reader (Some (open_file_with_position position f))) ≡ one_of (open_file_as_reader (Some f))
+pub reader_moved : (position : ℕ) (f : OpenFile) → one_of (reader_of_open_file_or_none (Some (open_file_with_position position f))) ≡ one_of (reader_of_open_file_or_none (Some f))
 reader_moved position (file.Reading r) = refl
 reader_moved position (file.Writing w) = refl
 
-pub writer_moved : (position : ℕ) (f : OpenFile) → one_of (open_file_as_writer (Some (open_file_with_position position f))) ≡ one_of (open_file_as_writer (Some f))
+pub writer_moved : (position : ℕ) (f : OpenFile) → one_of (writer_of_open_file_or_none (Some (open_file_with_position position f))) ≡ one_of (writer_of_open_file_or_none (Some f))
 writer_moved position (file.Reading r) = refl
 writer_moved position (file.Writing w) = refl
 
@@ -335,7 +335,7 @@ none_left (x ∷ xs) h = absurd (omega (arith, h))
 no_such : (fs : RuntimeOpenFilesByNumber) (fd : ℕ) (w : Writer) → writers_among fs ≡ [] → open_file_at fs fd ≡ Some (file.Writing w) → ⊥
 no_such [] fd w none e = absurd (cc)
 no_such (None ∷ fs) zero w none e = absurd (cc)
-no_such (Some (file.Reading r) ∷ fs) zero w none e = absurd (let k = ap open_file_as_writer e in cc)
+no_such (Some (file.Reading r) ∷ fs) zero w none e = absurd (let k = ap writer_of_open_file_or_none e in cc)
 no_such (Some (file.Writing v) ∷ fs) zero w none e = absurd (cc)
 no_such (None ∷ fs) (suc fd) w none e = no_such fs fd w none e
 no_such (Some (file.Reading r) ∷ fs) (suc fd) w none e = no_such fs fd w none e
@@ -344,11 +344,11 @@ no_such (Some (file.Writing v) ∷ fs) (suc fd) w none e = absurd (cc)
 pub only : (fs : RuntimeOpenFilesByNumber) (fd : ℕ) (w : Writer) → open_file_at fs fd ≡ Some (file.Writing w) → length (writers_among fs) ≤ 1 → IsOnly fs fd w
 only [] fd w e few = absurd (cc)
 only (None ∷ fs) zero w e few = absurd (cc)
-only (Some (file.Reading r) ∷ fs) zero w e few = absurd (let k = ap open_file_as_writer e in cc)
+only (Some (file.Reading r) ∷ fs) zero w e few = absurd (let k = ap writer_of_open_file_or_none e in cc)
 only (Some (file.Writing v) ∷ fs) zero w e few =
     let none : writers_among fs ≡ [] = none_left (writers_among fs) (omega (arith, few)) in
     record {
-      writers = ap₂ (λ x xs. x ∷ xs) (same_Some v w (ap open_file_as_writer e)) none;
+      writers = ap₂ (λ x xs. x ∷ xs) (same_Some v w (ap writer_of_open_file_or_none e)) none;
       without = none;
       with_other = λ u. ap (λ xs. u ∷ xs) none;
     }
@@ -409,14 +409,14 @@ ready_closed t fs fd e h = record {
   read = read_closed t.pairs fs fd h.read;
 }
 
-pub ready_put : (t : TreeState) (fs : RuntimeOpenFilesByNumber) (r : Reader) → IsReaderOfCurrentContentsWithoutWriter t.pairs (paths_of_writers fs) r → IsSessionReadyForCalls t fs → IsSessionReadyForCalls t (open_files_with_entry_at_number fs (least_free_file_number fs) (Some (file.Reading r)))
+pub ready_put : (t : TreeState) (fs : RuntimeOpenFilesByNumber) (r : Reader) → IsReaderOfCurrentContentsWithoutWriter t.pairs (paths_of_writers fs) r → IsSessionReadyForCalls t fs → IsSessionReadyForCalls t (open_files_with_entry_at_number fs (lowest_free_number_of_runtime_files fs) (Some (file.Reading r)))
 ready_put t fs r k h = record {
   sound = h.sound;
   called = h.called;
   one = subst (λ ws. length ws ≤ 1) (sym (writers_put fs r)) h.one;
   idle = λ e. h.idle (sym (ap (list_any (λ w. is_some w.unsaved)) (writers_put fs r)) ∙ e);
   written = subst (AllByRecursion (IsWriterOverWritableImage t)) (sym (writers_put fs r)) h.written;
-  read = read_put t.pairs fs (least_free_file_number fs) r (ap (map (λ w. w.path)) (writers_put fs r)) k h.read;
+  read = read_put t.pairs fs (lowest_free_number_of_runtime_files fs) r (ap (map (λ w. w.path)) (writers_put fs r)) k h.read;
 }
 
 pub few_left : (t : TreeState) (fs : RuntimeOpenFilesByNumber) → nat_le 16 (length (readers_of_open_files (open_files_view t fs))) ≡ false → length (readers_among fs) < 16
@@ -439,13 +439,13 @@ busy_at t fs bytes p b is e =
 pub lacks_is : (t : TreeState) (fs : RuntimeOpenFilesByNumber) (need : ℕ) → IsSessionReadyForCalls t fs → nat_lt (block_count t.disk) (length (disk_summary_of_tree t).used + blocks_reserved_by_writers t.disk.block_size fs + need) ≡ lacks_free_blocks (disk_summary_of_tree t) (open_files_view t fs) need
 lacks_is t fs need ready = ap (λ h. nat_lt (block_count t.disk) (length (disk_summary_of_tree t).used + h + need)) (held_is t.disk.block_size t fs ready)
 
-pub some_reader : (t : TreeState) (fs : RuntimeOpenFilesByNumber) (fd : ℕ) (r : Reader) → Some r ≡ open_file_as_reader (open_file_at fs fd) → Some (reader_view r) ≡ reader_of_open_file (open_file_with_number (open_files_view t fs) fd)
+pub some_reader : (t : TreeState) (fs : RuntimeOpenFilesByNumber) (fd : ℕ) (r : Reader) → Some r ≡ reader_of_open_file_or_none (open_file_at fs fd) → Some (reader_view r) ≡ reader_of_open_file (open_file_with_number (open_files_view t fs) fd)
 some_reader t fs fd r e = ap (option_map reader_view) e ∙ sym (ap reader_of_open_file (file_is t fs fd) ∙ reader_is t (open_file_at fs fd))
 
-pub none_reader : (t : TreeState) (fs : RuntimeOpenFilesByNumber) (fd : ℕ) → None ≡ open_file_as_reader (open_file_at fs fd) → None ≡ reader_of_open_file (open_file_with_number (open_files_view t fs) fd)
+pub none_reader : (t : TreeState) (fs : RuntimeOpenFilesByNumber) (fd : ℕ) → None ≡ reader_of_open_file_or_none (open_file_at fs fd) → None ≡ reader_of_open_file (open_file_with_number (open_files_view t fs) fd)
 none_reader t fs fd e = ap (option_map reader_view) e ∙ sym (ap reader_of_open_file (file_is t fs fd) ∙ reader_is t (open_file_at fs fd))
 
-pub reader_there : (o : Option OpenFile) (r : Reader) → Some r ≡ open_file_as_reader o → is_some o ≡ true
+pub reader_there : (o : Option OpenFile) (r : Reader) → Some r ≡ reader_of_open_file_or_none o → is_some o ≡ true
 reader_there None r e = absurd (cc)
 reader_there (Some x) r e = refl
 

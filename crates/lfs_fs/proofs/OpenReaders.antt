@@ -13,12 +13,12 @@ use Rattle.lfs_model.specs.Thread.{Pair}
 use Rattle.lfs_model.specs.Tree.{Path, node_of_struct_and_attributes}
 use Rattle.lfs_model.specs.TreeEdits.{is_file, same_path}
 use Rattle.lfs_model.proofs.Paths.{path_from_same, path_itself}
-use Rattle.lfs_lookup.specs.FileContents.{AreFileContentsAtPath, AreContentsOfFileAtPathOrNone, struct_of_file_contents}
+use Rattle.lfs_lookup.specs.FileContents.{IsInlineBytesOrSkipListOfFileAtPath, AreContentsOfFileAtPathOrNone, struct_of_file_contents}
 use Rattle.lfs_lookup.specs.declared.file_contents.FileContents.{FileContents}
 use Rattle.lfs_lookup.specs.declared.file_contents.FileContents.TheVariants as contents
 use Rattle.lfs_tree.specs.KeptFiles.{KeepsStructsOfOtherFiles}
 use Rattle.lfs_tree.specs.TreeState.{IsOperationAppliedToTree, TreeState, kept_thread_of_tree_state, tree_view}
-use Rattle.lfs_fs.specs.FileView.{RuntimeOpenFilesByNumber, prepended_if_some, open_file_at, open_file_with_position, open_files_with_entry_at_number, open_file_as_reader, readers_among, writers_among, paths_of_writers}
+use Rattle.lfs_fs.specs.FileView.{RuntimeOpenFilesByNumber, prepended_if_some, open_file_at, open_file_with_position, open_files_with_entry_at_number, reader_of_open_file_or_none, readers_among, writers_among, paths_of_writers}
 use Rattle.lfs_fs.specs.SessionView.{AreReadersOfCurrentContentsWithoutWriter, IsReaderOfCurrentContentsWithoutWriter}
 use Rattle.lfs_fs.specs.declared.files.OpenFile.{OpenFile}
 use Rattle.lfs_fs.specs.declared.files.OpenFile.TheVariants as file
@@ -28,7 +28,7 @@ use Rattle.lfs_fs.specs.declared.files.Writer.{Writer}
 -- ---- contents
 
 -- a file is where contents are
-pub contents_are_file : (disk : Disk) (ps : List Pair) (path : Path) (c : FileContents) → AreFileContentsAtPath ps path c → is_file (tree_on_disk disk ps path) ≡ true
+pub contents_are_file : (disk : Disk) (ps : List Pair) (path : Path) (c : FileContents) → IsInlineBytesOrSkipListOfFileAtPath ps path c → is_file (tree_on_disk disk ps path) ≡ true
 contents_are_file disk ps path c h = go (slot_of_path ps path) h.struct
   where
     kind : (attributes : Attributes) (d : FileContents) → is_file (Some (node_of_struct_and_attributes (skip_list_bytes_on_disk disk) (entries_by_directory_in_thread ps) attributes (struct_of_file_contents d))) ≡ true
@@ -40,20 +40,20 @@ contents_are_file disk ps path c h = go (slot_of_path ps path) h.struct
     go (Some u) e = subst (λ s. is_file (Some (node_of_struct_and_attributes (skip_list_bytes_on_disk disk) (entries_by_directory_in_thread ps) u.attributes s)) ≡ true) (sym (same_Some u.struct (struct_of_file_contents c) e)) (kind u.attributes c)
 
 -- contents that are found are those of the file there
-pub found_contents : (t : TreeState) (path : Path) (o : Option FileContents) (x none : FileContents) → AreContentsOfFileAtPathOrNone (kept_thread_of_tree_state t) path o → x ≡ unwrap_or o none → is_file (tree_view t path) ≡ true → AreFileContentsAtPath t.pairs path x
+pub found_contents : (t : TreeState) (path : Path) (o : Option FileContents) (x none : FileContents) → AreContentsOfFileAtPathOrNone (kept_thread_of_tree_state t) path o → x ≡ unwrap_or o none → is_file (tree_view t path) ≡ true → IsInlineBytesOrSkipListOfFileAtPath t.pairs path x
 found_contents t path None x none found is there = absurd (let k = sym found ∙ there in cc)
-found_contents t path (Some c) x none found is there = subst (AreFileContentsAtPath t.pairs path) (sym is) found
+found_contents t path (Some c) x none found is there = subst (IsInlineBytesOrSkipListOfFileAtPath t.pairs path) (sym is) found
 
 -- ---- the readers of some open files
 
 module _ (P : Reader → Type 0) where
-  joined : (fs : RuntimeOpenFilesByNumber) (entry : Option OpenFile) → AllByRecursion P (prepended_if_some (open_file_as_reader entry) []) → AllByRecursion P (readers_among fs) → AllByRecursion P (readers_among (entry ∷ fs))
+  joined : (fs : RuntimeOpenFilesByNumber) (entry : Option OpenFile) → AllByRecursion P (prepended_if_some (reader_of_open_file_or_none entry) []) → AllByRecursion P (readers_among fs) → AllByRecursion P (readers_among (entry ∷ fs))
   joined fs None e h = h
   joined fs (Some (file.Reading r)) e h = (e.0, h)
   joined fs (Some (file.Writing w)) e h = h
 
   -- with another entry in a place
-  pub all_set : (fs : RuntimeOpenFilesByNumber) (fd : ℕ) (entry : Option OpenFile) → AllByRecursion P (prepended_if_some (open_file_as_reader entry) []) → AllByRecursion P (readers_among fs) → AllByRecursion P (readers_among (set fs fd entry))
+  pub all_set : (fs : RuntimeOpenFilesByNumber) (fd : ℕ) (entry : Option OpenFile) → AllByRecursion P (prepended_if_some (reader_of_open_file_or_none entry) []) → AllByRecursion P (readers_among fs) → AllByRecursion P (readers_among (set fs fd entry))
   all_set [] fd entry e h = h
   all_set (None ∷ fs) zero entry e h = joined fs entry e h
   all_set (Some (file.Reading r) ∷ fs) zero entry e h = joined fs entry e h.1
@@ -63,7 +63,7 @@ module _ (P : Reader → Type 0) where
   all_set (Some (file.Writing w) ∷ fs) (suc fd) entry e h = all_set fs fd entry e h
 
   -- with one more behind them
-  all_more : (fs : RuntimeOpenFilesByNumber) (entry : Option OpenFile) → AllByRecursion P (prepended_if_some (open_file_as_reader entry) []) → AllByRecursion P (readers_among fs) → AllByRecursion P (readers_among (fs ++ entry ∷ []))
+  all_more : (fs : RuntimeOpenFilesByNumber) (entry : Option OpenFile) → AllByRecursion P (prepended_if_some (reader_of_open_file_or_none entry) []) → AllByRecursion P (readers_among fs) → AllByRecursion P (readers_among (fs ++ entry ∷ []))
   all_more [] None e h = h
   all_more [] (Some (file.Reading r)) e h = e
   all_more [] (Some (file.Writing w)) e h = h
@@ -71,7 +71,7 @@ module _ (P : Reader → Type 0) where
   all_more (Some (file.Reading r) ∷ fs) entry e h = (h.0, all_more fs entry e h.1)
   all_more (Some (file.Writing w) ∷ fs) entry e h = all_more fs entry e h
 
-  pub all_put : (fs : RuntimeOpenFilesByNumber) (fd : ℕ) (entry : Option OpenFile) → AllByRecursion P (prepended_if_some (open_file_as_reader entry) []) → AllByRecursion P (readers_among fs) → AllByRecursion P (readers_among (open_files_with_entry_at_number fs fd entry))
+  pub all_put : (fs : RuntimeOpenFilesByNumber) (fd : ℕ) (entry : Option OpenFile) → AllByRecursion P (prepended_if_some (reader_of_open_file_or_none entry) []) → AllByRecursion P (readers_among fs) → AllByRecursion P (readers_among (open_files_with_entry_at_number fs fd entry))
   all_put fs fd entry e h = go (nat_lt fd (length fs))
     where
       go : (b : Bool) → AllByRecursion P (readers_among (cond b (set fs fd entry) (fs ++ entry ∷ [])))
@@ -79,7 +79,7 @@ module _ (P : Reader → Type 0) where
       go false = all_more fs entry e h
 
   -- the one of a number
-  pub one_of_all : (fs : RuntimeOpenFilesByNumber) (fd : ℕ) (r : Reader) → Some r ≡ open_file_as_reader (open_file_at fs fd) → AllByRecursion P (readers_among fs) → P r
+  pub one_of_all : (fs : RuntimeOpenFilesByNumber) (fd : ℕ) (r : Reader) → Some r ≡ reader_of_open_file_or_none (open_file_at fs fd) → AllByRecursion P (readers_among fs) → P r
   one_of_all [] fd r e h = absurd (cc)
   one_of_all (None ∷ fs) zero r e h = absurd (cc)
   one_of_all (Some (file.Reading q) ∷ fs) zero r e h = subst P (sym (same_Some r q e)) h.0
@@ -203,7 +203,7 @@ read_rewritten ps qs fs fd w v was now path same h =
     (all_set (IsReaderOfCurrentContentsWithoutWriter ps (paths_of_writers fs)) fs fd (Some (file.Writing v)) tt h))
 
 -- its contents were stored, and there is another entry in its place
-pub read_saved : (disk : Disk) (old new : List Pair) (fs : RuntimeOpenFilesByNumber) (fd : ℕ) (entry : Option OpenFile) (path : Path) (later : List Path) → open_file_as_reader entry ≡ None → paths_of_writers fs ≡ path ∷ [] → paths_of_writers (set fs fd entry) ≡ later
+pub read_saved : (disk : Disk) (old new : List Pair) (fs : RuntimeOpenFilesByNumber) (fd : ℕ) (entry : Option OpenFile) (path : Path) (later : List Path) → reader_of_open_file_or_none entry ≡ None → paths_of_writers fs ≡ path ∷ [] → paths_of_writers (set fs fd entry) ≡ later
     → KeepsStructsOfOtherFiles (tree_on_disk disk old) old path new → ((p : Path) → same_path p path ≡ false → list_any (same_path p) later ≡ false) → AreReadersOfCurrentContentsWithoutWriter old fs → AreReadersOfCurrentContentsWithoutWriter new (set fs fd entry)
 read_saved disk old new fs fd entry path later none was now keeps apart h =
     subst (λ written. AllByRecursion (IsReaderOfCurrentContentsWithoutWriter new written) (readers_among (set fs fd entry))) (sym now)

@@ -27,7 +27,7 @@ use Rattle.lfs_tree.specs.Permissions.{CanCreateFileAtPath}
 use Rattle.lfs_lookup.specs.Refusals.{refusal_of_error}
 use Rattle.lfs_tree.specs.TreeState.{WasTreeOnlyRead, IsFailedTree, IsOperationAppliedToTree, IsIoWithFaultOrNoMemory, IsSoundTreeState, TreeState, disk_summary_of_tree, tree_view}
 use Rattle.lfs_fs.specs.WriterChanges.{CanOpenWriter, IsOpenedWriterSeenAs}
-use Rattle.lfs_fs.specs.FileView.{RuntimeOpenFilesByNumber, open_file_at, open_files_view, least_free_file_number, has_unsaved_writer, open_files_with_entry_at_number, readers_among, open_file_as_writer, writer_view, writers_among}
+use Rattle.lfs_fs.specs.FileView.{RuntimeOpenFilesByNumber, open_file_at, open_files_view, lowest_free_number_of_runtime_files, has_unsaved_writer, open_files_with_entry_at_number, readers_among, writer_of_open_file_or_none, writer_view, writers_among}
 use Rattle.lfs_fs.specs.SessionView.{IsSessionStepOrFailure, AreReadersOfCurrentContentsWithoutWriter, SessionView, IsSessionReadyForCalls, IsWriterOverWritableImage, session_view_of_tree_and_files, session_view_of_tree_and_files_view, system_state_of_session_view, refusal_by_checks, session_of_session_view}
 use Rattle.lfs_fs.specs.Replies.{reply_from_result}
 use Rattle.lfs_fs.specs.OpenFilesStay.{KeepsFilesOfWriters}
@@ -198,25 +198,25 @@ one_more n = omega arith
 one_back : (n m : ℕ) → nat_lt (1 + n) (suc m) ≡ false → nat_lt n m ≡ false
 one_back n m e = grind (arith, nat_tests)
 
-set_behind : (fs : RuntimeOpenFilesByNumber) (x y : Option OpenFile) → nat_lt (least_free_file_number fs) (length fs) ≡ false → set (fs ++ x ∷ []) (least_free_file_number fs) y ≡ fs ++ y ∷ []
+set_behind : (fs : RuntimeOpenFilesByNumber) (x y : Option OpenFile) → nat_lt (lowest_free_number_of_runtime_files fs) (length fs) ≡ false → set (fs ++ x ∷ []) (lowest_free_number_of_runtime_files fs) y ≡ fs ++ y ∷ []
 set_behind [] x y e = refl
 set_behind (None ∷ fs) x y e = absurd (let k = sym (lt-ltb 0 (length (None ∷ fs)) (omega arith)) ∙ e in cc)
 set_behind (Some f ∷ fs) x y e =
-    ap (λ n. set (Some f ∷ fs ++ x ∷ []) n y) (one_more (least_free_file_number fs))
-    ∙ ap (λ gs. Some f ∷ gs) (set_behind fs x y (one_back (least_free_file_number fs) (length fs) e))
+    ap (λ n. set (Some f ∷ fs ++ x ∷ []) n y) (one_more (lowest_free_number_of_runtime_files fs))
+    ∙ ap (λ gs. Some f ∷ gs) (set_behind fs x y (one_back (lowest_free_number_of_runtime_files fs) (length fs) e))
 
-room_inside : (fs : RuntimeOpenFilesByNumber) → least_free_file_number fs < length (open_files_with_entry_at_number fs (least_free_file_number fs) None)
-room_inside fs = go (nat_lt (least_free_file_number fs) (length fs)) refl
+room_inside : (fs : RuntimeOpenFilesByNumber) → lowest_free_number_of_runtime_files fs < length (open_files_with_entry_at_number fs (lowest_free_number_of_runtime_files fs) None)
+room_inside fs = go (nat_lt (lowest_free_number_of_runtime_files fs) (length fs)) refl
   where
-    go : (b : Bool) → nat_lt (least_free_file_number fs) (length fs) ≡ b → least_free_file_number fs < length (open_files_with_entry_at_number fs (least_free_file_number fs) None)
-    go true e = rw e (let k = ltb-true (least_free_file_number fs) (length fs) e in let l = set_length fs (least_free_file_number fs) None in omega (arith, k, l))
+    go : (b : Bool) → nat_lt (lowest_free_number_of_runtime_files fs) (length fs) ≡ b → lowest_free_number_of_runtime_files fs < length (open_files_with_entry_at_number fs (lowest_free_number_of_runtime_files fs) None)
+    go true e = rw e (let k = ltb-true (lowest_free_number_of_runtime_files fs) (length fs) e in let l = set_length fs (lowest_free_number_of_runtime_files fs) None in omega (arith, k, l))
     go false e = rw e (let k = free_at_most fs in let l = behind_length fs None in omega (arith, k, l))
 
-room_filled : (fs : RuntimeOpenFilesByNumber) (y : Option OpenFile) → set (open_files_with_entry_at_number fs (least_free_file_number fs) None) (least_free_file_number fs) y ≡ open_files_with_entry_at_number fs (least_free_file_number fs) y
-room_filled fs y = go (nat_lt (least_free_file_number fs) (length fs)) refl
+room_filled : (fs : RuntimeOpenFilesByNumber) (y : Option OpenFile) → set (open_files_with_entry_at_number fs (lowest_free_number_of_runtime_files fs) None) (lowest_free_number_of_runtime_files fs) y ≡ open_files_with_entry_at_number fs (lowest_free_number_of_runtime_files fs) y
+room_filled fs y = go (nat_lt (lowest_free_number_of_runtime_files fs) (length fs)) refl
   where
-    go : (b : Bool) → nat_lt (least_free_file_number fs) (length fs) ≡ b → set (open_files_with_entry_at_number fs (least_free_file_number fs) None) (least_free_file_number fs) y ≡ open_files_with_entry_at_number fs (least_free_file_number fs) y
-    go true e = rw e (set_twice fs (least_free_file_number fs) None y)
+    go : (b : Bool) → nat_lt (lowest_free_number_of_runtime_files fs) (length fs) ≡ b → set (open_files_with_entry_at_number fs (lowest_free_number_of_runtime_files fs) None) (lowest_free_number_of_runtime_files fs) y ≡ open_files_with_entry_at_number fs (lowest_free_number_of_runtime_files fs) y
+    go true e = rw e (set_twice fs (lowest_free_number_of_runtime_files fs) None y)
     go false e = rw e (set_behind fs None y e)
 
 -- what there is once room is made
@@ -224,19 +224,19 @@ pub record HasRoomFor (fs gs : RuntimeOpenFilesByNumber) (n : ℕ) : Type 0 wher
   pub inside : n < length gs
   pub free : open_file_at gs n ≡ None
   pub none : writers_among gs ≡ []
-  pub filled : (w : Writer) → set gs n (Some (file.Writing w)) ≡ open_files_with_entry_at_number fs (least_free_file_number fs) (Some (file.Writing w))
-  pub alone : (w : Writer) → writers_among (open_files_with_entry_at_number fs (least_free_file_number fs) (Some (file.Writing w))) ≡ w ∷ []
+  pub filled : (w : Writer) → set gs n (Some (file.Writing w)) ≡ open_files_with_entry_at_number fs (lowest_free_number_of_runtime_files fs) (Some (file.Writing w))
+  pub alone : (w : Writer) → writers_among (open_files_with_entry_at_number fs (lowest_free_number_of_runtime_files fs) (Some (file.Writing w))) ≡ w ∷ []
 
-pub room_made : (fs gs : RuntimeOpenFilesByNumber) (n : ℕ) → writers_among fs ≡ [] → n ≡ least_free_file_number fs → gs ≡ open_files_with_entry_at_number fs (least_free_file_number fs) None → HasRoomFor fs gs n
+pub room_made : (fs gs : RuntimeOpenFilesByNumber) (n : ℕ) → writers_among fs ≡ [] → n ≡ lowest_free_number_of_runtime_files fs → gs ≡ open_files_with_entry_at_number fs (lowest_free_number_of_runtime_files fs) None → HasRoomFor fs gs n
 room_made fs gs n none number is =
-    subst (λ m. HasRoomFor fs gs m) (sym number) (subst (λ xs. HasRoomFor fs xs (least_free_file_number fs)) (sym is) (record {
+    subst (λ m. HasRoomFor fs gs m) (sym number) (subst (λ xs. HasRoomFor fs xs (lowest_free_number_of_runtime_files fs)) (sym is) (record {
       inside = room_inside fs;
-      free = sym (ap (λ xs. open_file_at xs (least_free_file_number fs)) (room_filled fs None)) ∙ set_there (open_files_with_entry_at_number fs (least_free_file_number fs) None) (least_free_file_number fs) None (room_inside fs);
-      none = nothing_left (writers_among (open_files_with_entry_at_number fs (least_free_file_number fs) None)) (let k = count_put open_file_as_writer fs (least_free_file_number fs) None in let l = ap (λ ws. length ws) none in omega (arith, k, l));
+      free = sym (ap (λ xs. open_file_at xs (lowest_free_number_of_runtime_files fs)) (room_filled fs None)) ∙ set_there (open_files_with_entry_at_number fs (lowest_free_number_of_runtime_files fs) None) (lowest_free_number_of_runtime_files fs) None (room_inside fs);
+      none = nothing_left (writers_among (open_files_with_entry_at_number fs (lowest_free_number_of_runtime_files fs) None)) (let k = count_put writer_of_open_file_or_none fs (lowest_free_number_of_runtime_files fs) None in let l = ap (λ ws. length ws) none in omega (arith, k, l));
       filled = λ w. room_filled fs (Some (file.Writing w));
-      alone = λ w. (only (open_files_with_entry_at_number fs (least_free_file_number fs) (Some (file.Writing w))) (least_free_file_number fs) w
-          (sym (ap (λ xs. open_file_at xs (least_free_file_number fs)) (room_filled fs (Some (file.Writing w)))) ∙ set_there (open_files_with_entry_at_number fs (least_free_file_number fs) None) (least_free_file_number fs) (Some (file.Writing w)) (room_inside fs))
-          (let k = count_put open_file_as_writer fs (least_free_file_number fs) (Some (file.Writing w)) in let l = ap (λ ws. length ws) none in omega (arith, k, l))).writers;
+      alone = λ w. (only (open_files_with_entry_at_number fs (lowest_free_number_of_runtime_files fs) (Some (file.Writing w))) (lowest_free_number_of_runtime_files fs) w
+          (sym (ap (λ xs. open_file_at xs (lowest_free_number_of_runtime_files fs)) (room_filled fs (Some (file.Writing w)))) ∙ set_there (open_files_with_entry_at_number fs (lowest_free_number_of_runtime_files fs) None) (lowest_free_number_of_runtime_files fs) (Some (file.Writing w)) (room_inside fs))
+          (let k = count_put writer_of_open_file_or_none fs (lowest_free_number_of_runtime_files fs) (Some (file.Writing w)) in let l = ap (λ ws. length ws) none in omega (arith, k, l))).writers;
     }))
 
 -- ---- the session once the writer is open
@@ -342,22 +342,22 @@ opened_new t mid new fs bytes flags w p ready asked e write is sizes carried beg
 
 -- ---- answers
 
-pub writer_ready : (t new : TreeState) (fs gs : RuntimeOpenFilesByNumber) (bytes : List ℕ) (flags : FlagsOfOpen) (w : Writer) → IsOpenedBy t fs bytes flags new w → writers_among fs ≡ [] → writers_among (open_files_with_entry_at_number fs (least_free_file_number fs) (Some (file.Writing w))) ≡ w ∷ [] →
-    gs ≡ open_files_with_entry_at_number fs (least_free_file_number fs) (Some (file.Writing w)) → IsSessionReadyForCalls new gs
+pub writer_ready : (t new : TreeState) (fs gs : RuntimeOpenFilesByNumber) (bytes : List ℕ) (flags : FlagsOfOpen) (w : Writer) → IsOpenedBy t fs bytes flags new w → writers_among fs ≡ [] → writers_among (open_files_with_entry_at_number fs (lowest_free_number_of_runtime_files fs) (Some (file.Writing w))) ≡ w ∷ [] →
+    gs ≡ open_files_with_entry_at_number fs (lowest_free_number_of_runtime_files fs) (Some (file.Writing w)) → IsSessionReadyForCalls new gs
 writer_ready t new fs gs bytes flags w opened none alone is =
     let path : path_of_bytes_or_root bytes ≡ w.path = sym (ap (λ (x : session.FileWriter). x.path) opened.begun.seen) in
     ready_with new fs gs w none (ap (λ xs. writers_among xs) is ∙ alone) opened.ready opened.begun.written
-    (subst (AreReadersOfCurrentContentsWithoutWriter new.pairs) (sym is) (read_opened new.pairs fs (least_free_file_number fs) w (ap (map (λ x. x.path)) alone) (subst (λ p. AllByRecursion (λ r. same_path p r.path ≡ false) (readers_among fs)) path opened.unread) opened.ready.read))
+    (subst (AreReadersOfCurrentContentsWithoutWriter new.pairs) (sym is) (read_opened new.pairs fs (lowest_free_number_of_runtime_files fs) w (ap (map (λ x. x.path)) alone) (subst (λ p. AllByRecursion (λ r. same_path p r.path ≡ false) (readers_among fs)) path opened.unread) opened.ready.read))
 
 pub writer_opened : (t new : TreeState) (fs gs : RuntimeOpenFilesByNumber) (now : SessionView) (bytes : List ℕ) (flags : FlagsOfOpen) (w : Writer) (n : ℕ) → session_view_of_tree_and_files t fs ≡ now → IsOpenedBy t fs bytes flags new w → flags.write ≡ true → writers_among fs ≡ [] →
-    n ≡ least_free_file_number fs → gs ≡ open_files_with_entry_at_number fs (least_free_file_number fs) (Some (file.Writing w)) → IsSessionStepOrFailure now (ops.Open bytes flags) (Ok (ops.Opened n)) (session_view_of_tree_and_files new gs)
+    n ≡ lowest_free_number_of_runtime_files fs → gs ≡ open_files_with_entry_at_number fs (lowest_free_number_of_runtime_files fs) (Some (file.Writing w)) → IsSessionStepOrFailure now (ops.Open bytes flags) (Ok (ops.Opened n)) (session_view_of_tree_and_files new gs)
 writer_opened t new fs gs now bytes flags w n same opened write none number is =
     subst (λ z. IsSessionStepOrFailure z (ops.Open bytes flags) (Ok (ops.Opened n)) (session_view_of_tree_and_files new gs)) same
     (subst (λ m. IsSessionStep (system_state_of_session_view (session_view_of_tree_and_files t fs)) (ops.Open bytes flags) (ops.Opened m) (system_state_of_session_view (session_view_of_tree_and_files new gs))) (sym (number ∙ free_is t fs))
     (opened.turn (open_files_view new gs) (sym brought)))
   where
     brought : open_files_view new gs ≡ open_files_with_file_at_number (open_files_view t fs) (free_file_number (open_files_view t fs)) (Some (if flags.write then Writing (writer_after_open (path_of_bytes_or_root bytes) flags (file_bytes_of_node (tree_view t (path_of_bytes_or_root bytes)))) else Reading (record { path = path_of_bytes_or_root bytes; position = 0 })))
-    brought = ap (open_files_view new) is ∙ put_is new fs (least_free_file_number fs) (Some (file.Writing w))
+    brought = ap (open_files_view new) is ∙ put_is new fs (lowest_free_number_of_runtime_files fs) (Some (file.Writing w))
         ∙ ap₂ (λ files m. open_files_with_file_at_number files m (Some (Writing (writer_view new w)))) (sym (kept_files t new fs (none_saved fs none) (keeps_none t new fs none))) (free_is t fs)
         ∙ ap (λ x. open_files_with_file_at_number (open_files_view t fs) (free_file_number (open_files_view t fs)) (Some (Writing x))) opened.begun.seen
         ∙ ap (λ b. open_files_with_file_at_number (open_files_view t fs) (free_file_number (open_files_view t fs)) (Some (if b then Writing (writer_after_open (path_of_bytes_or_root bytes) flags (file_bytes_of_node (tree_view t (path_of_bytes_or_root bytes)))) else Reading (record { path = path_of_bytes_or_root bytes; position = 0 })))) (sym write)

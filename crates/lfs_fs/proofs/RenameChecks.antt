@@ -14,7 +14,7 @@ use Rattle.lfs_model.specs.Refusals.{path_of_bytes_or_root, is_root_path}
 use Rattle.lfs_model.specs.Tree.{Path}
 use Rattle.lfs_tree.specs.Permissions.{CanRenamePath}
 use Rattle.lfs_lookup.specs.Finds.{IsFoundNodeAtPath, has_entry_beneath_path, is_absent_node, is_directory_node, is_file_node}
-use Rattle.lfs_tree.specs.RenamePaths.{AreRenameTargets, AreFindingsAtBothRenamePaths}
+use Rattle.lfs_tree.specs.RenamePaths.{AreLookupResultsAtBothRenamePaths, AreFindingsAtBothRenamePaths}
 use Rattle.lfs_tree.specs.TreeState.{TreeState, kept_thread_of_tree_state, disk_summary_of_tree, tree_view, WasTreeOnlyRead}
 use Rattle.lfs_lookup.specs.declared.found_entries.FoundNode.{FoundNode}
 use Rattle.lfs_tree.specs.declared.rename_paths.RenameFindings.{RenameFindings}
@@ -210,7 +210,7 @@ rename_can h old new from to tree idle asked e is are =
       room = can.room;
     })))
 
-pub renaming_is : (t tree : TreeState) (old new : List ℕ) (paths : RenamePaths) (x : PermittedRename) → PassesRenameChecksWithoutLookUp t old new paths → x.from ≡ paths.from → x.to ≡ paths.to → x.is_same ≡ paths.is_same → IfSome x.targets (AreRenameTargets (kept_thread_of_tree_state tree) x.from x.to) → (gstate_of_pairs tree.pairs ≡ zero_gstate → IsSome x.targets) → IsPermittedRenameOfPathBytes tree old new x
+pub renaming_is : (t tree : TreeState) (old new : List ℕ) (paths : RenamePaths) (x : PermittedRename) → PassesRenameChecksWithoutLookUp t old new paths → x.from ≡ paths.from → x.to ≡ paths.to → x.is_same ≡ paths.is_same → IfSome x.targets (AreLookupResultsAtBothRenamePaths (kept_thread_of_tree_state tree) x.from x.to) → (gstate_of_pairs tree.pairs ≡ zero_gstate → IsSome x.targets) → IsPermittedRenameOfPathBytes tree old new x
 renaming_is t tree old new paths x passes from to same targets handed_on = record {
   from = from ∙ sym (ap (λ o. unwrap_or o []) (is_entry old paths.from (sym passes.from)).0);
   to = to ∙ sym (ap (λ o. unwrap_or o []) (is_entry new paths.to (sym passes.to)).0);

@@ -22,7 +22,7 @@ use Rattle.lfs_model.proofs.StepsMade.{filled_step}
 use Rattle.lfs_tree.specs.OpenContents.{WritesOnlyUnusedBlocks}
 use Rattle.lfs_tree.specs.TreeState.{TreeState, disk_summary_of_tree, tree_view}
 use Rattle.lfs_fs.specs.WriterChanges.{CanTruncateByWriter, IsChangedWriterSeenAs}
-use Rattle.lfs_fs.specs.FileView.{RuntimeOpenFilesByNumber, unsaved_or_tree_bytes_of_writer, open_file_at, open_file_view, open_files_view, reader_view, open_file_as_writer, writer_view, writers_among}
+use Rattle.lfs_fs.specs.FileView.{RuntimeOpenFilesByNumber, unsaved_or_tree_bytes_of_writer, open_file_at, open_file_view, open_files_view, reader_view, writer_of_open_file_or_none, writer_view, writers_among}
 use Rattle.lfs_fs.specs.SessionView.{IsSessionStepOrFailure, SessionView, IsSessionReadyForCalls, IsWriterOverWritableImage, session_view_of_tree_and_files, system_state_of_session_view, refusal_by_checks, session_of_session_view}
 use Rattle.lfs_fs.specs.declared.files.OpenFile.{OpenFile}
 use Rattle.lfs_fs.specs.declared.files.OpenFile.TheVariants as file
@@ -38,8 +38,8 @@ use Rattle.lfs_fs.proofs.OpenReaders.{read_rewritten}
 -- ---- what no check refuses
 
 module _ (t : TreeState) (fs : RuntimeOpenFilesByNumber) (fd size : ℕ) (w : Writer) (e : open_file_at fs fd ≡ Some (file.Writing w)) (accepted : refusal_by_checks (session_view_of_tree_and_files t fs) (ops.Truncate fd size) ≡ None) where
-  pub is_writer : Some w ≡ open_file_as_writer (open_file_at fs fd)
-  is_writer = sym (ap open_file_as_writer e)
+  pub is_writer : Some w ≡ writer_of_open_file_or_none (open_file_at fs fd)
+  is_writer = sym (ap writer_of_open_file_or_none e)
 
   pub works_now : t.failed ≡ false
   works_now = not_failed (session_view_of_tree_and_files t fs) (ops.Truncate fd size) accepted
@@ -98,11 +98,11 @@ same_size t fs fd size now w same ready accepted e is =
     (ap (λ f. (ops.Done, record { tree = tree_view t; files = f })) stays))
   where
     long : (size == length (unsaved_or_tree_bytes_of_writer t w.path w.unsaved)) ≡ true
-    long = ap (λ n. size == n) (written_at t fs fd w (ready (not_failed (session_view_of_tree_and_files t fs) (ops.Truncate fd size) accepted)).written (sym (ap open_file_as_writer e))).size ∙ is
+    long = ap (λ n. size == n) (written_at t fs fd w (ready (not_failed (session_view_of_tree_and_files t fs) (ops.Truncate fd size) accepted)).written (sym (ap writer_of_open_file_or_none e))).size ∙ is
 
     stays : open_files_with_file_at_number (open_files_view t fs) fd (option_map (λ v. Writing (writer_after_truncate v size)) (writer_of_open_file (open_file_with_number (open_files_view t fs) fd))) ≡ open_files_view t fs
     stays =
-        ap (λ o. open_files_with_file_at_number (open_files_view t fs) fd (option_map (λ v. Writing (writer_after_truncate v size)) o)) (the_writer t fs fd (Some w) (sym (ap open_file_as_writer e)))
+        ap (λ o. open_files_with_file_at_number (open_files_view t fs) fd (option_map (λ v. Writing (writer_after_truncate v size)) o)) (the_writer t fs fd (Some w) (sym (ap writer_of_open_file_or_none e)))
         ∙ ap (λ v. open_files_with_file_at_number (open_files_view t fs) fd (Some (Writing v))) (unchanged (writer_view t w) size long)
         ∙ sym (set_is t fs fd (Some (file.Writing w)) (ap is_some e)) ∙ ap (open_files_view t) (set_same fs fd (file.Writing w) e)
 
@@ -142,7 +142,7 @@ inside_put t fs fd x e = ap (λ b. cond b (set (open_files_view t fs) fd (Some x
 
 -- another size is to be made
 pub other_needed : (t : TreeState) (fs : RuntimeOpenFilesByNumber) (fd size : ℕ) (w : Writer) → open_file_at fs fd ≡ Some (file.Writing w) → IsWriterOverWritableImage t w → (size == w.size) ≡ false → needs_no_device_or_memory (session_of_session_view (session_view_of_tree_and_files t fs)) (ops.Truncate fd size) ≡ false
-other_needed t fs fd size w e written other = ap (λ o. writer_has_size o size) (the_writer t fs fd (Some w) (sym (ap open_file_as_writer e))) ∙ ap (λ n. size == n) written.size ∙ other
+other_needed t fs fd size w e written other = ap (λ o. writer_has_size o size) (the_writer t fs fd (Some w) (sym (ap writer_of_open_file_or_none e))) ∙ ap (λ n. size == n) written.size ∙ other
 
 pub other_size : (t new : TreeState) (fs : RuntimeOpenFilesByNumber) (fd size : ℕ) (now : SessionView) (w v : Writer) → session_view_of_tree_and_files t fs ≡ now → (t.failed ≡ false → IsSessionReadyForCalls t fs) → refusal_by_checks (session_view_of_tree_and_files t fs) (ops.Truncate fd size) ≡ None → open_file_at fs fd ≡ Some (file.Writing w) → (size == w.size) ≡ false →
     IsChangedWriterSeenAs new (writer_after_truncate (writer_view t w) size) v → WritesOnlyUnusedBlocks t new → IsSessionStep (system_state_of_session_view now) (ops.Truncate fd size) ops.Done (system_state_of_session_view (session_view_of_tree_and_files new (set fs fd (Some (file.Writing v)))))
@@ -150,7 +150,7 @@ other_size t new fs fd size now w v same ready accepted e other made b =
     subst (λ z. IsSessionStep (system_state_of_session_view z) op ops.Done (system_state_of_session_view (session_view_of_tree_and_files new later))) same
     (subst (λ m. IsSessionStep m op ops.Done (system_state_of_session_view (session_view_of_tree_and_files new later))) (sym (healthy_system (session_view_of_tree_and_files t fs) works))
     (subst (λ m. IsSessionStep (record { disk = t.disk; calls = t.history; state = Healthy (session_of_session_view (session_view_of_tree_and_files t fs)) }) op ops.Done m) (sym to)
-    (filled_step t.disk t.pairs (session_of_session_view (session_view_of_tree_and_files t fs)) (disk_summary_of_tree t) op new.disk new.pairs b.calls t.history (is_over t (open_files_view t fs) (ready works).sound) (not_refused (session_view_of_tree_and_files t fs) op accepted) refl (other_needed t fs fd size w e (written_at t fs fd w (ready works).written (sym (ap open_file_as_writer e))) other) b.geometry
+    (filled_step t.disk t.pairs (session_of_session_view (session_view_of_tree_and_files t fs)) (disk_summary_of_tree t) op new.disk new.pairs b.calls t.history (is_over t (open_files_view t fs) (ready works).sound) (not_refused (session_view_of_tree_and_files t fs) op accepted) refl (other_needed t fs fd size w e (written_at t fs fd w (ready works).written (sym (ap writer_of_open_file_or_none e))) other) b.geometry
     b.sound.accepted b.pairs (ap₂ (λ (z : Tree) (a : DiskSummary). let k : DiskView = record { tree = z; gstate = a.gstate; used = a.used } in k) b.shows b.around) (recovered_from new.disk new.pairs b.sound.accepted made.written.settled)
     (λ h. b.sound.fits made.written.writable))))
   where
@@ -167,7 +167,7 @@ other_size t new fs fd size now w v same ready accepted e other made b =
     files =
         other_tree t new fs fd w v (only fs fd w e (ready works).one) ∙ ap (λ x. set (open_files_view t fs) fd (Some (Writing x))) made.seen
         ∙ sym (inside_put t fs fd (Writing (writer_after_truncate (writer_view t w) size)) (ap is_some e))
-        ∙ sym (ap (λ o. open_files_with_file_at_number (open_files_view t fs) fd (option_map (λ u. Writing (writer_after_truncate u size)) o)) (the_writer t fs fd (Some w) (sym (ap open_file_as_writer e))))
+        ∙ sym (ap (λ o. open_files_with_file_at_number (open_files_view t fs) fd (option_map (λ u. Writing (writer_after_truncate u size)) o)) (the_writer t fs fd (Some w) (sym (ap writer_of_open_file_or_none e))))
 
     to : system_state_of_session_view (session_view_of_tree_and_files new later) ≡ record { disk = new.disk; calls = b.calls ++ t.history; state = Healthy (effect_of_operation (disk_summary_of_tree t) (session_of_session_view (session_view_of_tree_and_files t fs)) op).1 }
     to = healthy_system (session_view_of_tree_and_files new later) b.works ∙ ap₂ (λ calls (s : Session). record { disk = new.disk; calls = calls; state = Healthy s }) b.called (ap₂ (λ z f. record { tree = z; files = f }) b.shows files)
@@ -195,10 +195,10 @@ length_left fs fd e = let k = inside_is fs fd e in let l = length-set fs fd None
 pub put_again : (fs gs hs : RuntimeOpenFilesByNumber) (fd : ℕ) (v : Writer) → gs ≡ set fs fd None → hs ≡ set gs fd (Some (file.Writing v)) → hs ≡ set fs fd (Some (file.Writing v))
 put_again fs gs hs fd v e f = f ∙ ap (λ xs. set xs fd (Some (file.Writing v))) e ∙ set_twice fs fd None (Some (file.Writing v))
 
-pub some_writer : (fs : RuntimeOpenFilesByNumber) (fd : ℕ) → is_some (open_file_as_writer (open_file_at fs fd)) ≡ true → (w : Writer) × (open_file_at fs fd ≡ Some (file.Writing w))
+pub some_writer : (fs : RuntimeOpenFilesByNumber) (fd : ℕ) → is_some (writer_of_open_file_or_none (open_file_at fs fd)) ≡ true → (w : Writer) × (open_file_at fs fd ≡ Some (file.Writing w))
 some_writer fs fd h = go (open_file_at fs fd) h
   where
-    go : (o : Option OpenFile) → is_some (open_file_as_writer o) ≡ true → (w : Writer) × (o ≡ Some (file.Writing w))
+    go : (o : Option OpenFile) → is_some (writer_of_open_file_or_none o) ≡ true → (w : Writer) × (o ≡ Some (file.Writing w))
     go None k = absurd (cc)
     go (Some (file.Reading r)) k = absurd (cc)
     go (Some (file.Writing w)) k = (w, refl)

@@ -11,7 +11,7 @@ use Rattle.lfs_model.specs.Session as session
 use Rattle.lfs_model.specs.Writers.{writer_after_truncate, writer_after_write, contents_after_write, bytes_padded_with_zeros, is_nonsequential_write, write_position}
 use Rattle.lfs_model.specs.Session.{open_file_with_number, first_refusal_in_list, overfills_disk, refuse_if, writer_of_open_file}
 use Rattle.lfs_tree.specs.TreeState.{TreeState, disk_summary_of_tree}
-use Rattle.lfs_fs.specs.FileView.{RuntimeOpenFilesByNumber, unsaved_or_tree_bytes_of_writer, last_change_end_of_unsaved, open_file_at, open_files_view, blocks_reserved_for_size, is_unsaved_nonsequential, open_file_as_writer, writer_view, writers_among}
+use Rattle.lfs_fs.specs.FileView.{RuntimeOpenFilesByNumber, unsaved_or_tree_bytes_of_writer, last_change_end_of_unsaved, open_file_at, open_files_view, blocks_reserved_for_size, is_unsaved_nonsequential, writer_of_open_file_or_none, writer_view, writers_among}
 use Rattle.lfs_fs.specs.SessionView.{IsWriterOverWritableImage, session_view_of_tree_and_files, refusal_by_checks}
 use Rattle.lfs_fs.specs.declared.files.OpenFile.{OpenFile}
 use Rattle.lfs_fs.specs.declared.files.OpenFile.TheVariants as file
@@ -21,21 +21,21 @@ use Rattle.lfs_fs.proofs.Writing.{after_truncate_is, after_write_is, length-cut,
 
 -- ---- the writer of a number
 
-pub the_writer : (t : TreeState) (fs : RuntimeOpenFilesByNumber) (fd : ℕ) (o : Option Writer) → o ≡ open_file_as_writer (open_file_at fs fd) → writer_of_open_file (open_file_with_number (open_files_view t fs) fd) ≡ option_map (writer_view t) o
+pub the_writer : (t : TreeState) (fs : RuntimeOpenFilesByNumber) (fd : ℕ) (o : Option Writer) → o ≡ writer_of_open_file_or_none (open_file_at fs fd) → writer_of_open_file (open_file_with_number (open_files_view t fs) fd) ≡ option_map (writer_view t) o
 the_writer t fs fd o e = ap writer_of_open_file (file_is t fs fd) ∙ writer_is t (open_file_at fs fd) ∙ ap (option_map (writer_view t)) (sym e)
 
-pub writer_there : (fs : RuntimeOpenFilesByNumber) (fd : ℕ) (w : Writer) → Some w ≡ open_file_as_writer (open_file_at fs fd) → is_some (open_file_as_writer (open_file_at fs fd)) ≡ true
+pub writer_there : (fs : RuntimeOpenFilesByNumber) (fd : ℕ) (w : Writer) → Some w ≡ writer_of_open_file_or_none (open_file_at fs fd) → is_some (writer_of_open_file_or_none (open_file_at fs fd)) ≡ true
 writer_there fs fd w e = ap is_some (sym e)
 
-pub entry_is : (fs : RuntimeOpenFilesByNumber) (fd : ℕ) (w : Writer) → Some w ≡ open_file_as_writer (open_file_at fs fd) → open_file_at fs fd ≡ Some (file.Writing w)
+pub entry_is : (fs : RuntimeOpenFilesByNumber) (fd : ℕ) (w : Writer) → Some w ≡ writer_of_open_file_or_none (open_file_at fs fd) → open_file_at fs fd ≡ Some (file.Writing w)
 entry_is fs fd w e = go (open_file_at fs fd) e
   where
-    go : (o : Option OpenFile) → Some w ≡ open_file_as_writer o → o ≡ Some (file.Writing w)
+    go : (o : Option OpenFile) → Some w ≡ writer_of_open_file_or_none o → o ≡ Some (file.Writing w)
     go None k = absurd (cc)
     go (Some (file.Reading r)) k = absurd (cc)
     go (Some (file.Writing v)) k = ap (option_map file.Writing) (sym k)
 
-pub written_at : (t : TreeState) (fs : RuntimeOpenFilesByNumber) (fd : ℕ) (w : Writer) → AllByRecursion (IsWriterOverWritableImage t) (writers_among fs) → Some w ≡ open_file_as_writer (open_file_at fs fd) → IsWriterOverWritableImage t w
+pub written_at : (t : TreeState) (fs : RuntimeOpenFilesByNumber) (fd : ℕ) (w : Writer) → AllByRecursion (IsWriterOverWritableImage t) (writers_among fs) → Some w ≡ writer_of_open_file_or_none (open_file_at fs fd) → IsWriterOverWritableImage t w
 written_at t [] fd w h e = absurd (cc)
 written_at t (None ∷ fs) zero w h e = absurd (cc)
 written_at t (Some (file.Reading r) ∷ fs) zero w h e = absurd (cc)
@@ -51,15 +51,15 @@ write_refused : (t : TreeState) (fs : RuntimeOpenFilesByNumber) (fd : ℕ) (byte
     refusal_by_checks (session_view_of_tree_and_files t fs) (ops.Write fd bytes) ≡ first_refusal_in_list (refuse_if x ops.TooBig ∷ refuse_if y ops.NoSpace ∷ [])
 write_refused t fs fd bytes w x y works is big full = rw (sym works, is, big, full) refl
 
-pub write_no_writer : (t : TreeState) (fs : RuntimeOpenFilesByNumber) (fd : ℕ) (bytes : List ℕ) → false ≡ t.failed → None ≡ open_file_as_writer (open_file_at fs fd) → refusal_by_checks (session_view_of_tree_and_files t fs) (ops.Write fd bytes) ≡ Some ops.BadFile
+pub write_no_writer : (t : TreeState) (fs : RuntimeOpenFilesByNumber) (fd : ℕ) (bytes : List ℕ) → false ≡ t.failed → None ≡ writer_of_open_file_or_none (open_file_at fs fd) → refusal_by_checks (session_view_of_tree_and_files t fs) (ops.Write fd bytes) ≡ Some ops.BadFile
 write_no_writer t fs fd bytes works none = rw (sym works, the_writer t fs fd None none) refl
 
-pub write_nothing : (t : TreeState) (fs : RuntimeOpenFilesByNumber) (fd : ℕ) (bytes : List ℕ) (w : Writer) → false ≡ t.failed → Some w ≡ open_file_as_writer (open_file_at fs fd) → nat_lt 0 (length bytes) ≡ false → refusal_by_checks (session_view_of_tree_and_files t fs) (ops.Write fd bytes) ≡ None
+pub write_nothing : (t : TreeState) (fs : RuntimeOpenFilesByNumber) (fd : ℕ) (bytes : List ℕ) (w : Writer) → false ≡ t.failed → Some w ≡ writer_of_open_file_or_none (open_file_at fs fd) → nat_lt 0 (length bytes) ≡ false → refusal_by_checks (session_view_of_tree_and_files t fs) (ops.Write fd bytes) ≡ None
 write_nothing t fs fd bytes w works is none =
     write_refused t fs fd bytes (writer_view t w) false false works (the_writer t fs fd (Some w) is)
     (ap (λ b. b && nat_lt file_size_limit (write_position (writer_view t w) + length bytes)) none) (ap (λ b. b && overfills_disk (disk_summary_of_tree t) (writer_after_write (writer_view t w) bytes)) none)
 
-pub write_too_big : (t : TreeState) (fs : RuntimeOpenFilesByNumber) (fd : ℕ) (bytes : List ℕ) (w : Writer) (place : ℕ) → false ≡ t.failed → IsWriterOverWritableImage t w → Some w ≡ open_file_as_writer (open_file_at fs fd) → nat_lt 0 (length bytes) ≡ true →
+pub write_too_big : (t : TreeState) (fs : RuntimeOpenFilesByNumber) (fd : ℕ) (bytes : List ℕ) (w : Writer) (place : ℕ) → false ≡ t.failed → IsWriterOverWritableImage t w → Some w ≡ writer_of_open_file_or_none (open_file_at fs fd) → nat_lt 0 (length bytes) ≡ true →
     place ≡ (if w.appends then w.size else w.position) → nat_lt file_size_limit (place + length bytes) ≡ true → refusal_by_checks (session_view_of_tree_and_files t fs) (ops.Write fd bytes) ≡ Some ops.TooBig
 write_too_big t fs fd bytes w place works written is some at big =
     write_refused t fs fd bytes (writer_view t w) true _ works (the_writer t fs fd (Some w) is)
@@ -70,7 +70,7 @@ overfills_is : (t : TreeState) (w v : session.FileWriter) (turned : Bool) (size 
     overfills_disk (disk_summary_of_tree t) v ≡ nat_lt (block_count t.disk) (length (disk_summary_of_tree t).used + blocks_reserved_for_size t.disk.block_size turned size)
 overfills_is t w v turned size dirty is_nonsequential_write long = rw (dirty, is_nonsequential_write, long) refl
 
-pub write_fits : (t : TreeState) (fs : RuntimeOpenFilesByNumber) (fd : ℕ) (bytes : List ℕ) (w : Writer) (place begin size : ℕ) (turned full : Bool) → false ≡ t.failed → IsWriterOverWritableImage t w → Some w ≡ open_file_as_writer (open_file_at fs fd) → nat_lt 0 (length bytes) ≡ true → 1 ≤ length bytes →
+pub write_fits : (t : TreeState) (fs : RuntimeOpenFilesByNumber) (fd : ℕ) (bytes : List ℕ) (w : Writer) (place begin size : ℕ) (turned full : Bool) → false ≡ t.failed → IsWriterOverWritableImage t w → Some w ≡ writer_of_open_file_or_none (open_file_at fs fd) → nat_lt 0 (length bytes) ≡ true → 1 ≤ length bytes →
     place ≡ (if w.appends then w.size else w.position) → nat_lt file_size_limit (place + length bytes) ≡ false → begin ≡ min place w.size → turned ≡ (is_unsaved_nonsequential w.unsaved || is_nonsequential_write (last_change_end_of_unsaved w.unsaved) begin) → size ≡ max w.size (place + length bytes) →
     full ≡ nat_lt (block_count t.disk) (length (disk_summary_of_tree t).used + blocks_reserved_for_size t.disk.block_size turned size) → refusal_by_checks (session_view_of_tree_and_files t fs) (ops.Write fd bytes) ≡ refuse_if full ops.NoSpace
 write_fits t fs fd bytes w place begin size turned full works written is some one at small begin_is turned_is size_is full_is =
@@ -108,18 +108,18 @@ truncate_refused : (t : TreeState) (fs : RuntimeOpenFilesByNumber) (fd size : �
     refusal_by_checks (session_view_of_tree_and_files t fs) (ops.Truncate fd size) ≡ first_refusal_in_list (refuse_if x ops.TooBig ∷ refuse_if y ops.NoSpace ∷ [])
 truncate_refused t fs fd size w x y works is big full = rw (sym works, is, big, full) refl
 
-pub truncate_no_writer : (t : TreeState) (fs : RuntimeOpenFilesByNumber) (fd size : ℕ) → false ≡ t.failed → None ≡ open_file_as_writer (open_file_at fs fd) → refusal_by_checks (session_view_of_tree_and_files t fs) (ops.Truncate fd size) ≡ Some ops.BadFile
+pub truncate_no_writer : (t : TreeState) (fs : RuntimeOpenFilesByNumber) (fd size : ℕ) → false ≡ t.failed → None ≡ writer_of_open_file_or_none (open_file_at fs fd) → refusal_by_checks (session_view_of_tree_and_files t fs) (ops.Truncate fd size) ≡ Some ops.BadFile
 truncate_no_writer t fs fd size works none = rw (sym works, the_writer t fs fd None none) refl
 
-pub truncate_too_big : (t : TreeState) (fs : RuntimeOpenFilesByNumber) (fd size : ℕ) (w : Writer) → false ≡ t.failed → Some w ≡ open_file_as_writer (open_file_at fs fd) → nat_lt file_size_limit size ≡ true → refusal_by_checks (session_view_of_tree_and_files t fs) (ops.Truncate fd size) ≡ Some ops.TooBig
+pub truncate_too_big : (t : TreeState) (fs : RuntimeOpenFilesByNumber) (fd size : ℕ) (w : Writer) → false ≡ t.failed → Some w ≡ writer_of_open_file_or_none (open_file_at fs fd) → nat_lt file_size_limit size ≡ true → refusal_by_checks (session_view_of_tree_and_files t fs) (ops.Truncate fd size) ≡ Some ops.TooBig
 truncate_too_big t fs fd size w works is big = truncate_refused t fs fd size (writer_view t w) true _ works (the_writer t fs fd (Some w) is) big refl
 
-pub truncate_same : (t : TreeState) (fs : RuntimeOpenFilesByNumber) (fd size : ℕ) (w : Writer) → false ≡ t.failed → IsWriterOverWritableImage t w → Some w ≡ open_file_as_writer (open_file_at fs fd) → nat_lt file_size_limit size ≡ false → size ≡ w.size → refusal_by_checks (session_view_of_tree_and_files t fs) (ops.Truncate fd size) ≡ None
+pub truncate_same : (t : TreeState) (fs : RuntimeOpenFilesByNumber) (fd size : ℕ) (w : Writer) → false ≡ t.failed → IsWriterOverWritableImage t w → Some w ≡ writer_of_open_file_or_none (open_file_at fs fd) → nat_lt file_size_limit size ≡ false → size ≡ w.size → refusal_by_checks (session_view_of_tree_and_files t fs) (ops.Truncate fd size) ≡ None
 truncate_same t fs fd size w works written is small same =
     truncate_refused t fs fd size (writer_view t w) false false works (the_writer t fs fd (Some w) is) small
     (ap (λ b. not b && overfills_disk (disk_summary_of_tree t) (writer_after_truncate (writer_view t w) size)) (eq-eqb size (length (unsaved_or_tree_bytes_of_writer t w.path w.unsaved)) (same ∙ sym written.size)))
 
-pub truncate_fits : (t : TreeState) (fs : RuntimeOpenFilesByNumber) (fd size : ℕ) (w : Writer) (turned full : Bool) → false ≡ t.failed → IsWriterOverWritableImage t w → Some w ≡ open_file_as_writer (open_file_at fs fd) → nat_lt file_size_limit size ≡ false → (size ≡ w.size → ⊥) →
+pub truncate_fits : (t : TreeState) (fs : RuntimeOpenFilesByNumber) (fd size : ℕ) (w : Writer) (turned full : Bool) → false ≡ t.failed → IsWriterOverWritableImage t w → Some w ≡ writer_of_open_file_or_none (open_file_at fs fd) → nat_lt file_size_limit size ≡ false → (size ≡ w.size → ⊥) →
     turned ≡ (is_unsaved_nonsequential w.unsaved || is_some (last_change_end_of_unsaved w.unsaved)) → full ≡ nat_lt (block_count t.disk) (length (disk_summary_of_tree t).used + blocks_reserved_for_size t.disk.block_size turned size) →
     refusal_by_checks (session_view_of_tree_and_files t fs) (ops.Truncate fd size) ≡ refuse_if full ops.NoSpace
 truncate_fits t fs fd size w turned full works written is small other turned_is full_is =

@@ -20,7 +20,7 @@ use Rattle.lfs_model.proofs.StepsMade.{filled_step}
 use Rattle.lfs_tree.specs.OpenContents.{WritesOnlyUnusedBlocks}
 use Rattle.lfs_tree.specs.TreeState.{TreeState, disk_summary_of_tree, tree_view}
 use Rattle.lfs_fs.specs.WriterChanges.{CanWriteByWriter, IsChangedWriterSeenAs}
-use Rattle.lfs_fs.specs.FileView.{RuntimeOpenFilesByNumber, open_file_at, open_files_view, open_file_as_writer, writer_view}
+use Rattle.lfs_fs.specs.FileView.{RuntimeOpenFilesByNumber, open_file_at, open_files_view, writer_of_open_file_or_none, writer_view}
 use Rattle.lfs_fs.specs.SessionView.{IsSessionStepOrFailure, SessionView, IsSessionReadyForCalls, session_view_of_tree_and_files, system_state_of_session_view, refusal_by_checks, session_of_session_view}
 use Rattle.lfs_fs.specs.declared.files.OpenFile.TheVariants as file
 use Rattle.lfs_fs.specs.declared.files.Writer.{Writer}
@@ -37,8 +37,8 @@ module _ (t : TreeState) (fs : RuntimeOpenFilesByNumber) (fd : ℕ) (bytes : Lis
   works_now : t.failed ≡ false
   works_now = not_failed (session_view_of_tree_and_files t fs) (ops.Write fd bytes) accepted
 
-  is_writer : Some w ≡ open_file_as_writer (open_file_at fs fd)
-  is_writer = sym (ap open_file_as_writer e)
+  is_writer : Some w ≡ writer_of_open_file_or_none (open_file_at fs fd)
+  is_writer = sym (ap writer_of_open_file_or_none e)
 
   seen_there : writer_of_open_file (open_file_with_number (open_files_view t fs) fd) ≡ Some (writer_view t w)
   seen_there = the_writer t fs fd (Some w) is_writer
@@ -95,7 +95,7 @@ empty_put t fs fd now w same invariant accepted e =
   where
     stays : open_files_with_file_at_number (open_files_view t fs) fd (option_map (λ v. Writing (writer_after_write v [])) (writer_of_open_file (open_file_with_number (open_files_view t fs) fd))) ≡ open_files_view t fs
     stays =
-        ap (λ o. open_files_with_file_at_number (open_files_view t fs) fd (option_map (λ v. Writing (writer_after_write v [])) o)) (the_writer t fs fd (Some w) (sym (ap open_file_as_writer e)))
+        ap (λ o. open_files_with_file_at_number (open_files_view t fs) fd (option_map (λ v. Writing (writer_after_write v [])) o)) (the_writer t fs fd (Some w) (sym (ap writer_of_open_file_or_none e)))
         ∙ sym (set_is t fs fd (Some (file.Writing w)) (ap is_some e)) ∙ ap (open_files_view t) (set_same fs fd (file.Writing w) e)
 
 pub nothing_put : (t : TreeState) (fs : RuntimeOpenFilesByNumber) (fd : ℕ) (bytes : List ℕ) (now : SessionView) (w : Writer) → session_view_of_tree_and_files t fs ≡ now → (t.failed ≡ false → IsSessionReadyForCalls t fs) → refusal_by_checks (session_view_of_tree_and_files t fs) (ops.Write fd bytes) ≡ None → open_file_at fs fd ≡ Some (file.Writing w) →
@@ -137,7 +137,7 @@ some_put t new fs fd bytes now w v same invariant accepted e some made b =
     files =
         other_tree t new fs fd w v (only fs fd w e (invariant works).one) ∙ ap (λ x. set (open_files_view t fs) fd (Some (Writing x))) made.seen
         ∙ sym (inside_put t fs fd (Writing (writer_after_write (writer_view t w) bytes)) (ap is_some e))
-        ∙ sym (ap (λ o. open_files_with_file_at_number (open_files_view t fs) fd (option_map (λ u. Writing (writer_after_write u bytes)) o)) (the_writer t fs fd (Some w) (sym (ap open_file_as_writer e))))
+        ∙ sym (ap (λ o. open_files_with_file_at_number (open_files_view t fs) fd (option_map (λ u. Writing (writer_after_write u bytes)) o)) (the_writer t fs fd (Some w) (sym (ap writer_of_open_file_or_none e))))
 
     to : system_state_of_session_view (session_view_of_tree_and_files new later) ≡ record { disk = new.disk; calls = b.calls ++ t.history; state = Healthy (effect_of_operation (disk_summary_of_tree t) (session_of_session_view (session_view_of_tree_and_files t fs)) op).1 }
     to = healthy_system (session_view_of_tree_and_files new later) b.works ∙ ap₂ (λ calls (s : Session). record { disk = new.disk; calls = calls; state = Healthy s }) b.called (ap₂ (λ z f. record { tree = z; files = f }) b.shows files)

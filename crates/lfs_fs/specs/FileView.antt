@@ -69,15 +69,15 @@ open_files_view t files = map (option_map (open_file_view_over_tree t.disk (tree
 abbrev pub open_file_at : RuntimeOpenFilesByNumber → ℕ → Option OpenFile
 open_file_at files fd = option_flatten (slice_get files fd)
 
-abbrev pub open_file_as_reader : Option OpenFile → Option Reader
-open_file_as_reader None = None
-open_file_as_reader (Some (file.Reading r)) = Some r
-open_file_as_reader (Some (file.Writing w)) = None
+abbrev pub reader_of_open_file_or_none : Option OpenFile → Option Reader
+reader_of_open_file_or_none None = None
+reader_of_open_file_or_none (Some (file.Reading r)) = Some r
+reader_of_open_file_or_none (Some (file.Writing w)) = None
 
-abbrev pub open_file_as_writer : Option OpenFile → Option Writer
-open_file_as_writer None = None
-open_file_as_writer (Some (file.Reading r)) = None
-open_file_as_writer (Some (file.Writing w)) = Some w
+abbrev pub writer_of_open_file_or_none : Option OpenFile → Option Writer
+writer_of_open_file_or_none None = None
+writer_of_open_file_or_none (Some (file.Reading r)) = None
+writer_of_open_file_or_none (Some (file.Writing w)) = Some w
 
 abbrev pub prepended_if_some : {A : Type 0} → Option A → List A → List A
 prepended_if_some None rest = rest
@@ -88,18 +88,18 @@ open_files_selected_by kind [] = []
 open_files_selected_by kind (f ∷ files) = prepended_if_some (kind f) (open_files_selected_by kind files)
 
 abbrev pub readers_among : RuntimeOpenFilesByNumber → List Reader
-readers_among files = open_files_selected_by open_file_as_reader files
+readers_among files = open_files_selected_by reader_of_open_file_or_none files
 
 abbrev pub writers_among : RuntimeOpenFilesByNumber → List Writer
-writers_among files = open_files_selected_by open_file_as_writer files
+writers_among files = open_files_selected_by writer_of_open_file_or_none files
 
 -- the paths of the writers
 abbrev pub paths_of_writers : RuntimeOpenFilesByNumber → List Path
 paths_of_writers files = map (λ w. w.path) (writers_among files)
 
 -- the least number that isn't open
-abbrev pub least_free_file_number : RuntimeOpenFilesByNumber → ℕ
-least_free_file_number files = position_or_len is_none files
+abbrev pub lowest_free_number_of_runtime_files : RuntimeOpenFilesByNumber → ℕ
+lowest_free_number_of_runtime_files files = position_or_len is_none files
 
 abbrev pub open_files_with_entry_at_number : RuntimeOpenFilesByNumber → ℕ → Option OpenFile → RuntimeOpenFilesByNumber
 open_files_with_entry_at_number files fd entry = if nat_lt fd (length files) then slice_set files fd entry else files ++ entry ∷ []

@@ -9,7 +9,7 @@ use Rattle.lfs_model.specs.Slots.{zero_gstate}
 use Rattle.lfs_model.specs.Thread.{gstate_of_pairs}
 use Rattle.lfs_model.specs.Tree.{Path}
 use Rattle.lfs_lookup.specs.Refusals.{is_refusal, refusal_of_error}
-use Rattle.lfs_tree.specs.RenamePaths.{AreRenameTargets}
+use Rattle.lfs_tree.specs.RenamePaths.{AreLookupResultsAtBothRenamePaths}
 use Rattle.lfs_tree.specs.TreeState.{TreeState, kept_thread_of_tree_state}
 use Rattle.lfs_fs.specs.EntryPaths.{path_of_bytes_unless_root}
 use Rattle.lfs_fs.specs.FileView.{RuntimeOpenFilesByNumber}
@@ -47,5 +47,5 @@ pub record IsPermittedRenameOfPathBytes (t : TreeState) (old new : List ℕ) (r 
   pub from : r.from ≡ path_of_bytes_or_root old
   pub to : r.to ≡ path_of_bytes_or_root new
   pub same : r.is_same ≡ same_path (path_of_bytes_or_root old) (path_of_bytes_or_root new)
-  pub targets : IfSome r.targets (AreRenameTargets (kept_thread_of_tree_state t) r.from r.to)
+  pub targets : IfSome r.targets (AreLookupResultsAtBothRenamePaths (kept_thread_of_tree_state t) r.from r.to)
   pub handed_on : gstate_of_pairs t.pairs ≡ zero_gstate → IsSome r.targets

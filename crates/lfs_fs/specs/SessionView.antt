@@ -29,7 +29,7 @@ use Rattle.lfs_model.specs.TreeEdits.{is_file, same_path}
 use Rattle.lfs_model.specs.Run.{SystemState, IsTreeOfDiskOrNone, IsSessionStep}
 use Rattle.lfs_model.specs.Failure.{IsSessionFailureInOperation}
 use Rattle.lfs_model.specs.Performed.{IsRunEndedByError}
-use Rattle.lfs_lookup.specs.FileContents.{AreFileContentsAtPath}
+use Rattle.lfs_lookup.specs.FileContents.{IsInlineBytesOrSkipListOfFileAtPath}
 use Rattle.lfs_lookup.specs.Refusals.{is_refusal, refusal_of_error}
 use Rattle.lfs_lookup.specs.declared.file_contents.FileContents.{FileContents}
 use Rattle.lfs_tree.specs.TreeState.{TreeState, tree_view, disk_summary_of_tree, IsSoundTreeState, WasTreeOnlyRead, IsTreeFailedByRead, IsIoWithFaultOrNoMemory}
@@ -67,7 +67,7 @@ pub record IsWriterOverWritableImage (t : TreeState) (w : Writer) : Type 0 where
 
 -- A reader's contents are those of the entry at its path, and no writer is at that path.
 pub record IsReaderOfCurrentContentsWithoutWriter (ps : List Pair) (written : List Path) (r : Reader) : Type 0 where
-  pub contents : AreFileContentsAtPath ps r.path r.contents
+  pub contents : IsInlineBytesOrSkipListOfFileAtPath ps r.path r.contents
   pub apart : list_any (same_path r.path) written ≡ false
 
 -- the readers among open files, over these pairs
@@ -150,7 +150,7 @@ pub record IsReadablePath (t : Tree) (files : OpenFilesByNumber) (bytes : List �
 -- the same, with the contents of its file
 pub record IsReadablePathWithContents (t : TreeState) (files : OpenFilesByNumber) (bytes : List ℕ) (kept : FileContents) : Type 0 where
   pub readable : IsReadablePath (tree_view t) files bytes
-  pub contents : AreFileContentsAtPath t.pairs (path_of_bytes_or_root bytes) kept
+  pub contents : IsInlineBytesOrSkipListOfFileAtPath t.pairs (path_of_bytes_or_root bytes) kept
 
 -- a file that may be opened for writing
 pub record IsWritableFileAtPathInTree (t : Tree) (bytes : List ℕ) (found : WritableFile) : Type 0 where

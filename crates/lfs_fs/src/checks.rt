@@ -4,7 +4,7 @@ ghost use Rattle.std.specs.Prelude.{if◌then◌else◌, nat_lt, ◌+◌, ◌≡
 ghost use Rattle.lfs_model.specs.Operations as ops;
 ghost use Rattle.lfs_model.specs.Session.{is_entry_over_charge_limit};
 ghost use Rattle.lfs_model.specs.Disk.{block_count};
-ghost use Rattle.lfs_fs.specs.FileView.{open_file_at, open_files_view, blocks_reserved_by_writers, blocks_reserved_for_size, open_file_as_writer};
+ghost use Rattle.lfs_fs.specs.FileView.{open_file_at, open_files_view, blocks_reserved_by_writers, blocks_reserved_for_size, writer_of_open_file_or_none};
 ghost use Rattle.lfs_model.specs.Refusals.{path_of_bytes_or_root};
 ghost use Rattle.lfs_model.specs.Effects.{directory_items_at_path, file_size_of_node};
 ghost use Rattle.lfs_fs.specs.FlagsView.{flags_view};
@@ -444,7 +444,7 @@ pub fn check_write<D: BlockDevice>(
     bytes: &[u8],
 ) -> Result<(), Error>
     requires { tree.now.failed ≡ false → IsSessionReadyForCalls tree.now files.now }
-    ensures { IsResultOfChecksWithoutReads (session_view_of_tree_and_files tree.now files.now) (ops.Write fd bytes.now) (λ _. is_some (open_file_as_writer (open_file_at files.now fd)) ≡ true) result }
+    ensures { IsResultOfChecksWithoutReads (session_view_of_tree_and_files tree.now files.now) (ops.Write fd bytes.now) (λ _. is_some (writer_of_open_file_or_none (open_file_at files.now fd)) ≡ true) result }
 {
     if tree.has_failed() {
         return Err(Error::Failed);
@@ -478,7 +478,7 @@ pub fn check_truncate<D: BlockDevice>(
     size: u32,
 ) -> Result<(), Error>
     requires { tree.now.failed ≡ false → IsSessionReadyForCalls tree.now files.now }
-    ensures { IsResultOfChecksWithoutReads (session_view_of_tree_and_files tree.now files.now) (ops.Truncate fd size) (λ _. is_some (open_file_as_writer (open_file_at files.now fd)) ≡ true) result }
+    ensures { IsResultOfChecksWithoutReads (session_view_of_tree_and_files tree.now files.now) (ops.Truncate fd size) (λ _. is_some (writer_of_open_file_or_none (open_file_at files.now fd)) ≡ true) result }
 {
     if tree.has_failed() {
         return Err(Error::Failed);

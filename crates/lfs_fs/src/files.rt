@@ -13,7 +13,7 @@ ghost use Rattle.lfs_tree.specs.OpenContents.{WritesOnlyUnusedBlocks};
 ghost use Rattle.lfs_tree.specs.TreeState.{IsIoWithFaultOrNoMemory, IsFailedTree, IsSoundTreeState, SurvivesStopsInTreeCall, TreeState, tree_view};
 ghost use Rattle.lfs_fs.specs.WriterChanges.{CanWriteByWriter, ChangesOnlyWriterAtNumber, IsChangedWriterSeenAs};
 ghost use Rattle.lfs_fs.specs.declared.files.Writer.{Writer as WriterSeen};
-ghost use Rattle.lfs_fs.specs.FileView.{last_change_end_of_unsaved, open_file_at, open_files_view, is_open_at_matching_path, is_unsaved_writer, least_free_file_number, blocks_reserved_by_writers, blocks_reserved_by_writer, blocks_reserved_for_size, open_file_with_position, open_files_with_entry_at_number, open_file_as_reader, readers_among, is_unsaved_nonsequential, open_file_as_writer, writer_view, writers_among};
+ghost use Rattle.lfs_fs.specs.FileView.{last_change_end_of_unsaved, open_file_at, open_files_view, is_open_at_matching_path, is_unsaved_writer, lowest_free_number_of_runtime_files, blocks_reserved_by_writers, blocks_reserved_by_writer, blocks_reserved_for_size, open_file_with_position, open_files_with_entry_at_number, reader_of_open_file_or_none, readers_among, is_unsaved_nonsequential, writer_of_open_file_or_none, writer_view, writers_among};
 
 use crate::owned_path::OwnedPath;
 use crate::writers::write_bytes_by_writer;
@@ -195,8 +195,8 @@ impl Files {
     ) -> Result<u32, Error>
         requires path { is_some (path_of_bytes path.now) ≡ true }
         requires few { length (readers_among self.old) < 16 }
-        ensures number { IfOk result (λ fd. fd ≡ least_free_file_number self.old) }
-        ensures added { OnOk result (self.new ≡ open_files_with_entry_at_number self.old (least_free_file_number self.old) (Some (OpenFile.Reading (record { path = path_of_bytes_or_root path.now; position = 0; contents = contents })))) }
+        ensures number { IfOk result (λ fd. fd ≡ lowest_free_number_of_runtime_files self.old) }
+        ensures added { OnOk result (self.new ≡ open_files_with_entry_at_number self.old (lowest_free_number_of_runtime_files self.old) (Some (OpenFile.Reading (record { path = path_of_bytes_or_root path.now; position = 0; contents = contents })))) }
         ensures same { OnErr result (self.new ≡ self.old) }
         ensures error { IfErr result (λ e. e ≡ Error.NoMemory) }
     {
@@ -212,7 +212,7 @@ impl Files {
 
     /// Borrows the reader of that number.
     pub fn reader(&self, fd: u32) -> Option<&Reader>
-        ensures { option_map (λ r. r.now) result ≡ open_file_as_reader (open_file_at self.now fd) }
+        ensures { option_map (λ r. r.now) result ≡ reader_of_open_file_or_none (open_file_at self.now fd) }
     {
         match self.entries.get(fd as usize) {
             Some(Some(OpenFile::Reading(reader))) => Some(reader),
@@ -222,7 +222,7 @@ impl Files {
 
     // Borrows the writer of that number.
     pub(crate) fn writer(&self, fd: u32) -> Option<&Writer>
-        ensures { option_map (λ w. w.now) result ≡ open_file_as_writer (open_file_at self.now fd) }
+        ensures { option_map (λ w. w.now) result ≡ writer_of_open_file_or_none (open_file_at self.now fd) }
     {
         match self.entries.get(fd as usize) {
             Some(Some(OpenFile::Writing(writer))) => Some(writer),
@@ -248,8 +248,8 @@ impl Files {
     /// Makes room for one more open file. Returns its number: the least that is free.
     pub fn reserve_free_file_number(&mut self) -> Result<u32, Error>
         requires { writers_among self.old ≡ [] }
-        ensures number { IfOk result (λ fd. fd ≡ least_free_file_number self.old) }
-        ensures room { OnOk result (self.new ≡ open_files_with_entry_at_number self.old (least_free_file_number self.old) None) }
+        ensures number { IfOk result (λ fd. fd ≡ lowest_free_number_of_runtime_files self.old) }
+        ensures room { OnOk result (self.new ≡ open_files_with_entry_at_number self.old (lowest_free_number_of_runtime_files self.old) None) }
         ensures same { OnErr result (self.new ≡ self.old) }
         ensures error { IfErr result (λ e. e ≡ Error.NoMemory) }
     {
@@ -319,7 +319,7 @@ impl Files {
 
     /// Returns whether a writer has that number, and contents of that size.
     pub fn has_writer_of_size(&self, fd: u32, size: u32) -> bool
-        ensures { (w : _) → open_file_as_writer (open_file_at self.now fd) ≡ Some w → result ≡ (size == w.size) }
+        ensures { (w : _) → writer_of_open_file_or_none (open_file_at self.now fd) ≡ Some w → result ≡ (size == w.size) }
     {
         match self.writer(fd) {
             Some(writer) => size == writer.size,
@@ -539,14 +539,14 @@ fn reader_count(entries: &[Option<OpenFile>]) -> usize
 }
 
 fn is_reader(entry: &Option<OpenFile>) -> bool
-    ensures { result ≡ is_some (open_file_as_reader entry.now) }
+    ensures { result ≡ is_some (reader_of_open_file_or_none entry.now) }
 {
     matches!(entry, Some(OpenFile::Reading(_)))
 }
 
 // Returns the least number that isn't open.
 fn find_free_file_number(entries: &[Option<OpenFile>]) -> usize
-    ensures { result ≡ least_free_file_number entries.now }
+    ensures { result ≡ lowest_free_number_of_runtime_files entries.now }
 {
     let mut number = 0;
     for entry in entries {

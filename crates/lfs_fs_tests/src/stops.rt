@@ -69,7 +69,7 @@ fn outcome_of_stopped_script(
 }
 
 // Copies that stop before their call of that number, in the middle of it, behind it.
-fn device_copies_stopping_at_call(
+fn device_copies_with_stop_planned_at_call(
     alloc: Global,
     device: &RamDevice,
     erased: Erased,
@@ -91,7 +91,7 @@ fn is_stop_at_call_survived(
 ) -> Result<(bool, bool), Error> {
     let mut are_right = true;
     let mut are_whole = true;
-    for copy in device_copies_stopping_at_call(alloc, device, erased, nth)? {
+    for copy in device_copies_with_stop_planned_at_call(alloc, device, erased, nth)? {
         let (done, is_right) = outcome_of_stopped_script(alloc, copy, script)?;
         are_right &= is_right;
         are_whole &= done == script.rows.len();
@@ -184,7 +184,7 @@ fn count_survived_in_recovery(
 fn count_survived_in_rename(alloc: Global, device: &RamDevice) -> Result<Option<u64>, Error> {
     let calls = count_survived_calls(alloc, device, Erased::Fill(0xff), &RENAMING)?;
     for nth in 1..calls.unwrap_or(0) {
-        for copy in device_copies_stopping_at_call(alloc, device, Erased::Fill(0xff), nth)? {
+        for copy in device_copies_with_stop_planned_at_call(alloc, device, Erased::Fill(0xff), nth)? {
             let (done, left) = run_operations_until_stop(alloc, copy, RENAMING.rows)?;
             if count_survived_in_recovery(alloc, &left, &RENAMING, done)?.is_none() {
                 return Ok(None);

@@ -11,7 +11,7 @@ use Rattle.lfs_thread.specs.Kept.{ThreadView}
 use Rattle.lfs_thread.specs.CachedLog.{cached_log}
 use Rattle.lfs_lookup.specs.AttributeAt.{IsLogBlockOfFoundSlotCached}
 use Rattle.lfs_lookup.specs.BytesAt.{spot_and_storage_of_found_file}
-use Rattle.lfs_lookup.specs.FileContents.{AreFileContentsAtPath, AreFileContentsOfStruct}
+use Rattle.lfs_lookup.specs.FileContents.{IsInlineBytesOrSkipListOfFileAtPath, AreFileContentsOfStruct}
 use Rattle.lfs_lookup.specs.declared.entry.FileStorage.{FileStorage}
 use Rattle.lfs_lookup.specs.declared.paths.VisiblePathLookup.{VisiblePathLookup}
 use Rattle.lfs_lookup.specs.declared.search.SlotPosition.{SlotPosition}
@@ -22,7 +22,7 @@ use Rattle.lfs_lookup.specs.declared.file_contents.FileContents.{FileContents}
 pub whole : (bytes : List ℕ) (len : ℕ) → length bytes ≡ len → take len (drop 0 bytes) ≡ bytes
 whole bytes len e = take_all len bytes (omega (arith, e))
 
-pub contents_at : (ps : List Pair) (path : Path) (held : Slot) (contents : FileContents) → slot_of_path ps path ≡ Some held → AreFileContentsOfStruct held.struct contents → AreFileContentsAtPath ps path contents
+pub contents_at : (ps : List Pair) (path : Path) (held : Slot) (contents : FileContents) → slot_of_path ps path ≡ Some held → AreFileContentsOfStruct held.struct contents → IsInlineBytesOrSkipListOfFileAtPath ps path contents
 contents_at ps path held contents at is = record { struct = ap (option_map (λ (u : Slot). u.struct)) at ∙ ap Some (sym is.struct); fits = is.fits }
 
 -- the block of a file that is shown is cached

@@ -18,21 +18,21 @@ use Rattle.lfs_model.proofs.Counts.{Each, each_joined, each_weaker}
 use Rattle.lfs_model.proofs.Logged.{logged}
 use Rattle.lfs_device.specs.Bytes.{AreAllNumbersBytes, AreAllBlockElementsBelow256}
 use Rattle.lfs_lookup.specs.Items.{name_and_struct_of_slot}
-use Rattle.lfs_lookup.specs.ListAt.{AreEntriesInNameAndInlineLimits, IsStructInInlineLimit, IsEntryInNameAndInlineLimits}
+use Rattle.lfs_lookup.specs.ListAt.{AreEntriesInNameAndInlineLimits, IsInlineStructShorterThanTagLength, IsEntryInNameAndInlineLimits}
 use Rattle.lfs_lookup.proofs.ListAtNames.{name_fits, fitting_names}
 use Rattle.lfs_lookup.proofs.Visits.{each_both, each_entry}
 
 abbrev short_slot : Slot → Type 0
-short_slot s = IsStructInInlineLimit s.struct
+short_slot s = IsInlineStructShorterThanTagLength s.struct
 
 -- ---- the slots of a log
 
-short_of : (a b : Bool) (bytes : List ℕ) (to : ℕ × ℕ) (head size : ℕ) → length bytes < 0x3ff → IsStructInInlineLimit (cond a (Inline bytes) (cond b (Branch to) (Ctz head size)))
+short_of : (a b : Bool) (bytes : List ℕ) (to : ℕ × ℕ) (head size : ℕ) → length bytes < 0x3ff → IsInlineStructShorterThanTagLength (cond a (Inline bytes) (cond b (Branch to) (Ctz head size)))
 short_of true b bytes to head size l = l
 short_of false true bytes to head size l = tt
 short_of false false bytes to head size l = tt
 
-short_typed : (kind : ℕ) (bytes : List ℕ) → length bytes < 0x3ff → IsStructInInlineLimit (struct_of_type_and_bytes kind bytes)
+short_typed : (kind : ℕ) (bytes : List ℕ) → length bytes < 0x3ff → IsInlineStructShorterThanTagLength (struct_of_type_and_bytes kind bytes)
 short_typed kind bytes l = short_of (kind == inline_struct_type) (kind == directory_struct_type) bytes (pair_address_of_bytes bytes) _ _ l
 
 short_complete : (s : RawSlot) (t : Slot) → IsWellFormedRawSlot s → slot_if_name_and_struct_present s ≡ Some t → short_slot t

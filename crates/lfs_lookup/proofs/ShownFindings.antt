@@ -23,7 +23,7 @@ use Rattle.lfs_model.specs.View.{IsAcceptedImage}
 use Rattle.lfs_model.specs.Shown.{skip_list_bytes_on_disk, entries_by_directory_in_thread, tree_on_disk}
 use Rattle.lfs_model.proofs.Searches.{run_length_is}
 use Rattle.lfs_thread.specs.Kept.{KeptThread}
-use Rattle.lfs_lookup.specs.AtPath.{IsFoundFileInInlineLimit, IsLookupResultAtPathHidingMovedSlot, node_and_parent_refusal_of_lookup_result, first_pair_of_found_directory, directory_from_pair_has_entries}
+use Rattle.lfs_lookup.specs.AtPath.{IsInlineFileShorterThanTagLengthIfFound, IsLookupResultAtPathHidingMovedSlot, node_and_parent_refusal_of_lookup_result, first_pair_of_found_directory, directory_from_pair_has_entries}
 use Rattle.lfs_lookup.specs.Entry.{IsStorageOfStruct}
 use Rattle.lfs_lookup.specs.Finds.{IsFoundNodeAtPath, has_entry_beneath_path}
 use Rattle.std.specs.List.Sorted.{IsPermutation}
@@ -65,7 +65,7 @@ shows_at t names path g moved (Ok x) e is hides shows = record {
 shows_at t names path g moved (Err x) e is hides shows = tt
 
 -- inline bytes stand in the entry
-pub in_entry : (t : KeptThread) (path : Path) (s : VisiblePathLookup) → IsLookupResultAtPathHidingMovedSlot t path s → IsFoundFileInInlineLimit s
+pub in_entry : (t : KeptThread) (path : Path) (s : VisiblePathLookup) → IsLookupResultAtPathHidingMovedSlot t path s → IsInlineFileShorterThanTagLengthIfFound s
 in_entry t path shown.Root h = tt
 in_entry t path (shown.Directory spot first) h = tt
 in_entry t path (shown.File spot (contents.Inline len)) h = let (fault, (s, (bytes, (is, (l, short))))) = h.shows in short

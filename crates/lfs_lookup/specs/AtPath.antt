@@ -36,13 +36,13 @@ file_size_of_storage (contents.Inline len) = len
 file_size_of_storage (contents.List head size) = size
 
 -- inline bytes are in an entry
-abbrev pub IsStorageInInlineLimit : FileStorage → Type 0
-IsStorageInInlineLimit (contents.Inline len) = len < 0x3ff
-IsStorageInInlineLimit (contents.List head size) = Unit {0}
+abbrev pub IsInlineStorageShorterThanTagLength : FileStorage → Type 0
+IsInlineStorageShorterThanTagLength (contents.Inline len) = len < 0x3ff
+IsInlineStorageShorterThanTagLength (contents.List head size) = Unit {0}
 
-abbrev pub IsFoundFileInInlineLimit : VisiblePathLookup → Type 0
-IsFoundFileInInlineLimit (shown.File slot contents) = IsStorageInInlineLimit contents
-IsFoundFileInInlineLimit _ = Unit {0}
+abbrev pub IsInlineFileShorterThanTagLengthIfFound : VisiblePathLookup → Type 0
+IsInlineFileShorterThanTagLengthIfFound (shown.File slot contents) = IsInlineStorageShorterThanTagLength contents
+IsInlineFileShorterThanTagLengthIfFound _ = Unit {0}
 
 -- the parent's refusal of a path, and the entry at it
 abbrev pub node_and_parent_refusal_of_lookup_result : VisiblePathLookup → FoundNode

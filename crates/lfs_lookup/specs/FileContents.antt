@@ -16,21 +16,21 @@ struct_of_file_contents (contents.Inline bytes) = Inline bytes.items
 struct_of_file_contents (contents.List head size) = Ctz head size
 
 -- inline bytes are in an entry
-abbrev pub AreContentsInInlineLimit : FileContents → Type 0
-AreContentsInInlineLimit (contents.Inline bytes) = length bytes.items < 0x3ff
-AreContentsInInlineLimit (contents.List head size) = Unit {0}
+abbrev pub AreInlineContentsShorterThanTagLength : FileContents → Type 0
+AreInlineContentsShorterThanTagLength (contents.Inline bytes) = length bytes.items < 0x3ff
+AreInlineContentsShorterThanTagLength (contents.List head size) = Unit {0}
 
 -- these are the contents that an entry with this struct has
 pub record AreFileContentsOfStruct (s : Struct) (contents : FileContents) : Type 0 where
   pub struct : struct_of_file_contents contents ≡ s
-  pub fits : AreContentsInInlineLimit contents
+  pub fits : AreInlineContentsShorterThanTagLength contents
 
 -- these are the contents of the entry at the path
-pub record AreFileContentsAtPath (ps : List Pair) (path : Path) (contents : FileContents) : Type 0 where
+pub record IsInlineBytesOrSkipListOfFileAtPath (ps : List Pair) (path : Path) (contents : FileContents) : Type 0 where
   pub struct : struct_of_path ps path ≡ Some (struct_of_file_contents contents)
-  pub fits : AreContentsInInlineLimit contents
+  pub fits : AreInlineContentsShorterThanTagLength contents
 
 -- the contents of the file at the path, or none where no file is
 abbrev pub AreContentsOfFileAtPathOrNone : KeptThread → Path → Option FileContents → Type 0
 AreContentsOfFileAtPathOrNone t path None = is_file (tree_on_disk t.disk t.pairs path) ≡ false
-AreContentsOfFileAtPathOrNone t path (Some contents) = AreFileContentsAtPath t.pairs path contents
+AreContentsOfFileAtPathOrNone t path (Some contents) = IsInlineBytesOrSkipListOfFileAtPath t.pairs path contents

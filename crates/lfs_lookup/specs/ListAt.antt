@@ -15,14 +15,14 @@ abbrev pub listed_item_of_entry : NameAndStruct → ops.ListedEntry
 listed_item_of_entry x = record { name = x.name; size = listed_size_of_struct_if_file x.struct }
 
 -- inline bytes are in an entry
-abbrev pub IsStructInInlineLimit : Struct → Type 0
-IsStructInInlineLimit (Inline bytes) = length bytes < 0x3ff
-IsStructInInlineLimit (Ctz head size) = Unit {0}
-IsStructInInlineLimit (Branch to) = Unit {0}
+abbrev pub IsInlineStructShorterThanTagLength : Struct → Type 0
+IsInlineStructShorterThanTagLength (Inline bytes) = length bytes < 0x3ff
+IsInlineStructShorterThanTagLength (Ctz head size) = Unit {0}
+IsInlineStructShorterThanTagLength (Branch to) = Unit {0}
 
 -- so do names, which are no longer than a new one may be
 abbrev pub IsEntryInNameAndInlineLimits : NameAndStruct → Type 0
-IsEntryInNameAndInlineLimits x = IsStructInInlineLimit x.struct × (length x.name ≤ name_limit)
+IsEntryInNameAndInlineLimits x = IsInlineStructShorterThanTagLength x.struct × (length x.name ≤ name_limit)
 
 abbrev pub AreEntriesInNameAndInlineLimits : List NameAndStruct → Type 0
 AreEntriesInNameAndInlineLimits [] = Unit {0}

@@ -8,7 +8,7 @@ ghost use Rattle.lfs_model.specs.Thread.{gstate_of_pairs, pair_count_before_root
 ghost use Rattle.lfs_model.specs.View.{IsAcceptedImage};
 ghost use Rattle.lfs_model.specs.Shown.{tree_on_disk};
 ghost use Rattle.lfs_lookup.specs.CachedPairs.{ReadsNothingAndKeepsDirectoriesWhereAllCached};
-ghost use Rattle.lfs_lookup.specs.AtPath.{IsStorageInInlineLimit, IsFoundFileInInlineLimit, IsLookupNotRefusedByParents, IsLookupResultAtPathHidingMovedSlot, node_and_parent_refusal_of_lookup_result, first_pair_of_found_directory, file_size_of_storage};
+ghost use Rattle.lfs_lookup.specs.AtPath.{IsInlineStorageShorterThanTagLength, IsInlineFileShorterThanTagLengthIfFound, IsLookupNotRefusedByParents, IsLookupResultAtPathHidingMovedSlot, node_and_parent_refusal_of_lookup_result, first_pair_of_found_directory, file_size_of_storage};
 ghost use Rattle.lfs_lookup.specs.AttributeAt.{IsLogBlockOfFoundSlotCached};
 ghost use Rattle.lfs_lookup.specs.Finds.{IsFoundNodeAtPath, has_entry_beneath_path};
 ghost use Rattle.lfs_lookup.specs.declared.found_entries.Node.TheVariants.{Directory, File, Nothing};
@@ -58,7 +58,7 @@ pub fn lookup_result_at_path<D: BlockDevice>(
 
 // Returns how many bytes a file has.
 fn file_size_of_contents(contents: FileStorage) -> u32
-    requires { IsStorageInInlineLimit contents }
+    requires { IsInlineStorageShorterThanTagLength contents }
     ensures { result ≡ file_size_of_storage contents }
 {
     match contents {
@@ -69,7 +69,7 @@ fn file_size_of_contents(contents: FileStorage) -> u32
 
 // Makes the finding of a file.
 fn found_node_of_file(contents: FileStorage) -> FoundNode
-    requires { IsStorageInInlineLimit contents }
+    requires { IsInlineStorageShorterThanTagLength contents }
     ensures { result ≡ record { fault = None; node = File (file_size_of_storage contents) } }
 {
     FoundNode {
@@ -102,7 +102,7 @@ fn found_node_of_directory() -> FoundNode
 
 /// Returns the finding of what was shown: the parent's refusal, or the entry.
 pub fn found_node_from_lookup_result(shown: VisiblePathLookup) -> FoundNode
-    requires { IsFoundFileInInlineLimit shown }
+    requires { IsInlineFileShorterThanTagLengthIfFound shown }
     ensures { result ≡ node_and_parent_refusal_of_lookup_result shown }
 {
     match shown {

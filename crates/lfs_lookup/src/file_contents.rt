@@ -13,7 +13,7 @@ ghost use Rattle.lfs_model.specs.View.{IsAcceptedImage, IsSkipListIfCtzStruct};
 ghost use Rattle.lfs_thread.specs.CachedLog.{cached_log};
 ghost use Rattle.lfs_lookup.specs.CachedPairs.{AreDirectoriesAtThesePathsCached};
 ghost use Rattle.lfs_lookup.specs.BytesAt.{IsFileSlotAtSpot};
-ghost use Rattle.lfs_lookup.specs.FileContents.{AreFileContentsAtPath, AreFileContentsOfStruct, AreContentsOfFileAtPathOrNone, AreContentsInInlineLimit, struct_of_file_contents};
+ghost use Rattle.lfs_lookup.specs.FileContents.{IsInlineBytesOrSkipListOfFileAtPath, AreFileContentsOfStruct, AreContentsOfFileAtPathOrNone, AreInlineContentsShorterThanTagLength, struct_of_file_contents};
 ghost use Rattle.lfs_lookup.specs.Finds.{IsFoundNodeAtPath};
 ghost use Rattle.lfs_lookup.specs.Halves.{ReadsAtMostBinarySearchesOnPaths};
 ghost use Rattle.lfs_lookup.specs.Reading.{OnlyReadsThreadAndReportsErrors};
@@ -122,9 +122,9 @@ pub fn read_file_contents_from_position<D: BlockDevice>(
     count: usize,
 ) -> Result<Vec<u8>, Error>
     requires works { thread.old.failed ≡ false }
-    requires fits { AreContentsInInlineLimit contents.now }
+    requires fits { AreInlineContentsShorterThanTagLength contents.now }
     requires list { IsSkipListIfCtzStruct thread.old.kept.disk (struct_of_file_contents contents.now) }
-    ensures bytes { (path : ModelPath) → AreFileContentsAtPath thread.old.kept.pairs path contents.now → IfOk result (λ v. v.items ≡ take count (drop position (file_bytes_of_node (tree_on_disk thread.old.kept.disk thread.old.kept.pairs path)))) }
+    ensures bytes { (path : ModelPath) → IsInlineBytesOrSkipListOfFileAtPath thread.old.kept.pairs path contents.now → IfOk result (λ v. v.items ≡ take count (drop position (file_bytes_of_node (tree_on_disk thread.old.kept.disk thread.old.kept.pairs path)))) }
     ensures end { IfOk result (λ v. position + length v.items < 2 ^ 32) }
     ensures none { (own : List ℕ) → struct_of_file_contents contents.now ≡ Inline own → thread.new ≡ thread.old }
     ensures reading { OnlyReadsThreadAndReportsErrors thread.old thread.new result }

@@ -10,7 +10,7 @@ ghost use Rattle.lfs_model.specs.Shown.{tree_on_disk};
 ghost use Rattle.lfs_lookup.specs.CachedPairs.{AreDirectoriesAtThesePathsCached};
 ghost use Rattle.lfs_lookup.specs.Finds.{IsFoundNodeAtPath, list_item_view};
 ghost use Rattle.lfs_lookup.specs.Items.{directory_item_view, directory_items_view, owned_struct_view};
-ghost use Rattle.lfs_lookup.specs.ListAt.{AreEntriesInNameAndInlineLimits, IsStructInInlineLimit, IsEntryInNameAndInlineLimits, listed_item_of_entry, listed_size_of_struct_if_file};
+ghost use Rattle.lfs_lookup.specs.ListAt.{AreEntriesInNameAndInlineLimits, IsInlineStructShorterThanTagLength, IsEntryInNameAndInlineLimits, listed_item_of_entry, listed_size_of_struct_if_file};
 ghost use Rattle.lfs_lookup.specs.Reading.{OnlyReadsThreadAndReportsErrors};
 
 use crate::by_path::{
@@ -28,7 +28,7 @@ use std::alloc::{AllocError, Global};
 
 // Returns how many bytes a file has. Returns None for a directory.
 fn listed_size(structure: &OwnedStruct) -> Option<u32>
-    requires { IsStructInInlineLimit (owned_struct_view structure.now) }
+    requires { IsInlineStructShorterThanTagLength (owned_struct_view structure.now) }
     ensures { result ≡ listed_size_of_struct_if_file (owned_struct_view structure.now) }
 {
     match structure {

@@ -93,7 +93,7 @@ fn next_tag_from_either_end(entries: &mut Entries<'_>, is_last: bool) -> u32 {
 
 // A log that is known by its end is the one that was read.
 #[test]
-fn entries_from_both_ends(rt: HostRuntime) -> Result<(), Fail> {
+fn log_entries_are_same_from_either_end(rt: HostRuntime) -> Result<(), Fail> {
     let block = block_of_commits(rt.alloc(), 4096, 256, &SHIFTING)?;
     let read = Log::read(&block);
     let known = Log::with_known_end(&block, read.end(), read.last_tag_of_log());

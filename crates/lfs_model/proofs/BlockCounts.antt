@@ -3,7 +3,7 @@ use Rattle.std.proofs.Common.{ℕ, ◌≡◌, ◌+◌, ◌≤◌, ◌⊎◌, inl
 use Rattle.std.specs.List.{Contains, count_by, slice_get}
 use Rattle.std.proofs.lemmas.Bool.{cases_eq}
 use Rattle.std.proofs.lemmas.Option.{slice_get_within, same_Some}
-use Rattle.lfs_model.specs.BlockSets.{BlockState, BlockStateList, IsBlockFree, IsBlockInFlight, IsBlockUsed, is_block_state_in_flight, is_used, in_flight_block_count, used_count}
+use Rattle.lfs_model.specs.BlockSets.{BlockState, BlockStateList, IsBlockFree, IsBlockInFlight, IsBlockMarkedUsedInMap, is_block_state_in_flight, is_used, in_flight_block_count, used_count}
 use Rattle.lfs_model.specs.BlockSets.BlockState.{Free, InFlight, Used}
 use Rattle.lfs_model.proofs.BlockSets.{Contains-cons, slice_get-set_same, slice_get-set_other, count_by-set, count_by-none, IsTestOf, used_test, in_flight_test}
 
@@ -27,7 +27,7 @@ pub used-settled : (sets : BlockStateList) (b : ℕ) → IsBlockInFlight sets b 
 used-settled sets b flying = let e = count_by-set is_used sets b InFlight Used flying in omega (arith, e)
 
 -- a used block is released
-pub used-freed : (sets : BlockStateList) (b : ℕ) → IsBlockUsed sets b → used_count (set sets b Free) + 1 ≡ used_count sets
+pub used-freed : (sets : BlockStateList) (b : ℕ) → IsBlockMarkedUsedInMap sets b → used_count (set sets b Free) + 1 ≡ used_count sets
 used-freed sets b used = let e = count_by-set is_used sets b Used Free used in omega (arith, e)
 
 -- ---- at most so many
@@ -73,5 +73,5 @@ module _ (p : BlockState → Bool) (state : BlockState) (test : IsTestOf p state
 pub few_flying : (bs : List ℕ) (sets : BlockStateList) → ((b : ℕ) → IsBlockInFlight sets b → Contains bs b) → in_flight_block_count sets ≤ length bs
 few_flying bs sets all = few_in is_block_state_in_flight InFlight in_flight_test bs sets all
 
-pub few_used : (bs : List ℕ) (sets : BlockStateList) → ((b : ℕ) → IsBlockUsed sets b → Contains bs b) → used_count sets ≤ length bs
+pub few_used : (bs : List ℕ) (sets : BlockStateList) → ((b : ℕ) → IsBlockMarkedUsedInMap sets b → Contains bs b) → used_count sets ≤ length bs
 few_used bs sets all = few_in is_used Used used_test bs sets all

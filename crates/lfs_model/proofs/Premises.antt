@@ -3,7 +3,7 @@ use Rattle.std.proofs.Common.{◌≡◌, Bool, true, false, List, [], ◌∷◌,
 use Rattle.std.proofs.lemmas.List.Elements.{All-head}
 use Rattle.lfs_model.specs.Blocks.{Blocks}
 use Rattle.lfs_model.specs.History.{DeviceCall, Read, Program, Erase, DeviceCallEvent, device_call_event_with_blocks, IsTrueOfEachCall, IsTrueOfEachCallSince}
-use Rattle.lfs_model.specs.Conformance.{IsConformingDeviceCall, AreConformingDeviceCalls}
+use Rattle.lfs_model.specs.Conformance.{HasOnlyItsEffectIfSuccessful, DoSuccessfulCallsHaveOnlyTheirEffect}
 use Rattle.lfs_model.specs.Stops.{are_blocks_after_stopped_call, leaves_no_new_log_if_successful_erase}
 use Rattle.lfs_model.specs.Premises.{IsHistoryMeetingPowerLossPremises}
 use Rattle.lfs_model.proofs.Conformance.{conforming_stops}
@@ -36,10 +36,10 @@ meets_nothing call blocks = record { erases = cleanly call; failed = λ is. stop
     cleanly (Erase block) = tt
 
 -- a call that failed with all done
-pub meets_whole : {call : DeviceCall} {before after : Blocks} {older later : List DeviceCallEvent} → later ≡ device_call_event_with_blocks call before after false ∷ older → AreConformingDeviceCalls later → IsHistoryMeetingPowerLossPremises later
+pub meets_whole : {call : DeviceCall} {before after : Blocks} {older later : List DeviceCallEvent} → later ≡ device_call_event_with_blocks call before after false ∷ older → DoSuccessfulCallsHaveOnlyTheirEffect later → IsHistoryMeetingPowerLossPremises later
     → Meets call true before after
 meets_whole {call} {before} {after} {older} is conforms all =
-    let done = All-head IsConformingDeviceCall (device_call_event_with_blocks call before after false) older (subst AreConformingDeviceCalls is conforms) in
+    let done = All-head HasOnlyItsEffectIfSuccessful (device_call_event_with_blocks call before after false) older (subst DoSuccessfulCallsHaveOnlyTheirEffect is conforms) in
     record { erases = cleanly call; failed = λ failed. conforming_stops (device_call_event_with_blocks call before after false) done refl (premises_newest is all).erases }
   where
     cleanly : (call : DeviceCall) → leaves_no_new_log_if_successful_erase call true before after

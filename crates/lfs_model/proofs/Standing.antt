@@ -5,7 +5,7 @@ use Rattle.std.proofs.lemmas.List.Elements.{All-head}
 use Rattle.lfs_model.specs.Blocks.{Blocks}
 use Rattle.lfs_model.specs.Disk.{Disk}
 use Rattle.lfs_model.specs.History.{DeviceCallEvent, IsTrueOfEachCall, IsTrueOfEachCallSince, AreBlocksLeftByNewestCall, IsTrueAfterAnyPowerLossSince}
-use Rattle.lfs_model.specs.Conformance.{IsConformingDeviceCall, AreConformingDeviceCalls}
+use Rattle.lfs_model.specs.Conformance.{HasOnlyItsEffectIfSuccessful, DoSuccessfulCallsHaveOnlyTheirEffect}
 use Rattle.lfs_model.specs.Stops.{AreBlocksLeftByPowerLossInCall, LeavesNoNewLogIfSuccessfulErase}
 use Rattle.lfs_model.specs.FailedCalls.{AreFailedDeviceCallsLikePowerLossSince}
 use Rattle.lfs_model.specs.Operations.{Operation}
@@ -33,7 +33,7 @@ newest_has : {P : DeviceCallEvent → Type 0} {old new : List DeviceCallEvent} (
 newest_has {P} {old} e events all is = (subst (IsTrueOfEachCall P) (append_cancel_right all.events (e ∷ events) old (sym all.extends ∙ is)) all.each).0
 
 -- what a call left is among what a stop in it may leave, whether it failed or not
-left_as_stopped : (e : DeviceCallEvent) → IsConformingDeviceCall e → LeavesNoNewLogIfSuccessfulErase e → IsLikePowerLossIfCallFailed e → AreBlocksLeftByPowerLossInCall e e.after
+left_as_stopped : (e : DeviceCallEvent) → HasOnlyItsEffectIfSuccessful e → LeavesNoNewLogIfSuccessfulErase e → IsLikePowerLossIfCallFailed e → AreBlocksLeftByPowerLossInCall e e.after
 left_as_stopped e conforms clean fails = go e.failed refl
   where
     go : (failed : Bool) → e.failed ≡ failed → AreBlocksLeftByPowerLossInCall e e.after
@@ -43,19 +43,19 @@ left_as_stopped e conforms clean fails = go e.failed refl
 -- ---- what stands
 
 -- What stops leave has P, and so has what stands where there was no call: what is after the last call has it, too.
-pub stands : {P : Blocks → Type 0} {old new : List DeviceCallEvent} (last : Blocks) → (new ≡ old → P last) → AreBlocksLeftByNewestCall new last → AreConformingDeviceCalls new
+pub stands : {P : Blocks → Type 0} {old new : List DeviceCallEvent} (last : Blocks) → (new ≡ old → P last) → AreBlocksLeftByNewestCall new last → DoSuccessfulCallsHaveOnlyTheirEffect new
     → IsTrueAfterAnyPowerLossSince AreBlocksLeftByPowerLossInCall old new P → IsTrueOfEachCallSince LeavesNoNewLogIfSuccessfulErase old new → AreFailedDeviceCallsLikePowerLossSince old new → P last
 stands {P} {old} {new} last untouched newest conforms since cleanly fails = go since.events since.extends since.each
   where
     go : (events : List DeviceCallEvent) → new ≡ events ++ old → IsTrueOfEachCall (λ e. (disk : Blocks) → AreBlocksLeftByPowerLossInCall e disk → P disk) events → P last
     go [] same each = untouched same
     go (e ∷ events) same each =
-        let done = All-head IsConformingDeviceCall e (events ++ old) (subst AreConformingDeviceCalls same conforms) in
+        let done = All-head HasOnlyItsEffectIfSuccessful e (events ++ old) (subst DoSuccessfulCallsHaveOnlyTheirEffect same conforms) in
         let left = left_as_stopped e done (newest_has e events cleanly same) (newest_has e events fails same) in
         subst P (newest e (events ++ old) same) (each.0 e.after left)
 
 -- the same of a device that had been called before, from what stood then
-pub stands_since : {P : Blocks → Type 0} {old new : List DeviceCallEvent} (first last : Blocks) → old ≢ [] → AreBlocksLeftByNewestCall old first → AreBlocksLeftByNewestCall new last → AreConformingDeviceCalls new
+pub stands_since : {P : Blocks → Type 0} {old new : List DeviceCallEvent} (first last : Blocks) → old ≢ [] → AreBlocksLeftByNewestCall old first → AreBlocksLeftByNewestCall new last → DoSuccessfulCallsHaveOnlyTheirEffect new
     → IsTrueAfterAnyPowerLossSince AreBlocksLeftByPowerLossInCall old new P → IsTrueOfEachCallSince LeavesNoNewLogIfSuccessfulErase old new → AreFailedDeviceCallsLikePowerLossSince old new → P first → P last
 stands_since {P} {old} {new} first last called then now conforms since cleanly fails here =
     stands {P = P} {old = old} {new = new} last (λ same. subst P (same_blocks old first last called then (subst (λ (history : List DeviceCallEvent). AreBlocksLeftByNewestCall history last) same now)) here) now conforms since cleanly fails
@@ -63,7 +63,7 @@ stands_since {P} {old} {new} first last called then now conforms since cleanly f
 -- ---- an operation
 
 -- two states of a device that had been called before
-pub one_device : (from to : SystemState) → from.calls ≢ [] → AreBlocksLeftByNewestCall from.calls from.disk.blocks → AreBlocksLeftByNewestCall to.calls to.disk.blocks → AreConformingDeviceCalls to.calls
+pub one_device : (from to : SystemState) → from.calls ≢ [] → AreBlocksLeftByNewestCall from.calls from.disk.blocks → AreBlocksLeftByNewestCall to.calls to.disk.blocks → DoSuccessfulCallsHaveOnlyTheirEffect to.calls
     → to.disk ≡ disk_with_blocks to.disk.blocks from.disk → AreStatesOfConformingDevice from to
 one_device from to called then now conforms same = record {
   stays = λ silent. same ∙ ap (λ (blocks : Blocks). disk_with_blocks blocks from.disk)

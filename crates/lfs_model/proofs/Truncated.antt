@@ -4,7 +4,7 @@ use Rattle.std.proofs.Math.Logic.{∥∥₁_map, ∥∥₁_elim}
 use Rattle.lfs_model.specs.Blocks.{Blocks, AreBlocksEqualExceptOne, block_bytes_by_number, bytes_after_overwrite_at}
 use Rattle.lfs_model.specs.Log.{LogEntry, BlockLog, log_of_block}
 use Rattle.lfs_model.specs.History.{DeviceCall, Read, Program, Erase, DeviceCallEvent, IsTrueOfEachCall}
-use Rattle.lfs_model.specs.Stops.{IsBlockLeftByStoppedEraseCall, IsBlockLeftByStoppedProgramCall, are_blocks_after_stopped_call, LeavesNoNewLogIfSuccessfulErase, leaves_no_new_log_if_successful_erase}
+use Rattle.lfs_model.specs.Stops.{MayStoppedEraseLeaveBlock, MayStoppedProgramLeaveBlock, are_blocks_after_stopped_call, LeavesNoNewLogIfSuccessfulErase, leaves_no_new_log_if_successful_erase}
 use Rattle.lfs_model.specs.PowerLoss.{IsLikePowerLossIfCallFailed}
 use Rattle.lfs_model.specs.Premises.{IsHistoryMeetingPowerLossPremises}
 
@@ -68,10 +68,10 @@ same_logs (Some x) (Some y) = elim (same_log x y) [
   | inr differs ↦ inr (λ is. let logs : x ≡ y = cc in differs logs)
 ]
 
-by_erase : (old new : List ℕ) → Decided (IsBlockLeftByStoppedEraseCall old new)
+by_erase : (old new : List ℕ) → Decided (MayStoppedEraseLeaveBlock old new)
 by_erase old new = either (same_logs (log_of_block new) (log_of_block old)) (same_logs (log_of_block new) None)
 
-by_program : (off : ℕ) (bytes old new : List ℕ) → Decided (IsBlockLeftByStoppedProgramCall off bytes old new)
+by_program : (off : ℕ) (bytes old new : List ℕ) → Decided (MayStoppedProgramLeaveBlock off bytes old new)
 by_program off bytes old new =
     either (same_logs (log_of_block new) (log_of_block old))
     (either (same_logs (log_of_block new) (log_of_block (bytes_after_overwrite_at old off bytes))) (both (same_number off 0) (same_logs (log_of_block new) None)))

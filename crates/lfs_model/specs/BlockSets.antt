@@ -17,8 +17,8 @@ IsBlockFree sets b = slice_get sets b ≡ Some Free
 abbrev pub IsBlockInFlight : BlockStateList → ℕ → Type 0
 IsBlockInFlight sets b = slice_get sets b ≡ Some InFlight
 
-abbrev pub IsBlockUsed : BlockStateList → ℕ → Type 0
-IsBlockUsed sets b = slice_get sets b ≡ Some Used
+abbrev pub IsBlockMarkedUsedInMap : BlockStateList → ℕ → Type 0
+IsBlockMarkedUsedInMap sets b = slice_get sets b ≡ Some Used
 
 abbrev pub is_block_state_in_flight : BlockState → Bool
 is_block_state_in_flight Free = false
@@ -42,4 +42,4 @@ AreExactlyTheInFlightBlocks sets bs = (b : ℕ) → IsBlockInFlight sets b ↔ C
 
 -- the blocks of the list are the used ones
 abbrev pub AreExactlyTheUsedBlocks : BlockStateList → List ℕ → Type 0
-AreExactlyTheUsedBlocks sets bs = (b : ℕ) → IsBlockUsed sets b ↔ Contains bs b
+AreExactlyTheUsedBlocks sets bs = (b : ℕ) → IsBlockMarkedUsedInMap sets b ↔ Contains bs b

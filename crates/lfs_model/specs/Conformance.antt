@@ -5,12 +5,12 @@ use Rattle.lfs_model.specs.History.{Read, Program, Erase, DeviceCallEvent}
 
 -- A call that didn't fail conforms. A read left the blocks as they were. A program left its bytes at its place. Neither a program
 -- nor an erase changed another block.
-pub record IsConformingDeviceCall (e : DeviceCallEvent) : Type 0 where
+pub record HasOnlyItsEffectIfSuccessful (e : DeviceCallEvent) : Type 0 where
   pub reads : (block off len : ℕ) → e.call ≡ Read block off len → e.failed ≡ false → e.after ≡ e.before
   pub programs : (block off : ℕ) (bytes : List ℕ) → e.call ≡ Program block off bytes → e.failed ≡ false → e.after ≡ programmed e.before block off bytes
   pub others : (block off : ℕ) (bytes : List ℕ) → e.call ≡ Program block off bytes → e.failed ≡ false → AreBlocksEqualExceptOne block e.before e.after
   pub erases : (block : ℕ) → e.call ≡ Erase block → e.failed ≡ false → AreBlocksEqualExceptOne block e.before e.after
 
 -- each call conforms
-abbrev pub AreConformingDeviceCalls : List DeviceCallEvent → Type 0
-AreConformingDeviceCalls history = All IsConformingDeviceCall history
+abbrev pub DoSuccessfulCallsHaveOnlyTheirEffect : List DeviceCallEvent → Type 0
+DoSuccessfulCallsHaveOnlyTheirEffect history = All HasOnlyItsEffectIfSuccessful history

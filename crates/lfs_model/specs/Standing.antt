@@ -1,7 +1,7 @@
 -- What a device's disk is between its calls.
 use Rattle.std.specs.Prelude.{◌≡◌}
 use Rattle.lfs_model.specs.History.{AreBlocksLeftByNewestCall}
-use Rattle.lfs_model.specs.Conformance.{AreConformingDeviceCalls}
+use Rattle.lfs_model.specs.Conformance.{DoSuccessfulCallsHaveOnlyTheirEffect}
 use Rattle.lfs_model.specs.PowerLoss.{disk_with_blocks}
 use Rattle.lfs_model.specs.Run.{SystemState}
 
@@ -11,4 +11,4 @@ pub record AreStatesOfConformingDevice (from to : SystemState) : Type 0 where
   pub stays : to.calls ≡ from.calls → to.disk ≡ from.disk
   pub same : to.disk ≡ disk_with_blocks to.disk.blocks from.disk
   pub newest : AreBlocksLeftByNewestCall to.calls to.disk.blocks
-  pub conforms : AreConformingDeviceCalls to.calls
+  pub conforms : DoSuccessfulCallsHaveOnlyTheirEffect to.calls

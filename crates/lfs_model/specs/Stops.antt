@@ -12,18 +12,18 @@ HasNoLog block = log_of_block block ≡ None
 
 -- The program of some bytes at an offset was stopped: the log is the one before it, or the one after the whole program. A program
 -- at offset 0 may leave no log.
-abbrev pub IsBlockLeftByStoppedProgramCall : (off : ℕ) (bytes old new : List ℕ) → Type 0
-IsBlockLeftByStoppedProgramCall off bytes old new = SameLog new old ⊎ (SameLog new (bytes_after_overwrite_at old off bytes) ⊎ ((off ≡ 0) × HasNoLog new))
+abbrev pub MayStoppedProgramLeaveBlock : (off : ℕ) (bytes old new : List ℕ) → Type 0
+MayStoppedProgramLeaveBlock off bytes old new = SameLog new old ⊎ (SameLog new (bytes_after_overwrite_at old off bytes) ⊎ ((off ≡ 0) × HasNoLog new))
 
 -- An erase was stopped, or done: the log is the one before it, or there is none.
-abbrev pub IsBlockLeftByStoppedEraseCall : (old new : List ℕ) → Type 0
-IsBlockLeftByStoppedEraseCall old new = SameLog new old ⊎ HasNoLog new
+abbrev pub MayStoppedEraseLeaveBlock : (old new : List ℕ) → Type 0
+MayStoppedEraseLeaveBlock old new = SameLog new old ⊎ HasNoLog new
 
 -- a stop in the call leaves that disk
 abbrev pub are_blocks_after_stopped_call : DeviceCall → Blocks → Blocks → Type 0
 are_blocks_after_stopped_call (Read block off len) before disk = disk ≡ before
-are_blocks_after_stopped_call (Program block off bytes) before disk = AreBlocksEqualExceptOne block before disk × IsBlockLeftByStoppedProgramCall off bytes (block_bytes_by_number before block) (block_bytes_by_number disk block)
-are_blocks_after_stopped_call (Erase block) before disk = AreBlocksEqualExceptOne block before disk × IsBlockLeftByStoppedEraseCall (block_bytes_by_number before block) (block_bytes_by_number disk block)
+are_blocks_after_stopped_call (Program block off bytes) before disk = AreBlocksEqualExceptOne block before disk × MayStoppedProgramLeaveBlock off bytes (block_bytes_by_number before block) (block_bytes_by_number disk block)
+are_blocks_after_stopped_call (Erase block) before disk = AreBlocksEqualExceptOne block before disk × MayStoppedEraseLeaveBlock (block_bytes_by_number before block) (block_bytes_by_number disk block)
 
 abbrev pub AreBlocksLeftByPowerLossInCall : DeviceCallEvent → Blocks → Type 0
 AreBlocksLeftByPowerLossInCall e disk = are_blocks_after_stopped_call e.call e.before disk
@@ -34,7 +34,7 @@ abbrev pub leaves_no_new_log_if_successful_erase : DeviceCall → Bool → Block
 leaves_no_new_log_if_successful_erase (Read block off len) failed before after = Unit {0}
 leaves_no_new_log_if_successful_erase (Program block off bytes) failed before after = Unit {0}
 leaves_no_new_log_if_successful_erase (Erase block) true before after = Unit {0}
-leaves_no_new_log_if_successful_erase (Erase block) false before after = IsBlockLeftByStoppedEraseCall (block_bytes_by_number before block) (block_bytes_by_number after block)
+leaves_no_new_log_if_successful_erase (Erase block) false before after = MayStoppedEraseLeaveBlock (block_bytes_by_number before block) (block_bytes_by_number after block)
 
 abbrev pub LeavesNoNewLogIfSuccessfulErase : DeviceCallEvent → Type 0
 LeavesNoNewLogIfSuccessfulErase e = leaves_no_new_log_if_successful_erase e.call e.failed e.before e.after

@@ -3,8 +3,8 @@
 ghost use Rattle.std.specs.Prelude.{◌≡◌, ℕ, true, false, [], ◌∷◌, map};
 ghost use Rattle.lfs_model.specs.Blocks.{Blocks, block_bytes_by_number};
 ghost use Rattle.lfs_model.specs.History.{DeviceCallEvent, Erase, device_call_event_with_blocks, read_count_of_history, program_count_of_history, erase_count_of_history, fault_count_of_history, is_byte_unprogrammed, AreBytesUnprogrammed, AreBytesStillUnprogrammed, IsTrueOfEachCallSince, AreCallsSinceOnlyReads, ArePossibleBlocksAfterPowerLossInCall, IsTrueAfterAnyPowerLossSince};
-ghost use Rattle.lfs_model.specs.Conformance.{AreConformingDeviceCalls};
-ghost use Rattle.lfs_model.specs.examples.Histories.{two_blocks_after_erase, two_blocks_after_program, history_after_erase, history_after_program, history_after_read, program_event_without_effect, erase_event_of_other_block};
+ghost use Rattle.lfs_model.specs.Conformance.{DoSuccessfulCallsHaveOnlyTheirEffect};
+ghost use Rattle.lfs_model.specs.examples.Histories.{example_blocks_after_erase, example_blocks_after_program, history_after_erase, history_after_program, history_after_read, program_event_without_effect, erase_event_of_other_block};
 
 /// How many reads, programs, erases and faults there were.
 pub fn history_counts_device_calls()
@@ -16,7 +16,7 @@ pub fn history_counts_device_calls()
 pub fn bytes_are_unprogrammed_after_erase()
     ensures bytes { map (is_byte_unprogrammed history_after_read 0) (0 ∷ 1 ∷ 2 ∷ 3 ∷ []) ≡ false ∷ false ∷ true ∷ true ∷ [] }
     ensures never_erased { is_byte_unprogrammed history_after_read 1 0 ≡ false }
-    ensures failed { is_byte_unprogrammed (device_call_event_with_blocks (Erase 0) two_blocks_after_program two_blocks_after_erase true ∷ history_after_read) 0 2 ≡ false }
+    ensures failed { is_byte_unprogrammed (device_call_event_with_blocks (Erase 0) example_blocks_after_program example_blocks_after_erase true ∷ history_after_read) 0 2 ≡ false }
     ensures from_there { AreBytesUnprogrammed history_after_read 0 2 4 }
     ensures not_before { AreBytesUnprogrammed history_after_read 0 1 4 → ⊥ }
     ensures stay { AreBytesStillUnprogrammed (0 ∷ []) history_after_erase history_after_read }
@@ -27,8 +27,8 @@ pub fn bytes_are_unprogrammed_after_erase()
 pub fn device_calls_since_history_share_property()
     ensures succeeded { IsTrueOfEachCallSince (λ (e : DeviceCallEvent). e.failed ≡ false) [] history_after_program }
     ensures one_failed { IsTrueOfEachCallSince (λ (e : DeviceCallEvent). e.failed ≡ false) [] history_after_read → ⊥ }
-    ensures only_read { AreCallsSinceOnlyReads two_blocks_after_program history_after_program history_after_read }
-    ensures not_only { AreCallsSinceOnlyReads two_blocks_after_program history_after_erase history_after_read → ⊥ }
+    ensures only_read { AreCallsSinceOnlyReads example_blocks_after_program history_after_program history_after_read }
+    ensures not_only { AreCallsSinceOnlyReads example_blocks_after_program history_after_erase history_after_read → ⊥ }
 {}
 
 /// What a stop in any of the calls since an older history may leave, at worst.
@@ -39,7 +39,7 @@ pub fn power_loss_changes_only_block_of_call()
 
 /// Each call that didn't fail conforms.
 pub fn calls_conform_unless_failed()
-    ensures conforms { AreConformingDeviceCalls history_after_read }
-    ensures not_programmed { AreConformingDeviceCalls (program_event_without_effect ∷ []) → ⊥ }
-    ensures another_block { AreConformingDeviceCalls (erase_event_of_other_block ∷ []) → ⊥ }
+    ensures conforms { DoSuccessfulCallsHaveOnlyTheirEffect history_after_read }
+    ensures not_programmed { DoSuccessfulCallsHaveOnlyTheirEffect (program_event_without_effect ∷ []) → ⊥ }
+    ensures another_block { DoSuccessfulCallsHaveOnlyTheirEffect (erase_event_of_other_block ∷ []) → ⊥ }
 {}

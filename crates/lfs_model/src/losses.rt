@@ -6,7 +6,7 @@ ghost use Rattle.lfs_model.specs.History.{DeviceCallEvent, Read, device_call_eve
 ghost use Rattle.lfs_model.specs.Disk.{Disk};
 ghost use Rattle.lfs_model.specs.FailedCalls.{AreFailedDeviceCallsLikePowerLossSince};
 ghost use Rattle.lfs_model.specs.Fresh.{empty_tree};
-ghost use Rattle.lfs_model.specs.Conformance.{AreConformingDeviceCalls};
+ghost use Rattle.lfs_model.specs.Conformance.{DoSuccessfulCallsHaveOnlyTheirEffect};
 ghost use Rattle.lfs_model.specs.Operations as ops;
 ghost use Rattle.lfs_model.specs.Operations.{Operation, Reply};
 ghost use Rattle.lfs_model.specs.Run.{HealthySessionHasTreeOfDisk, IsSessionStep, SystemState};
@@ -78,10 +78,10 @@ pub fn operation_surviving_stopped_calls_survives_power_loss()
 
 /// After its last call a device that conforms holds what a stop may leave. So it is also where an error ended the operation.
 pub fn disk_after_last_call_is_power_loss_outcome()
-    ensures left { (disk : Disk) (old new : List DeviceCallEvent) (first last : Blocks) (before after : Tree) → old ≢ [] → AreBlocksLeftByNewestCall old first → AreBlocksLeftByNewestCall new last → AreConformingDeviceCalls new
+    ensures left { (disk : Disk) (old new : List DeviceCallEvent) (first last : Blocks) (before after : Tree) → old ≢ [] → AreBlocksLeftByNewestCall old first → AreBlocksLeftByNewestCall new last → DoSuccessfulCallsHaveOnlyTheirEffect new
         → SurvivesPowerLossInCallsSince disk old new before after → IsTrueOfEachCallSince LeavesNoNewLogIfSuccessfulErase old new → AreFailedDeviceCallsLikePowerLossSince old new
         → HasTreeBeforeOrAfterOperation (disk_with_blocks first disk) before after → HasTreeBeforeOrAfterOperation (disk_with_blocks last disk) before after }
-    ensures called { (from to : SystemState) → from.calls ≢ [] → AreBlocksLeftByNewestCall from.calls from.disk.blocks → AreBlocksLeftByNewestCall to.calls to.disk.blocks → AreConformingDeviceCalls to.calls
+    ensures called { (from to : SystemState) → from.calls ≢ [] → AreBlocksLeftByNewestCall from.calls from.disk.blocks → AreBlocksLeftByNewestCall to.calls to.disk.blocks → DoSuccessfulCallsHaveOnlyTheirEffect to.calls
         → to.disk ≡ disk_with_blocks to.disk.blocks from.disk → AreStatesOfConformingDevice from to }
     ensures survives_loss { (from to : SystemState) (op : Operation) → HealthySessionHasTreeOfDisk from.disk from.state → AreStatesOfConformingDevice from to → IsOperationSurvivingPowerLossInCalls from op to → IsOperationSurvivingPowerLoss from op to }
 

@@ -4,7 +4,7 @@ ghost use Rattle.std.specs.Prelude.{◌≡◌, ◌≤◌, ◌<◌, ◌⊎◌, �
 ghost use Rattle.std.specs.List.{insert};
 ghost use Rattle.std.specs.Option.{option_map};
 ghost use Rattle.lfs_model.specs.Blocks.{Blocks, HasBlocksOfCountAndSize, AreBlocksEqualExceptThese};
-ghost use Rattle.lfs_model.specs.BlockSets.{BlockStateList, IsBlockInFlight, IsBlockUsed, in_flight_block_count, used_count};
+ghost use Rattle.lfs_model.specs.BlockSets.{BlockStateList, IsBlockInFlight, IsBlockMarkedUsedInMap, in_flight_block_count, used_count};
 ghost use Rattle.lfs_model.specs.Content.{RawSlot, RawPairContent, pair_content_if_slots_complete};
 ghost use Rattle.lfs_model.specs.EntryTypes.{file_name_type, directory_name_type, superblock_name_type};
 ghost use Rattle.lfs_model.specs.Cut.{CanSplitSlotsIntoTwoPairs, IsFittingSplitOfSlots};
@@ -73,7 +73,7 @@ pub fn skip_list_keeps_its_bytes()
 /// No more blocks are in flight, or used, than there are in a list that has them all.
 pub fn list_with_all_used_blocks_bounds_their_count()
     ensures flying { (sets : BlockStateList) (bs : List ℕ) → ((b : ℕ) → IsBlockInFlight sets b → Contains bs b) → in_flight_block_count sets ≤ length bs }
-    ensures used { (sets : BlockStateList) (bs : List ℕ) → ((b : ℕ) → IsBlockUsed sets b → Contains bs b) → used_count sets ≤ length bs }
+    ensures used { (sets : BlockStateList) (bs : List ℕ) → ((b : ℕ) → IsBlockMarkedUsedInMap sets b → Contains bs b) → used_count sets ≤ length bs }
 {}
 
 /// A search in the pairs of a directory finds the entry at the name's path, and reads as many pairs as the directory has.

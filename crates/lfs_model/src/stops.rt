@@ -3,7 +3,7 @@
 ghost use Rattle.std.specs.Prelude.{◌≡◌, ℕ, ◌+◌, ◌≤◌, ◌<◌, List, [], ◌∷◌, ◌++◌, length, replicate, take, true, false, Contains};
 ghost use Rattle.lfs_model.specs.Blocks.{Blocks, block_bytes_by_number, programmed};
 ghost use Rattle.lfs_model.specs.History.{DeviceCall, Program, Erase, IsTrueOfEachCallSince, DeviceCallEvent, device_call_event_with_blocks};
-ghost use Rattle.lfs_model.specs.Conformance.{AreConformingDeviceCalls};
+ghost use Rattle.lfs_model.specs.Conformance.{DoSuccessfulCallsHaveOnlyTheirEffect};
 ghost use Rattle.lfs_model.specs.Stops.{are_blocks_after_stopped_call, AreBlocksLeftByPowerLossInCall, LeavesNoNewLogIfSuccessfulErase, HasNoLog};
 ghost use Rattle.lfs_model.specs.PowerLoss.{IsLikePowerLossIfCallFailed};
 ghost use Rattle.lfs_model.specs.Premises.{IsHistoryMeetingPowerLossPremises};
@@ -37,7 +37,7 @@ pub fn stopped_erase_leaves_no_other_log()
 
 /// A call that conforms left what a stop in it may leave.
 pub fn conforming_call_leaves_possible_power_loss_outcome()
-    ensures { (history : List DeviceCallEvent) (e : DeviceCallEvent) → AreConformingDeviceCalls history → Contains history e → e.failed ≡ false → LeavesNoNewLogIfSuccessfulErase e → AreBlocksLeftByPowerLossInCall e e.after }
+    ensures { (history : List DeviceCallEvent) (e : DeviceCallEvent) → DoSuccessfulCallsHaveOnlyTheirEffect history → Contains history e → e.failed ≡ false → LeavesNoNewLogIfSuccessfulErase e → AreBlocksLeftByPowerLossInCall e e.after }
 {}
 
 /// A block of one repeated byte has no log, so an erase that fills a block with a byte leaves none.

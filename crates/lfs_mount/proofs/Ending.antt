@@ -22,7 +22,7 @@ use Rattle.lfs_mount.specs.Described.{AreDescriptionsOfPairsOnDisk}
 use Rattle.lfs_mount.specs.Checked.{BeginsWithSuperblockSlot, HasSuperblockSlotAlone, HasAtMostSuperblockSlot, HasSuperblockChain, IsThreadMatchingMapAndPairDescriptions}
 use Rattle.lfs_mount.specs.Moves.{IsEntryAtIdIfSome, HasEntryAtSlotNamedBySetMove}
 use Rattle.lfs_mount.specs.Passed.{ScansPairsIntoDirectoryGraph}
-use Rattle.lfs_mount.specs.declared.pass.DirectoryPair.{DirectoryPair}
+use Rattle.lfs_mount.specs.declared.pass.PairBeforeSlotsAreRead.{PairBeforeSlotsAreRead}
 use Rattle.lfs_mount.specs.Accepted.{MapUsesExactlyTheseBlocks}
 use Rattle.lfs_mount.proofs.Owned.{owned_more, has_only}
 use Rattle.lfs_mount.proofs.Rules.{behind, without, unmoved-without, IsMovedEntry, lists_of, HaveEntries, passed_rules, thread_shows}
@@ -127,7 +127,7 @@ module _ (disk : Disk) (chain : List Pair) (p : Pair) (rest : List Pair) (bytes 
       omega arith)
 
   -- Ok of the pass: the map has the blocks of the image
-  pub has_blocks : (ms : List DirectoryPair) (sets end : BlockStateList) (graph : DirectoryGraph) → HasExactlyTheseUsedBlocks sets (blocks_of_pairs ps)
+  pub has_blocks : (ms : List PairBeforeSlotsAreRead) (sets end : BlockStateList) (graph : DirectoryGraph) → HasExactlyTheseUsedBlocks sets (blocks_of_pairs ps)
       → AreDescriptionsOfPairsOnDisk disk g true dirs ms → ScansPairsIntoDirectoryGraph disk (addresses_of_first_pairs_of_directories (directories_in_thread ps)) empty_directory_scan sets ms graph end → MapUsesExactlyTheseBlocks sets end (used_blocks disk ps)
   has_blocks ms sets end graph owns members passes =
       let h = passed_rules disk (addresses_of_first_pairs_of_directories (directories_in_thread ps)) g true dirs ms empty_directory_scan sets graph end members passes in
@@ -135,7 +135,7 @@ module _ (disk : Disk) (chain : List Pair) (p : Pair) (rest : List Pair) (bytes 
       has_only sets end (blocks_of_pairs ps) marked (used_blocks disk ps) owns h.lists.marked (used_counted h.kept h.moved)
 
   -- Ok of the pass and of the search
-  pub is_accepted : (ms : List DirectoryPair) (sets end : BlockStateList) (graph : DirectoryGraph) → IsThreadOfMetadataPairs (content_of_pair_at disk) (block_count disk) ps → HasValidMoveOrNone ps g → HasExactlyTheseUsedBlocks sets (blocks_of_pairs ps)
+  pub is_accepted : (ms : List PairBeforeSlotsAreRead) (sets end : BlockStateList) (graph : DirectoryGraph) → IsThreadOfMetadataPairs (content_of_pair_at disk) (block_count disk) ps → HasValidMoveOrNone ps g → HasExactlyTheseUsedBlocks sets (blocks_of_pairs ps)
       → AreDescriptionsOfPairsOnDisk disk g true dirs ms → ScansPairsIntoDirectoryGraph disk (addresses_of_first_pairs_of_directories (directories_in_thread ps)) empty_directory_scan sets ms graph end → IsTreeOfDirectories disk.order ps → IsAcceptedImage disk ps
   is_accepted ms sets end graph thread move owns members passes right =
       let h = passed_rules disk (addresses_of_first_pairs_of_directories (directories_in_thread ps)) g true dirs ms empty_directory_scan sets graph end members passes in
@@ -159,7 +159,7 @@ module _ (disk : Disk) (chain : List Pair) (p : Pair) (rest : List Pair) (bytes 
 
 -- ---- the whole check
 
-pub known_drawn : (disk : Disk) (sets : BlockStateList) (firsts : List (ℕ × ℕ)) (ms : List DirectoryPair) (sync : Bool) (chain : List Pair) (p : Pair) (rest : List Pair) (graph : DirectoryGraph) (end : BlockStateList)
+pub known_drawn : (disk : Disk) (sets : BlockStateList) (firsts : List (ℕ × ℕ)) (ms : List PairBeforeSlotsAreRead) (sync : Bool) (chain : List Pair) (p : Pair) (rest : List Pair) (graph : DirectoryGraph) (end : BlockStateList)
     → IsThreadMatchingMapAndPairDescriptions disk sets firsts ms sync chain p rest → ScansPairsIntoDirectoryGraph disk firsts empty_directory_scan sets ms graph end → IsGraphOfThreadDirectories disk.order graph sync (chain ++ p ∷ rest)
 known_drawn disk sets firsts ms sync chain p rest graph end known passes =
     let ps : List Pair = chain ++ p ∷ rest in
@@ -167,7 +167,7 @@ known_drawn disk sets firsts ms sync chain p rest graph end known passes =
     (thread_shows disk ps ms sets graph end known.thread (subst (λ qs. AreDescriptionsOfPairsOnDisk disk (gstate_of_pairs ps) true qs ms) (sym (pairs_behind chain (p ∷ rest) known.chain_is)) known.described)
     (subst (λ f. ScansPairsIntoDirectoryGraph disk f empty_directory_scan sets ms graph end) known.places passes))
 
-pub checked_accepted : (disk : Disk) (sets : BlockStateList) (firsts : List (ℕ × ℕ)) (ms : List DirectoryPair) (sync : Bool) (chain : List Pair) (p : Pair) (rest : List Pair) (bytes : List ℕ) (graph : DirectoryGraph) (end : BlockStateList)
+pub checked_accepted : (disk : Disk) (sets : BlockStateList) (firsts : List (ℕ × ℕ)) (ms : List PairBeforeSlotsAreRead) (sync : Bool) (chain : List Pair) (p : Pair) (rest : List Pair) (bytes : List ℕ) (graph : DirectoryGraph) (end : BlockStateList)
     → IsThreadMatchingMapAndPairDescriptions disk sets firsts ms sync chain p rest → HasSuperblockChain disk chain p rest bytes → HasValidMoveOrNone (chain ++ p ∷ rest) (gstate_of_pairs (chain ++ p ∷ rest))
     → ScansPairsIntoDirectoryGraph disk firsts empty_directory_scan sets ms graph end → IsTreeOfDirectories disk.order (chain ++ p ∷ rest) → IsAcceptedImage disk (chain ++ p ∷ rest)
 checked_accepted disk sets firsts ms sync chain p rest bytes graph end known head move passes right =
@@ -178,14 +178,14 @@ pub accepted_right : (disk : Disk) (qs : List Pair) → IsAcceptedImage disk qs 
 accepted_right disk qs a = record { tree = record { order = a.order; branches = a.branches; once = a.once }; reached = a.reached }
 
 -- the map has the blocks of the image
-pub checked_blocks : (disk : Disk) (sets : BlockStateList) (firsts : List (ℕ × ℕ)) (ms : List DirectoryPair) (sync : Bool) (chain : List Pair) (p : Pair) (rest : List Pair) (bytes : List ℕ) (graph : DirectoryGraph) (end : BlockStateList)
+pub checked_blocks : (disk : Disk) (sets : BlockStateList) (firsts : List (ℕ × ℕ)) (ms : List PairBeforeSlotsAreRead) (sync : Bool) (chain : List Pair) (p : Pair) (rest : List Pair) (bytes : List ℕ) (graph : DirectoryGraph) (end : BlockStateList)
     → IsThreadMatchingMapAndPairDescriptions disk sets firsts ms sync chain p rest → HasSuperblockChain disk chain p rest bytes → ScansPairsIntoDirectoryGraph disk firsts empty_directory_scan sets ms graph end → MapUsesExactlyTheseBlocks sets end (used_blocks disk (chain ++ p ∷ rest))
 checked_blocks disk sets firsts ms sync chain p rest bytes graph end known head passes =
     has_blocks disk chain p rest bytes known.chain_is head ms sets end graph known.owns known.described
     (subst (λ f. ScansPairsIntoDirectoryGraph disk f empty_directory_scan sets ms graph end) known.places passes)
 
 -- the slot that is moved away is an entry
-pub checked_moved : (disk : Disk) (sets : BlockStateList) (firsts : List (ℕ × ℕ)) (ms : List DirectoryPair) (sync : Bool) (chain : List Pair) (p : Pair) (rest : List Pair) (graph : DirectoryGraph) (end : BlockStateList)
+pub checked_moved : (disk : Disk) (sets : BlockStateList) (firsts : List (ℕ × ℕ)) (ms : List PairBeforeSlotsAreRead) (sync : Bool) (chain : List Pair) (p : Pair) (rest : List Pair) (graph : DirectoryGraph) (end : BlockStateList)
     → IsThreadMatchingMapAndPairDescriptions disk sets firsts ms sync chain p rest → ScansPairsIntoDirectoryGraph disk firsts empty_directory_scan sets ms graph end → HasEntryAtSlotNamedBySetMove (gstate_of_pairs (chain ++ p ∷ rest)) (p ∷ rest)
 checked_moved disk sets firsts ms sync chain p rest graph end known passes =
     let g : Gstate = gstate_of_pairs (chain ++ p ∷ rest) in

@@ -26,7 +26,7 @@ use Rattle.lfs_mount.specs.Passed.{ScansPairsIntoDirectoryGraph, directory_scan_
 use Rattle.lfs_mount.specs.Reaching.{DirectoryGraph, DirectoryVertexWithSoundnessAndBranches}
 use Rattle.lfs_mount.specs.Reads.{check_read_count, read_count_of_file_lists_in_pairs, list_read_count, file_lists_of_described_pair, mount_read_count, pair_read_count, struct_read_count}
 use Rattle.lfs_mount.specs.Taken.{AddsPairToDirectoryScan, slots_after_superblock, raw_slots_not_moved}
-use Rattle.lfs_mount.specs.declared.pass.DirectoryPair.{DirectoryPair}
+use Rattle.lfs_mount.specs.declared.pass.PairBeforeSlotsAreRead.{PairBeforeSlotsAreRead}
 use Rattle.lfs_mount.proofs.KnownThread.{known_thread}
 use Rattle.lfs_mount.proofs.ReadCounts.{takes_lists}
 use Rattle.lfs_mount.proofs.Refuses.{accepted_passes}
@@ -70,7 +70,7 @@ fewer_read f q (s ∷ slots) = go (q s) (fewer_read f q slots)
 -- ---- pairs
 
 -- the lists of a pair that can be taken are those of its visible slots
-taken_lists : (disk : Disk) (firsts : List (ℕ × ℕ)) (g : Gstate) (first : Bool) (p : Pair) (m : DirectoryPair) (known : Name × DirectoryVertexWithSoundnessAndBranches) (sets : BlockStateList) (new : Name × DirectoryVertexWithSoundnessAndBranches) (marked : BlockStateList)
+taken_lists : (disk : Disk) (firsts : List (ℕ × ℕ)) (g : Gstate) (first : Bool) (p : Pair) (m : PairBeforeSlotsAreRead) (known : Name × DirectoryVertexWithSoundnessAndBranches) (sets : BlockStateList) (new : Name × DirectoryVertexWithSoundnessAndBranches) (marked : BlockStateList)
     → IsDescriptionOfPairOnDisk disk g first p m → AddsPairToDirectoryScan disk firsts m known sets new marked → file_lists_of_described_pair disk m ≡ lists_of (entries_not_moved g p)
 taken_lists disk firsts g first p m known sets new marked h t =
     let all = held_slots disk g first p m t.held h t.content in
@@ -84,7 +84,7 @@ taken_lists disk firsts g first p m known sets new marked h t =
     ∙ ap (filter (λ x. not (is_superblock x))) (sym (unmoved-without g p)) in
     takes_lists disk firsts m known new sets marked t ∙ same_lists disk.order firsts known new t.entries s.slots t.scan s.are ∙ ap lists_of (same ∙ seen)
 
-passed_reads : (disk : Disk) (firsts : List (ℕ × ℕ)) (g : Gstate) (first : Bool) (ps : List Pair) (ms : List DirectoryPair) (known : Name × DirectoryVertexWithSoundnessAndBranches) (sets : BlockStateList) (graph : DirectoryGraph) (end : BlockStateList)
+passed_reads : (disk : Disk) (firsts : List (ℕ × ℕ)) (g : Gstate) (first : Bool) (ps : List Pair) (ms : List PairBeforeSlotsAreRead) (known : Name × DirectoryVertexWithSoundnessAndBranches) (sets : BlockStateList) (graph : DirectoryGraph) (end : BlockStateList)
     → AreDescriptionsOfPairsOnDisk disk g first ps ms → ScansPairsIntoDirectoryGraph disk firsts known sets ms graph end
     → sum_by (pair_read_count disk) ms ≤ length ps + sum_by (slot_reads disk.block_size) (flat_map (slots_not_moved g) ps)
 passed_reads disk firsts g first [] [] known sets graph end h t = omega arith
@@ -106,7 +106,7 @@ module _ (disk : Disk) (history : List DeviceCallEvent) (hs : List PairHeader) (
       → count + sum_by (pair_read_count disk) (pair_descriptions_of_headers g true (drop count hs)) ≤ length (pairs_of_headers disk hs) + read_count_of_file_lists_in_pairs disk (pairs_of_headers disk hs)
   directories_read bytes a =
       let ps : List Pair = head.chain ++ head.p ∷ head.rest in
-      let members : List DirectoryPair = pair_descriptions_of_headers g true (drop count hs) in
+      let members : List PairBeforeSlotsAreRead = pair_descriptions_of_headers g true (drop count hs) in
       let known : IsThreadMatchingMapAndDirectoryHeaders disk sets g (drop count hs) head.chain head.p head.rest = known_thread disk history hs sets g count r head in
       let passes = accepted_passes disk head.chain head.p head.rest members [] sets known.chain_is bytes known.sets_len known.owns known.described (subst (IsAcceptedImage disk) head.parts a) in
       let most = passed_reads disk [] (gstate_of_pairs ps) true (head.p ∷ head.rest) members empty_directory_scan sets passes.0 passes.1 known.described passes.2 in

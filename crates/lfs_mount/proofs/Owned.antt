@@ -6,7 +6,7 @@ use Rattle.std.proofs.lemmas.Bool.{cases_eq}
 use Rattle.std.proofs.lemmas.List.{get_or-set_same, get_or-set_other, length-set}
 use Rattle.std.proofs.lemmas.List.Elements.{All-head, All-tail}
 use Rattle.std.proofs.lemmas.Option.{same_Some, slice_get_within, slice_get-get_or, get_or_from_slice_get}
-use Rattle.lfs_model.specs.BlockSets.{AreExactlyTheInFlightBlocks, AreExactlyTheUsedBlocks, BlockState, BlockStateList, IsBlockFree, IsBlockUsed}
+use Rattle.lfs_model.specs.BlockSets.{AreExactlyTheInFlightBlocks, AreExactlyTheUsedBlocks, BlockState, BlockStateList, IsBlockFree, IsBlockMarkedUsedInMap}
 use Rattle.lfs_model.specs.BlockSets.BlockState.{Free, InFlight, Used}
 use Rattle.lfs_model.proofs.BlockSets.{Contains-occurrence_count_of_number, occurrence_count_of_number-Contains}
 use Rattle.lfs_model.proofs.Counts.{occurrence_count_of_number, count_here}
@@ -91,7 +91,7 @@ placed_count b (x ∷ bs) zero e = let h = count_here b bs in subst (λ (y : ℕ
 placed_count b (x ∷ bs) (suc i) e = let h = placed_count b bs i e in omega arith
 
 module _ (sets : BlockStateList) (bs cs : List ℕ) (owns : HasExactlyTheseUsedBlocks sets bs) (same : (b : ℕ) → occurrence_count_of_number b cs ≡ occurrence_count_of_number b bs) where
-  used_if : (b : ℕ) → Contains cs b → IsBlockUsed sets b
+  used_if : (b : ℕ) → Contains cs b → IsBlockMarkedUsedInMap sets b
   used_if b c = let i = counted_place b bs (let k = occurrence_count_of_number-Contains cs b c in let e = same b in omega arith) in owns.used i.0 b i.1
 
   free_if : (b : ℕ) → b < length sets → occurrence_count_of_number b bs ≡ 0 → IsBlockFree sets b

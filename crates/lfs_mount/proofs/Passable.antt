@@ -23,7 +23,7 @@ use Rattle.lfs_mount.specs.Taken.{AddsPairToDirectoryScan, raw_slots_not_moved, 
 use Rattle.lfs_mount.specs.Described.{IsDescriptionOfPairOnDisk, AreDescriptionsOfPairsOnDisk}
 use Rattle.lfs_device.specs.Bytes.{AreAllBlockElementsBelow256}
 use Rattle.lfs_mount.specs.Passed.{directory_scan_kept_only_after_hard_tail, graph_with_ended_directory, ScansPairsIntoDirectoryGraph}
-use Rattle.lfs_mount.specs.declared.pass.DirectoryPair.{DirectoryPair}
+use Rattle.lfs_mount.specs.declared.pass.PairBeforeSlotsAreRead.{PairBeforeSlotsAreRead}
 use Rattle.lfs_mount.proofs.Scans.{entry_none, scan_none}
 use Rattle.lfs_mount.proofs.MarkedLists.{lists_parted}
 use Rattle.lfs_mount.proofs.Rules.{without, behind, IsMovedEntry, held_slots, visible_behind, unmoved-without, starts_without, same_lists, without_moved, without_superblock, lists_of, HaveEntries}
@@ -86,7 +86,7 @@ can_scan by firsts known raws slots h c entries = go (directory_scan_after_slots
 
 -- ---- one pair
 
-pub can_take : (disk : Disk) (firsts : List (ℕ × ℕ)) (g : Gstate) (first : Bool) (p : Pair) (m : DirectoryPair) (known : Name × DirectoryVertexWithSoundnessAndBranches) (sets marked : BlockStateList)
+pub can_take : (disk : Disk) (firsts : List (ℕ × ℕ)) (g : Gstate) (first : Bool) (p : Pair) (m : PairBeforeSlotsAreRead) (known : Name × DirectoryVertexWithSoundnessAndBranches) (sets marked : BlockStateList)
     → AreAllBlockElementsBelow256 disk.blocks → IsDescriptionOfPairOnDisk disk g first p m → All IsFileOrDirectoryEntry (behind first (slots_not_moved g p)) → IsMovedEntry (id_of_moved_slot_in_pair g p) p.content.slots → MarksFreeBlocksOfLists disk sets (lists_of (entries_not_moved g p)) marked
     → (new : Name × DirectoryVertexWithSoundnessAndBranches) × AddsPairToDirectoryScan disk firsts m known sets new marked
 can_take disk firsts g first p m known sets marked bytes h entries moved lists = go (content_after_log_entries empty_raw_pair_content (log_entries_of_block (block_bytes_on_disk disk m.active))) refl
@@ -127,7 +127,7 @@ can_take disk firsts g first p m known sets marked bytes h entries moved lists =
 
 -- ---- all pairs
 
-pub can_pass : (disk : Disk) (firsts : List (ℕ × ℕ)) (g : Gstate) (first : Bool) (ps : List Pair) (ms : List DirectoryPair) (known : Name × DirectoryVertexWithSoundnessAndBranches) (sets end : BlockStateList)
+pub can_pass : (disk : Disk) (firsts : List (ℕ × ℕ)) (g : Gstate) (first : Bool) (ps : List Pair) (ms : List PairBeforeSlotsAreRead) (known : Name × DirectoryVertexWithSoundnessAndBranches) (sets end : BlockStateList)
     → AreAllBlockElementsBelow256 disk.blocks → AreDescriptionsOfPairsOnDisk disk g first ps ms → HaveEntries g first ps → Each (λ p. IsMovedEntry (id_of_moved_slot_in_pair g p) p.content.slots) ps
     → MarksFreeBlocksOfLists disk sets (flat_map (λ p. lists_of (entries_not_moved g p)) ps) end → (graph : DirectoryGraph) × ScansPairsIntoDirectoryGraph disk firsts known sets ms graph end
 can_pass disk firsts g first [] [] known sets end bytes h entries moved lists = ([], (refl, lists.marked))

@@ -28,7 +28,7 @@ use Rattle.lfs_mount.specs.Described.{AreDescriptionsOfPairsOnDisk}
 use Rattle.lfs_device.specs.Bytes.{AreAllBlockElementsBelow256}
 use Rattle.lfs_mount.specs.Checked.{BeginsWithSuperblockSlot}
 use Rattle.lfs_mount.specs.Passed.{ScansPairsIntoDirectoryGraph}
-use Rattle.lfs_mount.specs.declared.pass.DirectoryPair.{DirectoryPair}
+use Rattle.lfs_mount.specs.declared.pass.PairBeforeSlotsAreRead.{PairBeforeSlotsAreRead}
 use Rattle.lfs_mount.proofs.Accepts.{Starting, counted, occurrence_count_of_number-reverse, fronted_pair}
 use Rattle.lfs_mount.proofs.Passable.{can_pass}
 use Rattle.lfs_mount.proofs.Owned.{can_mark}
@@ -160,7 +160,7 @@ begins bytes (s ∷ slots) h = (h.0, h.1)
 
 -- ---- the pass
 
-pub accepted_passes : (disk : Disk) (chain : List Pair) (p : Pair) (rest : List Pair) (ms : List DirectoryPair) (firsts : List (ℕ × ℕ)) (sets : BlockStateList)
+pub accepted_passes : (disk : Disk) (chain : List Pair) (p : Pair) (rest : List Pair) (ms : List PairBeforeSlotsAreRead) (firsts : List (ℕ × ℕ)) (sets : BlockStateList)
     → IsChain chain (p ∷ rest) → AreAllBlockElementsBelow256 disk.blocks → length sets ≡ block_count disk → HasExactlyTheseUsedBlocks sets (blocks_of_pairs (chain ++ p ∷ rest)) → AreDescriptionsOfPairsOnDisk disk (gstate_of_pairs (chain ++ p ∷ rest)) true (p ∷ rest) ms
     → IsAcceptedImage disk (chain ++ p ∷ rest) → (graph : DirectoryGraph) × (end : BlockStateList) × ScansPairsIntoDirectoryGraph disk firsts empty_directory_scan sets ms graph end
 accepted_passes disk chain p rest ms firsts sets chain_is has_bytes len owns members a =

@@ -23,7 +23,7 @@ use Rattle.lfs_mount.specs.Marking.{MarksFreeBlocksOfLists, skip_list_of_entry, 
 use Rattle.lfs_mount.specs.Taken.{AddsPairToDirectoryScan, raw_slots_not_moved, slots_after_superblock, entries_of_described_pair}
 use Rattle.lfs_mount.specs.Described.{IsDescriptionOfPairOnDisk, AreDescriptionsOfPairsOnDisk}
 use Rattle.lfs_mount.specs.Passed.{directory_scan_kept_only_after_hard_tail, graph_with_ended_directory, ScansPairsIntoDirectoryGraph}
-use Rattle.lfs_mount.specs.declared.pass.DirectoryPair.{DirectoryPair}
+use Rattle.lfs_mount.specs.declared.pass.PairBeforeSlotsAreRead.{PairBeforeSlotsAreRead}
 use Rattle.std.proofs.Math.Seq.{drop-nil}
 use Rattle.std.specs.List.{flat_map}
 use Rattle.lfs_model.specs.Disk.{block_count}
@@ -155,7 +155,7 @@ pub record IsTaken (disk : Disk) (firsts : List (ℕ × ℕ)) (g : Gstate) (firs
   pub lists : MarksFreeBlocksOfLists disk sets (lists_of (entries_not_moved g p)) marked
   pub moved : IsMovedEntry (id_of_moved_slot_in_pair g p) p.content.slots
 
-pub kept_parts : (m : DirectoryPair) (raws kept : List RawSlot) → entries_of_described_pair m raws ≡ Some kept → (mid : List RawSlot) × ((raw_slots_not_moved m.moved raws ≡ Some mid) × (slots_after_superblock m.has_superblock mid ≡ Some kept))
+pub kept_parts : (m : PairBeforeSlotsAreRead) (raws kept : List RawSlot) → entries_of_described_pair m raws ≡ Some kept → (mid : List RawSlot) × ((raw_slots_not_moved m.moved raws ≡ Some mid) × (slots_after_superblock m.has_superblock mid ≡ Some kept))
 kept_parts m raws kept e = go (raw_slots_not_moved m.moved raws) refl e
   where
     go : (o : Option (List RawSlot)) → raw_slots_not_moved m.moved raws ≡ o → option_and_then (slots_after_superblock m.has_superblock) o ≡ Some kept
@@ -164,13 +164,13 @@ kept_parts m raws kept e = go (raw_slots_not_moved m.moved raws) refl e
     go (Some mid) f h = (mid, (f, h))
 
 -- what the pair's active block holds is the pair's content
-pub held_slots : (disk : Disk) (g : Gstate) (first : Bool) (p : Pair) (m : DirectoryPair) (held : RawPairContent) → IsDescriptionOfPairOnDisk disk g first p m
+pub held_slots : (disk : Disk) (g : Gstate) (first : Bool) (p : Pair) (m : PairBeforeSlotsAreRead) (held : RawPairContent) → IsDescriptionOfPairOnDisk disk g first p m
     → content_after_log_entries empty_raw_pair_content (log_entries_of_block (block_bytes_on_disk disk m.active)) ≡ Some held → slots_if_names_and_structs_present held.slots ≡ Some p.content.slots
 held_slots disk g first p m held h e =
     (completed_parts held p.content
     (ap (option_and_then pair_content_if_slots_complete) (sym (ap (option_and_then (λ block. content_after_log_entries empty_raw_pair_content (log_entries_of_block block))) h.active ∙ e)) ∙ h.content)).slots
 
-pub taken_rules : (disk : Disk) (firsts : List (ℕ × ℕ)) (g : Gstate) (first : Bool) (p : Pair) (m : DirectoryPair) (known : Name × DirectoryVertexWithSoundnessAndBranches) (sets : BlockStateList) (new : Name × DirectoryVertexWithSoundnessAndBranches) (marked : BlockStateList)
+pub taken_rules : (disk : Disk) (firsts : List (ℕ × ℕ)) (g : Gstate) (first : Bool) (p : Pair) (m : PairBeforeSlotsAreRead) (known : Name × DirectoryVertexWithSoundnessAndBranches) (sets : BlockStateList) (new : Name × DirectoryVertexWithSoundnessAndBranches) (marked : BlockStateList)
     → IsDescriptionOfPairOnDisk disk g first p m → AddsPairToDirectoryScan disk firsts m known sets new marked → IsTaken disk firsts g first p known sets new marked
 taken_rules disk firsts g first p m known sets new marked h t =
     let all = held_slots disk g first p m t.held h t.content in
@@ -209,7 +209,7 @@ ended-vertices : (by : NameOrder) (hard : Bool) (firsts : List (ℕ × ℕ)) (ne
 ended-vertices by true firsts new rest = refl
 ended-vertices by false firsts new rest = refl
 
-pub passed_rules : (disk : Disk) (firsts : List (ℕ × ℕ)) (g : Gstate) (first : Bool) (ps : List Pair) (ms : List DirectoryPair) (known : Name × DirectoryVertexWithSoundnessAndBranches) (sets : BlockStateList) (graph : DirectoryGraph) (end : BlockStateList)
+pub passed_rules : (disk : Disk) (firsts : List (ℕ × ℕ)) (g : Gstate) (first : Bool) (ps : List Pair) (ms : List PairBeforeSlotsAreRead) (known : Name × DirectoryVertexWithSoundnessAndBranches) (sets : BlockStateList) (graph : DirectoryGraph) (end : BlockStateList)
     → AreDescriptionsOfPairsOnDisk disk g first ps ms → ScansPairsIntoDirectoryGraph disk firsts known sets ms graph end → HavePassed disk firsts g first ps known sets graph end
 passed_rules disk firsts g first [] [] known sets graph end h (e, f) =
     record { kept = tt; entries = tt; graph_is = e; lists = record { lists = λ k d lt. absurd (omega arith); marked = f }; moved = tt }
@@ -234,7 +234,7 @@ named_all : (g : Gstate) (ps : List Pair) → Each (λ p. All IsFileOrDirectoryE
 named_all g [] h = tt
 named_all g (p ∷ ps) h = ((λ k d lt. (h.0 k d lt).name), named_all g ps h.1)
 
-pub passed_draws : (disk : Disk) (g : Gstate) (ps : List Pair) (ms : List DirectoryPair) (sets : BlockStateList) (graph : DirectoryGraph) (end : BlockStateList) → Ends ps → AreDescriptionsOfPairsOnDisk disk g true ps ms
+pub passed_draws : (disk : Disk) (g : Gstate) (ps : List Pair) (ms : List PairBeforeSlotsAreRead) (sets : BlockStateList) (graph : DirectoryGraph) (end : BlockStateList) → Ends ps → AreDescriptionsOfPairsOnDisk disk g true ps ms
     → ScansPairsIntoDirectoryGraph disk (addresses_of_first_pairs_of_directories (directories_of_pairs g ps)) empty_directory_scan sets ms graph end → IsGraphOfDirectories disk.order (directories_of_pairs g ps) graph
 passed_draws disk g ps ms sets graph end ends members passes =
     let h = passed_rules disk (addresses_of_first_pairs_of_directories (directories_of_pairs g ps)) g true ps ms empty_directory_scan sets graph end members passes in
@@ -256,7 +256,7 @@ ends_behind (suc n) [] h = tt
 ends_behind (suc n) (p ∷ []) h = subst Ends (sym (drop-nil n)) tt
 ends_behind (suc n) (p ∷ q ∷ ps) h = ends_behind n (q ∷ ps) h
 
-pub thread_shows : (disk : Disk) (ps : List Pair) (ms : List DirectoryPair) (sets : BlockStateList) (graph : DirectoryGraph) (end : BlockStateList) → IsThreadOfMetadataPairs (content_of_pair_at disk) (block_count disk) ps
+pub thread_shows : (disk : Disk) (ps : List Pair) (ms : List PairBeforeSlotsAreRead) (sets : BlockStateList) (graph : DirectoryGraph) (end : BlockStateList) → IsThreadOfMetadataPairs (content_of_pair_at disk) (block_count disk) ps
     → AreDescriptionsOfPairsOnDisk disk (gstate_of_pairs ps) true (pairs_from_root_directory_on ps) ms → ScansPairsIntoDirectoryGraph disk (addresses_of_first_pairs_of_directories (directories_in_thread ps)) empty_directory_scan sets ms graph end → IsGraphOfThreadDirectories disk.order graph (gstate_of_pairs ps).sync ps
 thread_shows disk ps ms sets graph end thread members passes = record {
   distinct = thread.distinct;

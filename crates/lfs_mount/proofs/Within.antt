@@ -22,7 +22,7 @@ use Rattle.lfs_mount.specs.Scanned.{directory_scan_after_slots}
 use Rattle.lfs_mount.specs.Passed.{directory_scan_kept_only_after_hard_tail, graph_with_ended_directory, ScansPairsIntoDirectoryGraph}
 use Rattle.lfs_mount.specs.Described.{AreDescriptionsOfPairsOnDisk}
 use Rattle.lfs_mount.specs.Checked.{HasThreadMatchingMapAndPairDescriptions}
-use Rattle.lfs_mount.specs.declared.pass.DirectoryPair.{DirectoryPair}
+use Rattle.lfs_mount.specs.declared.pass.PairBeforeSlotsAreRead.{PairBeforeSlotsAreRead}
 use Rattle.lfs_mount.specs.declared.reachability.Directory.{Directory}
 use Rattle.lfs_mount.proofs.Ending.{known_drawn}
 
@@ -68,7 +68,7 @@ ended_within : (n : ℕ) (hard : Bool) (new : Name × DirectoryVertexWithSoundne
 ended_within n true new rest h k = k
 ended_within n false new rest h k = (h, k)
 
-passes_within : (disk : Disk) (firsts : List (ℕ × ℕ)) (known : Name × DirectoryVertexWithSoundnessAndBranches) (sets : BlockStateList) (ms : List DirectoryPair) (graph : DirectoryGraph) (end : BlockStateList) → ScansPairsIntoDirectoryGraph disk firsts known sets ms graph end
+passes_within : (disk : Disk) (firsts : List (ℕ × ℕ)) (known : Name × DirectoryVertexWithSoundnessAndBranches) (sets : BlockStateList) (ms : List PairBeforeSlotsAreRead) (graph : DirectoryGraph) (end : BlockStateList) → ScansPairsIntoDirectoryGraph disk firsts known sets ms graph end
     → Below_all (length firsts) known.1 → Each (Below_all (length firsts)) graph
 passes_within disk firsts known sets [] graph end (e, f) h = subst (Each (Below_all (length firsts))) (sym e) tt
 passes_within disk firsts known sets (m ∷ ms) graph end (new, mid, rest, (takes, (e, more))) h =
@@ -87,7 +87,7 @@ some_joined at hard slots [] = omega arith
 some_joined at true slots (d ∷ ds) = omega arith
 some_joined at false slots (d ∷ ds) = omega arith
 
-module _ (disk : Disk) (sets : BlockStateList) (firsts : List (ℕ × ℕ)) (ms : List DirectoryPair) (sync : Bool) (known : HasThreadMatchingMapAndPairDescriptions disk sets firsts ms sync) (by : NameOrder) (ds : List Directory) (end : BlockStateList)
+module _ (disk : Disk) (sets : BlockStateList) (firsts : List (ℕ × ℕ)) (ms : List PairBeforeSlotsAreRead) (sync : Bool) (known : HasThreadMatchingMapAndPairDescriptions disk sets firsts ms sync) (by : NameOrder) (ds : List Directory) (end : BlockStateList)
     (passes : ScansPairsIntoDirectoryGraph disk firsts empty_directory_scan sets ms (directory_graph_view by ds) end) where
   abbrev ps : List Pair
   ps = known.0 ++ known.1 ∷ known.2
@@ -114,11 +114,11 @@ module _ (disk : Disk) (sets : BlockStateList) (firsts : List (ℕ × ℕ)) (ms 
 
 -- ---- the blocks that hold are on the device
 
-each_member : (disk : Disk) (g : Gstate) (is_first : Bool) (qs : List Pair) (ms : List DirectoryPair) → AreDescriptionsOfPairsOnDisk disk g is_first qs ms → Each (λ (m : DirectoryPair). m.active < block_count disk) ms
+each_member : (disk : Disk) (g : Gstate) (is_first : Bool) (qs : List Pair) (ms : List PairBeforeSlotsAreRead) → AreDescriptionsOfPairsOnDisk disk g is_first qs ms → Each (λ (m : PairBeforeSlotsAreRead). m.active < block_count disk) ms
 each_member disk g is_first [] [] h = tt
 each_member disk g is_first [] (m ∷ ms) h = absurd h
 each_member disk g is_first (p ∷ qs) [] h = absurd h
 each_member disk g is_first (p ∷ qs) (m ∷ ms) h = (h.0.within, each_member disk g false qs ms h.1)
 
-pub members_within : (disk : Disk) (g : Gstate) (is_first : Bool) (qs : List Pair) (ms : List DirectoryPair) → AreDescriptionsOfPairsOnDisk disk g is_first qs ms → All (λ (m : DirectoryPair). m.active < block_count disk) ms
-members_within disk g is_first qs ms h = All-from_recursion (λ (m : DirectoryPair). m.active < block_count disk) ms (each_member disk g is_first qs ms h)
+pub members_within : (disk : Disk) (g : Gstate) (is_first : Bool) (qs : List Pair) (ms : List PairBeforeSlotsAreRead) → AreDescriptionsOfPairsOnDisk disk g is_first qs ms → All (λ (m : PairBeforeSlotsAreRead). m.active < block_count disk) ms
+members_within disk g is_first qs ms h = All-from_recursion (λ (m : PairBeforeSlotsAreRead). m.active < block_count disk) ms (each_member disk g is_first qs ms h)

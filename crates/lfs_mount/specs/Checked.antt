@@ -10,7 +10,7 @@ use Rattle.lfs_model.specs.View.{HasInlineStruct, BeginsWithLogEntry, superblock
 use Rattle.lfs_model.specs.Shown.{directories_in_thread}
 use Rattle.lfs_mount.specs.Marking.{HasExactlyTheseUsedBlocks}
 use Rattle.lfs_mount.specs.Described.{AreDescriptionsOfPairsOnDisk}
-use Rattle.lfs_mount.specs.declared.pass.DirectoryPair.{DirectoryPair}
+use Rattle.lfs_mount.specs.declared.pass.PairBeforeSlotsAreRead.{PairBeforeSlotsAreRead}
 use Rattle.lfs_model.specs.Steps.{addresses_of_first_pairs_of_directories}
 
 abbrev pub BeginsWithSuperblockSlot : List ℕ → List Slot → Type 0
@@ -38,7 +38,7 @@ pub record HasSuperblockChain (disk : Disk) (chain : List Pair) (p : Pair) (rest
 
 -- A thread in three parts: the chain before the root's first pair, that pair, and the others. The blocks of its pairs are marked,
 -- and its directories have their places.
-pub record IsThreadMatchingMapAndPairDescriptions (disk : Disk) (sets : BlockStateList) (firsts : List (ℕ × ℕ)) (members : List DirectoryPair) (sync : Bool) (chain : List Pair) (p : Pair) (rest : List Pair) : Type 0 where
+pub record IsThreadMatchingMapAndPairDescriptions (disk : Disk) (sets : BlockStateList) (firsts : List (ℕ × ℕ)) (members : List PairBeforeSlotsAreRead) (sync : Bool) (chain : List Pair) (p : Pair) (rest : List Pair) : Type 0 where
   pub thread : IsThreadOfMetadataPairs (content_of_pair_at disk) (block_count disk) (chain ++ p ∷ rest)
   pub chain_is : pair_count_before_root (chain ++ p ∷ rest) ≡ length chain
   pub sets_len : length sets ≡ block_count disk
@@ -47,5 +47,5 @@ pub record IsThreadMatchingMapAndPairDescriptions (disk : Disk) (sets : BlockSta
   pub places : firsts ≡ addresses_of_first_pairs_of_directories (directories_in_thread (chain ++ p ∷ rest))
   pub sync_is : (gstate_of_pairs (chain ++ p ∷ rest)).sync ≡ sync
 
-abbrev pub HasThreadMatchingMapAndPairDescriptions : Disk → BlockStateList → List (ℕ × ℕ) → List DirectoryPair → Bool → Type 0
+abbrev pub HasThreadMatchingMapAndPairDescriptions : Disk → BlockStateList → List (ℕ × ℕ) → List PairBeforeSlotsAreRead → Bool → Type 0
 HasThreadMatchingMapAndPairDescriptions disk sets firsts members sync = (chain : List Pair) × (p : Pair) × (rest : List Pair) × IsThreadMatchingMapAndPairDescriptions disk sets firsts members sync chain p rest

@@ -4,10 +4,10 @@ use Rattle.lfs_model.specs.Disk.{Disk, block_bytes_on_disk, block_count}
 use Rattle.lfs_model.specs.Content.{current_block_of_pair_at, content_of_pair_at}
 use Rattle.lfs_model.specs.Slots.{Gstate}
 use Rattle.lfs_model.specs.Thread.{Pair, is_hard_tail, starts_with_superblock, id_of_moved_slot_in_pair}
-use Rattle.lfs_mount.specs.declared.pass.DirectoryPair.{DirectoryPair}
+use Rattle.lfs_mount.specs.declared.pass.PairBeforeSlotsAreRead.{PairBeforeSlotsAreRead}
 
 -- The pair is on the disk, and this is what is known of it. The first pair has the superblock.
-pub record IsDescriptionOfPairOnDisk (disk : Disk) (g : Gstate) (is_first : Bool) (p : Pair) (m : DirectoryPair) : Type 0 where
+pub record IsDescriptionOfPairOnDisk (disk : Disk) (g : Gstate) (is_first : Bool) (p : Pair) (m : PairBeforeSlotsAreRead) : Type 0 where
   pub content : content_of_pair_at disk p.at ≡ Some p.content
   pub within : m.active < block_count disk
   pub active : current_block_of_pair_at disk p.at ≡ Some (block_bytes_on_disk disk m.active)
@@ -16,7 +16,7 @@ pub record IsDescriptionOfPairOnDisk (disk : Disk) (g : Gstate) (is_first : Bool
   pub starts : is_first ≡ true → starts_with_superblock p.content.slots ≡ true
   pub moved : m.moved ≡ id_of_moved_slot_in_pair g p
 
-abbrev pub AreDescriptionsOfPairsOnDisk : Disk → Gstate → Bool → List Pair → List DirectoryPair → Type 0
+abbrev pub AreDescriptionsOfPairsOnDisk : Disk → Gstate → Bool → List Pair → List PairBeforeSlotsAreRead → Type 0
 AreDescriptionsOfPairsOnDisk disk g is_first [] [] = Unit {0}
 AreDescriptionsOfPairsOnDisk disk g is_first [] (m ∷ ms) = ⊥
 AreDescriptionsOfPairsOnDisk disk g is_first (p ∷ ps) [] = ⊥

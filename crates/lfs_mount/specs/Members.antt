@@ -13,7 +13,7 @@ use Rattle.lfs_pair.specs.Pair.{pair_address_in_header}
 use Rattle.lfs_thread.specs.Kept.{PairHeader, IsKeptThreadOnDisk, pairs_of_headers}
 use Rattle.lfs_thread.specs.Places.{blocks_of_pair_addresses}
 use Rattle.lfs_mount.specs.Checked.{HasThreadMatchingMapAndPairDescriptions, IsThreadMatchingMapAndPairDescriptions}
-use Rattle.lfs_mount.specs.declared.pass.DirectoryPair.{DirectoryPair}
+use Rattle.lfs_mount.specs.declared.pass.PairBeforeSlotsAreRead.{PairBeforeSlotsAreRead}
 
 abbrev pub header_has_hard_tail : PairHeader → Bool
 header_has_hard_tail h = is_hard_tail (option_map tail_view h.tail)
@@ -22,7 +22,7 @@ header_has_hard_tail h = is_hard_tail (option_map tail_view h.tail)
 abbrev pub id_of_moved_slot_at_address : Gstate → ℕ × ℕ → Option ℕ
 id_of_moved_slot_at_address g at = if g.kind == 0x4ff && same_pair g.pair at then Some g.id else None
 
-abbrev pub pair_description_of_header : Gstate → Bool → PairHeader → DirectoryPair
+abbrev pub pair_description_of_header : Gstate → Bool → PairHeader → PairBeforeSlotsAreRead
 pair_description_of_header g is_first h = record {
   active = h.active;
   is_hard = header_has_hard_tail h;
@@ -31,7 +31,7 @@ pair_description_of_header g is_first h = record {
 }
 
 -- what is known of these pairs, of which the first has the superblock
-abbrev pub pair_descriptions_of_headers : Gstate → Bool → List PairHeader → List DirectoryPair
+abbrev pub pair_descriptions_of_headers : Gstate → Bool → List PairHeader → List PairBeforeSlotsAreRead
 pair_descriptions_of_headers g is_first [] = []
 pair_descriptions_of_headers g is_first (h ∷ hs) = pair_description_of_header g is_first h ∷ pair_descriptions_of_headers g false hs
 

@@ -11,18 +11,18 @@ use Rattle.lfs_model.specs.Log.{log_entries_of_block}
 use Rattle.lfs_thread.specs.Reading.{read_count_of_thread_headers}
 use Rattle.lfs_mount.specs.Marking.{file_lists_of_raw_slots}
 use Rattle.lfs_mount.specs.Taken.{entries_of_described_pair}
-use Rattle.lfs_mount.specs.declared.pass.DirectoryPair.{DirectoryPair}
+use Rattle.lfs_mount.specs.declared.pass.PairBeforeSlotsAreRead.{PairBeforeSlotsAreRead}
 
 -- the reads of a list: one for each block
 abbrev pub list_read_count : ℕ → ℕ × ℕ → ℕ
 list_read_count block_size l = list_block_count_for_size block_size l.1
 
 -- the head and the size of each list in a pair
-abbrev pub file_lists_of_described_pair : Disk → DirectoryPair → List (ℕ × ℕ)
+abbrev pub file_lists_of_described_pair : Disk → PairBeforeSlotsAreRead → List (ℕ × ℕ)
 file_lists_of_described_pair disk member = option_map_or file_lists_of_raw_slots (option_and_then (λ c. entries_of_described_pair member c.slots) (content_after_log_entries empty_raw_pair_content (log_entries_of_block (block_bytes_on_disk disk member.active)))) []
 
 -- the reads of a pair: one, and those of its lists
-abbrev pub pair_read_count : Disk → DirectoryPair → ℕ
+abbrev pub pair_read_count : Disk → PairBeforeSlotsAreRead → ℕ
 pair_read_count disk member = 1 + sum_by (list_read_count disk.block_size) (file_lists_of_described_pair disk member)
 
 -- the reads of a file's list, if it has one

@@ -21,7 +21,7 @@ ghost use Rattle.lfs_mount.specs.Reads.{check_read_count, mount_read_count, pair
 ghost use Rattle.lfs_mount.specs.Start.{allocation_seed};
 
 use crate::check::check_slots_and_mark_lists_of_thread;
-use crate::members::{directory_addresses_of_pairs, make_directory_pairs_from_headers};
+use crate::members::{first_pair_addresses_of_all_directories, make_directory_pairs_from_headers};
 use crate::moves::check_move;
 use crate::orders::NameOrderSet;
 use crate::superblock_chain::superblock_chain_length;
@@ -158,7 +158,7 @@ fn check_directories<D: BlockDevice>(
     ensures few { OnOk result (read_count_of_history (D.history device.new) ≤ read_count_of_history (D.history device.old) + sum_by (pair_read_count (disk_of_device D.BlockDevice device.old)) (pair_descriptions_of_headers (move_view state.now) true pairs.now)) }
 {
     let members = make_directory_pairs_from_headers(alloc, state, pairs)?;
-    let places = directory_addresses_of_pairs(alloc, pairs)?;
+    let places = first_pair_addresses_of_all_directories(alloc, pairs)?;
     let orders = check_slots_and_mark_lists_of_thread(
         alloc, device, map, &places, &members, state.sync,
     )?;

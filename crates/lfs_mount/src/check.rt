@@ -15,7 +15,7 @@ ghost use Rattle.lfs_mount.specs.Orders.{includes_name_order};
 ghost use Rattle.lfs_mount.specs.Reads.{pair_read_count};
 
 use crate::orders::NameOrderSet;
-use crate::pass::{DirectoryPair, scan_pairs_and_mark_lists};
+use crate::pass::{PairBeforeSlotsAreRead, scan_pairs_and_mark_lists};
 use crate::reachability::name_orders_that_make_directories_a_tree;
 use lfs_alloc::BlockMap;
 use lfs_device::{BlockDevice, Error};
@@ -42,7 +42,7 @@ pub(crate) fn check_slots_and_mark_lists_of_thread<D: BlockDevice>(
     device: &mut D,
     map: &mut BlockMap,
     places: &PairAddressList,
-    members: &[DirectoryPair],
+    members: &[PairBeforeSlotsAreRead],
     sync: bool,
 ) -> Result<NameOrderSet, Error>
     requires { HasThreadMatchingMapAndPairDescriptions (disk_of_device D.BlockDevice device.old) map.old places.now members.now sync }

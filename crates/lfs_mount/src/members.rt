@@ -7,7 +7,7 @@ ghost use Rattle.lfs_tag.specs.FieldsView.{move_view};
 ghost use Rattle.lfs_thread.specs.Places.{blocks_of_pair_addresses};
 ghost use Rattle.lfs_mount.specs.Members.{directory_addresses_in_headers, pair_description_of_header, pair_descriptions_of_headers, id_of_moved_slot_at_address};
 
-use crate::pass::DirectoryPair;
+use crate::pass::PairBeforeSlotsAreRead;
 use lfs_device::Error;
 use lfs_pair::{Pair, is_same_pair};
 use lfs_tag::kinds::DELETE;
@@ -27,10 +27,10 @@ fn moved_slot_id_at(state: &MoveState, at: [u32; 2]) -> Option<u32>
     }
 }
 
-fn make_directory_pair_from_header(state: &MoveState, is_first: bool, pair: &Pair) -> DirectoryPair
+fn make_directory_pair_from_header(state: &MoveState, is_first: bool, pair: &Pair) -> PairBeforeSlotsAreRead
     ensures { result ≡ pair_description_of_header (move_view state.now) is_first pair.now }
 {
-    DirectoryPair {
+    PairBeforeSlotsAreRead {
         active: pair.active,
         is_hard: has_hard_tail(pair.tail),
         has_superblock: is_first,
@@ -43,7 +43,7 @@ pub(crate) fn make_directory_pairs_from_headers(
     alloc: Global,
     state: &MoveState,
     pairs: &[Pair],
-) -> Result<Vec<DirectoryPair>, Error>
+) -> Result<Vec<PairBeforeSlotsAreRead>, Error>
     ensures members { IfOk result (λ members. members.items ≡ pair_descriptions_of_headers (move_view state.now) true pairs.now) }
     ensures error { IfErr result (λ e. e ≡ Error.NoMemory) }
 {
@@ -56,7 +56,7 @@ pub(crate) fn make_directory_pairs_from_headers(
 }
 
 // Returns the addresses of the directories of these pairs, from the root's first pair on.
-pub(crate) fn directory_addresses_of_pairs(
+pub(crate) fn first_pair_addresses_of_all_directories(
     alloc: Global,
     pairs: &[Pair],
 ) -> Result<PairAddressList, Error>

@@ -30,7 +30,7 @@ use std::alloc::Global;
 
 // What is known of a directory's pair before its slots are read.
 #[derive(Clone, Copy, Drop)]
-pub(crate) struct DirectoryPair {
+pub(crate) struct PairBeforeSlotsAreRead {
     // The pair's active block.
     pub active: u32,
     // Whether the tail is hard: then the next pair continues the directory.
@@ -91,7 +91,7 @@ fn scan_pair_and_mark_lists<D: BlockDevice>(
     map: &mut BlockMap,
     places: &PairAddressList,
     known: &mut ScannedDirectory,
-    member: &DirectoryPair,
+    member: &PairBeforeSlotsAreRead,
 ) -> Result<(), Error>
     requires { member.now.active < (D.geometry device.old).block_count }
     ensures taken { OnOk result ((order : NameOrder) → AddsPairToDirectoryScan (disk_with_name_order order (disk_of_device D.BlockDevice device.old)) places.now member.now (directory_scan_view order known.old) map.old (directory_scan_view order known.new) map.new) }
@@ -117,7 +117,7 @@ pub(crate) fn scan_pairs_and_mark_lists<D: BlockDevice>(
     device: &mut D,
     map: &mut BlockMap,
     places: &PairAddressList,
-    members: &[DirectoryPair],
+    members: &[PairBeforeSlotsAreRead],
 ) -> Result<Vec<Directory>, Error>
     requires { All (λ m. m.active < (D.geometry device.old).block_count) members.now }
     ensures taken { IfOk result (λ ds. (order : NameOrder) → ScansPairsIntoDirectoryGraph (disk_with_name_order order (disk_of_device D.BlockDevice device.old)) places.now empty_directory_scan map.old members.now (directory_graph_view order ds.items) map.new) }

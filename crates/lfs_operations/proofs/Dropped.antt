@@ -5,7 +5,7 @@ use Rattle.std.specs.List.{flat_map}
 use Rattle.std.proofs.lemmas.List.Elements.{All-from_recursion, recursion_from_All}
 use Rattle.std.proofs.lemmas.List.Concat.{flat_map-append}
 use Rattle.std.proofs.lemmas.Option.{same_Some}
-use Rattle.lfs_model.specs.BlockSets.{AreExactlyTheUsedBlocks, BlockStateList, BlockState, IsBlockInFlight, IsBlockUsed}
+use Rattle.lfs_model.specs.BlockSets.{AreExactlyTheUsedBlocks, BlockStateList, BlockState, IsBlockInFlight, IsBlockMarkedUsedInMap}
 use Rattle.lfs_model.specs.BlockSets.BlockState.{Free, InFlight, Used}
 use Rattle.lfs_model.specs.Content.{content_of_pair_at, current_block_of_pair_at}
 use Rattle.lfs_model.specs.Disk.{Disk}
@@ -176,10 +176,10 @@ module _ (sets : BlockStateList) (at : ℕ × ℕ) (us vs : List ℕ) (used : Ar
   pub used_fewer : AreExactlyTheUsedBlocks (block_map_with_freed_pair sets at) vs
   used_fewer b = go (nat_eq b at.0) (nat_eq b at.1) refl refl (less b)
     where
-      gone : slice_get (block_map_with_freed_pair sets at) b ≡ Some Free → occurrence_count_of_number b vs ≡ 0 → IsBlockUsed (block_map_with_freed_pair sets at) b ↔ Contains vs b
+      gone : slice_get (block_map_with_freed_pair sets at) b ≡ Some Free → occurrence_count_of_number b vs ≡ 0 → IsBlockMarkedUsedInMap (block_map_with_freed_pair sets at) b ↔ Contains vs b
       gone free none = ((λ h. absurd (not_both {a = Free} {b = Used} (λ k. absurd (cc)) free h)), (λ h. absurd (let n = occurrence_count_of_number-Contains vs b h in omega arith)))
 
-      go : (x y : Bool) → nat_eq b at.0 ≡ x → nat_eq b at.1 ≡ y → occurrence_count_of_number b vs + (cond x 1 0 + (cond y 1 0 + 0)) ≡ occurrence_count_of_number b us → IsBlockUsed (block_map_with_freed_pair sets at) b ↔ Contains vs b
+      go : (x y : Bool) → nat_eq b at.0 ≡ x → nat_eq b at.1 ≡ y → occurrence_count_of_number b vs + (cond x 1 0 + (cond y 1 0 + 0)) ≡ occurrence_count_of_number b us → IsBlockMarkedUsedInMap (block_map_with_freed_pair sets at) b ↔ Contains vs b
       go true y e f l = gone (ap (slice_get (block_map_with_freed_pair sets at)) (eqb-true b at.0 e) ∙ first_free) (let o = once b in omega arith)
       go false true e f l = gone (ap (slice_get (block_map_with_freed_pair sets at)) (eqb-true b at.1 f) ∙ second_free) (let o = once b in omega arith)
       go false false e f l =

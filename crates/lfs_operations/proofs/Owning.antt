@@ -5,7 +5,7 @@ use Rattle.std.specs.List.{flat_map}
 use Rattle.std.proofs.lemmas.List.Elements.{recursion_from_All}
 use Rattle.std.proofs.lemmas.List.Concat.{flat_map-append}
 use Rattle.lfs_model.specs.Disk.{Disk}
-use Rattle.lfs_model.specs.BlockSets.{AreExactlyTheUsedBlocks, BlockStateList, IsBlockFree, IsBlockInFlight, IsBlockUsed}
+use Rattle.lfs_model.specs.BlockSets.{AreExactlyTheUsedBlocks, BlockStateList, IsBlockFree, IsBlockInFlight, IsBlockMarkedUsedInMap}
 use Rattle.lfs_model.specs.BlockSets.BlockState.{Free, InFlight, Used}
 use Rattle.lfs_model.specs.Slots.{Slot}
 use Rattle.lfs_model.specs.Thread.{Pair, blocks_of_pairs, gstate_of_pairs}
@@ -184,10 +184,10 @@ module _ (sets : BlockStateList) (fresh : ℕ × ℕ) (two : AreTwoFreeBlocks se
   pub used_more : (us vs : List ℕ) → ((b : ℕ) → occurrence_count_of_number b vs ≡ occurrence_count_of_number b (fresh.0 ∷ fresh.1 ∷ []) + occurrence_count_of_number b us) → AreExactlyTheUsedBlocks sets us → AreExactlyTheUsedBlocks now vs
   used_more us vs more used b = go (nat_eq b fresh.0) (nat_eq b fresh.1) refl refl (more b)
     where
-      both : slice_get now b ≡ Some Used → 1 ≤ occurrence_count_of_number b vs → IsBlockUsed now b ↔ Contains vs b
+      both : slice_get now b ≡ Some Used → 1 ≤ occurrence_count_of_number b vs → IsBlockMarkedUsedInMap now b ↔ Contains vs b
       both is some = ((λ h. Contains-occurrence_count_of_number vs b some), (λ h. is))
 
-      go : (x y : Bool) → nat_eq b fresh.0 ≡ x → nat_eq b fresh.1 ≡ y → occurrence_count_of_number b vs ≡ (cond x 1 0 + (cond y 1 0 + 0)) + occurrence_count_of_number b us → IsBlockUsed now b ↔ Contains vs b
+      go : (x y : Bool) → nat_eq b fresh.0 ≡ x → nat_eq b fresh.1 ≡ y → occurrence_count_of_number b vs ≡ (cond x 1 0 + (cond y 1 0 + 0)) + occurrence_count_of_number b us → IsBlockMarkedUsedInMap now b ↔ Contains vs b
       go true y e f m = both (ap (slice_get now) (eqb-true b fresh.0 e) ∙ first_used) (omega arith)
       go false true e f m = both (ap (slice_get now) (eqb-true b fresh.1 f) ∙ second_used) (omega arith)
       go false false e f m =

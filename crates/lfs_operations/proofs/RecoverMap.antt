@@ -4,7 +4,7 @@ use Rattle.std.specs.Prelude.{Contains, ◌↔◌}
 use Rattle.std.specs.List.{flat_map}
 use Rattle.std.proofs.lemmas.Bool.{eqb-false}
 use Rattle.std.proofs.lemmas.List.Concat.{flat_map-append}
-use Rattle.lfs_model.specs.BlockSets.{AreExactlyTheUsedBlocks, IsBlockUsed}
+use Rattle.lfs_model.specs.BlockSets.{AreExactlyTheUsedBlocks, IsBlockMarkedUsedInMap}
 use Rattle.lfs_model.specs.BlockSets.BlockState.{Free, Used}
 use Rattle.lfs_model.specs.Disk.{Disk, SameGeometry, block_count}
 use Rattle.lfs_model.specs.Slots.{Slot}
@@ -49,7 +49,7 @@ module _ (now new : KeptThread) (x : Pair) (lists : List ℕ)
   pub map_frees : (gone : List ℕ) → new.map ≡ block_map_with_freed_pair now.map x.at → block_count new.disk ≡ block_count now.disk → HasMap now gone → HasMap new (gone ++ lists)
   map_frees gone map_is blocks h = record {
     owned = owned;
-    are = λ b. subst (λ m. IsBlockUsed m b ↔ Contains owned b) (sym map_is) (go b (nat_eq b x.at.0) (nat_eq b x.at.1) refl refl);
+    are = λ b. subst (λ m. IsBlockMarkedUsedInMap m b ↔ Contains owned b) (sym map_is) (go b (nat_eq b x.at.0) (nat_eq b x.at.1) refl refl);
     same = λ b. count_append b (used_blocks new.disk new.pairs) (gone ++ lists);
     once = λ b. let l = less b in let o = h.once b in omega arith;
     size = ap length map_is ∙ length-set (set now.map x.at.0 Free) x.at.1 Free ∙ length-set now.map x.at.0 Free ∙ h.size ∙ sym blocks;
@@ -67,7 +67,7 @@ module _ (now new : KeptThread) (x : Pair) (lists : List ℕ)
           omega arith
 
       -- one of the pair's blocks
-      freed : (b : ℕ) → 1 ≤ occurrence_count_of_number b (blocks_of_pairs (x ∷ [])) → (IsBlockUsed (block_map_with_freed_pair now.map x.at) b → ⊥) → IsBlockUsed (block_map_with_freed_pair now.map x.at) b ↔ Contains owned b
+      freed : (b : ℕ) → 1 ≤ occurrence_count_of_number b (blocks_of_pairs (x ∷ [])) → (IsBlockMarkedUsedInMap (block_map_with_freed_pair now.map x.at) b → ⊥) → IsBlockMarkedUsedInMap (block_map_with_freed_pair now.map x.at) b ↔ Contains owned b
       freed b some free = (
         (λ used. absurd (free used)),
         (λ has. absurd (let k = occurrence_count_of_number-Contains owned b has in let l = less b in let o = h.once b in omega arith)),
@@ -76,7 +76,7 @@ module _ (now new : KeptThread) (x : Pair) (lists : List ℕ)
       used_within : (b : ℕ) → 1 ≤ occurrence_count_of_number b (blocks_of_pairs (x ∷ [])) → b < length now.map
       used_within b some = within now.map b Used ((h.are b).1 (Contains-occurrence_count_of_number h.owned b (let l = less b in omega arith)))
 
-      go : (b : ℕ) (u v : Bool) → nat_eq b x.at.0 ≡ u → nat_eq b x.at.1 ≡ v → IsBlockUsed (block_map_with_freed_pair now.map x.at) b ↔ Contains owned b
+      go : (b : ℕ) (u v : Bool) → nat_eq b x.at.0 ≡ u → nat_eq b x.at.1 ≡ v → IsBlockMarkedUsedInMap (block_map_with_freed_pair now.map x.at) b ↔ Contains owned b
       go b u true e f =
           let same : b ≡ x.at.1 = eqb-true b x.at.1 f in
           let some : 1 ≤ occurrence_count_of_number b (blocks_of_pairs (x ∷ [])) = subst (λ t. 1 ≤ cond (nat_eq b x.at.0) 1 0 + (cond t 1 0 + 0)) (sym f) (omega arith) in

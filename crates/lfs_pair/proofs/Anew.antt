@@ -7,7 +7,7 @@ use Rattle.lfs_model.specs.Commit.{encoded_size_of_log_entries, page_aligned_com
 use Rattle.lfs_model.specs.WrittenContent.{IsRawContentFittingPair, log_entries_of_content}
 use Rattle.lfs_model.specs.LoggedContent.{AreNamedSlots, IsWellFormedRawPairContent, IsStorableRawPairContent}
 use Rattle.lfs_model.specs.History.{DeviceCallEvent, device_call_event_with_blocks, Erase, IsTrueOfEachCallSince, IsTrueAfterAnyPowerLossSince}
-use Rattle.lfs_model.specs.Stops.{IsBlockLeftByStoppedEraseCall, LeavesNoNewLogIfSuccessfulErase, AreBlocksLeftByPowerLossInCall}
+use Rattle.lfs_model.specs.Stops.{MayStoppedEraseLeaveBlock, LeavesNoNewLogIfSuccessfulErase, AreBlocksLeftByPowerLossInCall}
 use Rattle.lfs_model.proofs.Appended.{appended_content}
 use Rattle.lfs_model.proofs.Histories.{began, goes_on, goes_on_by, IsTrueAfterAnyPowerLossSince-weaker, IsTrueOfEachCallSince-until, IsTrueOfEachCallSince-only}
 use Rattle.lfs_model.proofs.Overwrites.{AreBlocksEqualExceptOne-trans}
@@ -64,7 +64,7 @@ anew_holds {c = c} {old = old} new is sound gets =
 
 -- ---- what a stop on the way there leaves
 
-left_by_erase : {block revision : ℕ} {c : RawPairContent} {old : Blocks} (disk : Blocks) → AreBlocksEqualExceptOne block old disk × IsBlockLeftByStoppedEraseCall (block_bytes_by_number old block) (block_bytes_by_number disk block)
+left_by_erase : {block revision : ℕ} {c : RawPairContent} {old : Blocks} (disk : Blocks) → AreBlocksEqualExceptOne block old disk × MayStoppedEraseLeaveBlock (block_bytes_by_number old block) (block_bytes_by_number disk block)
     → DiffersOnlyInBlockAsPropertyAllows block (PowerLossLeavesOldLogOrRewrittenContent revision c) old disk
 left_by_erase disk left = (left.0, elim left.1 [ inl same ↦ inl same | inr none ↦ inr (inl none) ])
 
@@ -72,7 +72,7 @@ pub leaves_erase : {block revision : ℕ} {c : RawPairContent} {old mid : Blocks
     → IsTrueAfterAnyPowerLossSince AreBlocksLeftByPowerLossInCall before after (DiffersOnlyInBlockAsPropertyAllows block (PowerLossLeavesOldLogOrRewrittenContent revision c) old)
 leaves_erase is = goes_on began is left_by_erase
 
-left_anew : {b : CommitBeingBuilt} {size page revision : ℕ} {c : RawPairContent} (old mid left : List ℕ) → b ≡ anew size page revision c → IsStorableRawPairContent c → IsBlockLeftByStoppedEraseCall old mid
+left_anew : {b : CommitBeingBuilt} {size page revision : ℕ} {c : RawPairContent} (old mid left : List ℕ) → b ≡ anew size page revision c → IsStorableRawPairContent c → MayStoppedEraseLeaveBlock old mid
     → PowerLossLeavesOldLogOrCommit b 0 mid left → PowerLossLeavesOldLogOrRewrittenContent revision c old left
 left_anew old mid left is sound erased stopped = elim stopped [
   | inl same ↦ elim erased [ inl was ↦ inl (same ∙ was) | inr none ↦ inr (inl (same ∙ none)) ]
@@ -88,7 +88,7 @@ pub leaves_anew : {b : CommitBeingBuilt} {size page revision block : ℕ} {c : R
     → IsTrueAfterAnyPowerLossSince AreBlocksLeftByPowerLossInCall before after (DiffersOnlyInBlockAsPropertyAllows block (PowerLossLeavesOldLogOrRewrittenContent revision c) old)
 leaves_anew {revision = revision} {block = block} {c = c} {old = old} {mid = mid} {before = before} {erased = erased} is sound same here behind clean =
     let first : IsTrueAfterAnyPowerLossSince AreBlocksLeftByPowerLossInCall before erased (DiffersOnlyInBlockAsPropertyAllows block (PowerLossLeavesOldLogOrRewrittenContent revision c) old) = leaves_erase here in
-    let left : IsBlockLeftByStoppedEraseCall (block_bytes_by_number old block) (block_bytes_by_number mid block) = IsTrueOfEachCallSince-only (IsTrueOfEachCallSince-until clean first behind) here in
+    let left : MayStoppedEraseLeaveBlock (block_bytes_by_number old block) (block_bytes_by_number mid block) = IsTrueOfEachCallSince-only (IsTrueOfEachCallSince-until clean first behind) here in
     goes_on_by first (IsTrueAfterAnyPowerLossSince-weaker (λ disk stopped. (AreBlocksEqualExceptOne-trans same stopped.0, left_anew (block_bytes_by_number old block) (block_bytes_by_number mid block) (block_bytes_by_number disk block) is sound left stopped.1)) behind)
 
 -- ---- where it ends

@@ -5,7 +5,7 @@ use Rattle.lfs_model.specs.Blocks.{Blocks, block_bytes_by_number, bytes_after_ov
 use Rattle.lfs_model.specs.Log.{LogEntry, chain_of}
 use Rattle.lfs_model.specs.Content.{has_commit}
 use Rattle.lfs_model.specs.Commit.{four_bytes_from_offset}
-use Rattle.lfs_model.specs.Stops.{SameLog, IsBlockLeftByStoppedProgramCall}
+use Rattle.lfs_model.specs.Stops.{SameLog, MayStoppedProgramLeaveBlock}
 use Rattle.lfs_tag.specs.Builder.{CommitBeingBuilt, ArePagesOfCommit, IsOffsetForCommitInBlock, earlier_commits_of_block, padded_commit_end, checksum_entry}
 use Rattle.lfs_pair.specs.Writing.{LogGetsCommit, PowerLossLeavesOldLogOrCommit, DiffersOnlyInBlockAsPropertyAllows}
 use Rattle.lfs_pair.proofs.SameLogs.{commits_same, revision_same}
@@ -48,7 +48,7 @@ gets_commit {b} {next} {pages} {at} {block} into = record {
   revision = into.commit.revision block at into.goes into.room;
 }
 
-pub left_by_commit : {b : CommitBeingBuilt} {next : Option (List ℕ)} {pages : List ℕ} {at : ℕ} {block : List ℕ} (left : List ℕ) → GoInto b next pages at block → IsBlockLeftByStoppedProgramCall at pages block left → PowerLossLeavesOldLogOrCommit b at block left
+pub left_by_commit : {b : CommitBeingBuilt} {next : Option (List ℕ)} {pages : List ℕ} {at : ℕ} {block : List ℕ} (left : List ℕ) → GoInto b next pages at block → MayStoppedProgramLeaveBlock at pages block left → PowerLossLeavesOldLogOrCommit b at block left
 left_by_commit left into stopped = elim stopped [
   | inl same ↦ inl same
   | inr more ↦ elim more [
@@ -59,7 +59,7 @@ left_by_commit left into stopped = elim stopped [
 
 -- the same among other blocks
 pub left_in_block : {b : CommitBeingBuilt} {next : Option (List ℕ)} {pages : List ℕ} {at block : ℕ} {old before : Blocks} (disk : Blocks) → before ≡ old → GoInto b next pages at (block_bytes_by_number old block)
-    → AreBlocksEqualExceptOne block before disk × IsBlockLeftByStoppedProgramCall at pages (block_bytes_by_number before block) (block_bytes_by_number disk block) → DiffersOnlyInBlockAsPropertyAllows block (PowerLossLeavesOldLogOrCommit b at) old disk
+    → AreBlocksEqualExceptOne block before disk × MayStoppedProgramLeaveBlock at pages (block_bytes_by_number before block) (block_bytes_by_number disk block) → DiffersOnlyInBlockAsPropertyAllows block (PowerLossLeavesOldLogOrCommit b at) old disk
 left_in_block {pages = pages} {at = at} {block = block} disk is into stopped =
-    let same = subst (λ d. AreBlocksEqualExceptOne block d disk × IsBlockLeftByStoppedProgramCall at pages (block_bytes_by_number d block) (block_bytes_by_number disk block)) is stopped in
+    let same = subst (λ d. AreBlocksEqualExceptOne block d disk × MayStoppedProgramLeaveBlock at pages (block_bytes_by_number d block) (block_bytes_by_number disk block)) is stopped in
     (same.0, left_by_commit (block_bytes_by_number disk block) into same.1)

@@ -104,7 +104,7 @@ pub record IsCommitAppended (page : ℕ) (was : Pair) (changes : List PairConten
 
 -- A compaction erases once, and keeps the block that was active. It writes the content anew into the other block, with the next
 -- revision and up to the next page boundary.
-pub record IsCompacted (page : ℕ) (was : Pair) (c : RawPairContent) (old new : Blocks) (before after : List DeviceCallEvent) (pair : Pair) : Type 0 where
+pub record IsPairRewrittenInOtherBlock (page : ℕ) (was : Pair) (c : RawPairContent) (old new : Blocks) (before after : List DeviceCallEvent) (pair : Pair) : Type 0 where
   pub active : pair.active ≢ was.active
   pub anew : IsBlockWrittenAnew ((was.revision + 1) % 2 ^ 32) c (block_bytes_by_number new pair.active) before after
   pub end : pair.end ≡ page_aligned_commit_end page (4 + encoded_size_of_log_entries (log_entries_of_content c))
@@ -127,7 +127,7 @@ pub record CannotAppendAndLeavesDeviceUnchanged {D : Type 0} (g : Ghosts D) (cha
 pub record CompactsToContent (old : Disk) (before : List DeviceCallEvent) (was : Pair) (c : RawPairContent) (disk : Disk) (history : List DeviceCallEvent) (pair : Pair) : Type 0 where
   pub holds : PairHasContent disk history (pair_address_in_header was) pair c
   pub first : KeepsFirstEntryOfPairLog old (pair_address_in_header was) (Some c) disk
-  pub compacted : IsCompacted old.page was c old.blocks disk.blocks before history pair
+  pub compacted : IsPairRewrittenInOtherBlock old.page was c old.blocks disk.blocks before history pair
 
 -- A commit that is done: what the changes make fits the pair, and the pair has it. It is appended where that is possible, and
 -- else written anew.
@@ -139,7 +139,7 @@ pub record CommitsChangesToPair (old : Disk) (before : List DeviceCallEvent) (ch
   pub holds : PairHasContent disk history (pair_address_in_header was) pair new
   pub first : KeepsFirstEntryOfPairLog old (pair_address_in_header was) (Some new) disk
   pub appended : CanAppendChanges old was changes → IsCommitAppended old.page was changes old.blocks disk.blocks before history pair
-  pub compacted : (CanAppendChanges old was changes → ⊥) → IsCompacted old.page was new old.blocks disk.blocks before history pair
+  pub compacted : (CanAppendChanges old was changes → ⊥) → IsPairRewrittenInOtherBlock old.page was new old.blocks disk.blocks before history pair
 
 -- A commit that is refused: what the changes make doesn't fit the pair, neither as a log's content nor, where each slot is
 -- complete, as slots. The header is as before, and nothing was written.

@@ -8,7 +8,7 @@ use lfs_tag::{Log, Tag};
 
 // What is read of a block to decide whether it is its pair's active one.
 #[derive(Clone, Copy, Drop)]
-pub(crate) struct BlockLogEnd {
+pub(crate) struct ActiveBlockCandidate {
     pub has_commit: bool,
     pub revision: u32,
     // Where the log ends in bytes, and its last tag.
@@ -16,16 +16,16 @@ pub(crate) struct BlockLogEnd {
     pub last: Tag,
 }
 
-impl BlockLogEnd {
+impl ActiveBlockCandidate {
     // Reads the head of a block with these bytes.
-    pub(crate) fn of(bytes: &[u8]) -> BlockLogEnd
+    pub(crate) fn of(bytes: &[u8]) -> ActiveBlockCandidate
         ensures has_commit { result.has_commit ≡ has_commit bytes.now }
         ensures revision { result.revision ≡ revision_of_block bytes.now }
         ensures end { result.end ≡ (chain_of bytes.now).end }
         ensures last { result.last ≡ (chain_of bytes.now).last }
     {
         let log = Log::read(bytes);
-        BlockLogEnd {
+        ActiveBlockCandidate {
             has_commit: log.has_commit(),
             revision: log.revision(),
             end: log.end(),

@@ -10,7 +10,7 @@ ghost use Rattle.lfs_model.specs.Log.{chain_of, log_entries_of_block, revision_o
 ghost use Rattle.lfs_model.specs.Content.{raw_content_of_pair_at, content_after_log_entries, empty_raw_pair_content, RawPairContent};
 ghost use Rattle.lfs_pair.specs.Pair.{HeaderDescribesLog, FetchFindsPair, read_count_of_pair_fetch, pair_blocks_later_revision_first};
 
-use crate::block_logs::BlockLogEnd;
+use crate::block_logs::ActiveBlockCandidate;
 use crate::pair::Pair;
 use byteorder::{ByteOrder, LittleEndian};
 use lfs_device::{BlockDevice, Error, read_block};
@@ -22,7 +22,7 @@ fn header_of_fetched_pair(
     alloc: Global,
     blocks: [u32; 2],
     active: u32,
-    head: BlockLogEnd,
+    head: ActiveBlockCandidate,
     bytes: &[u8],
 ) -> Result<Pair, Error>
     requires end { head.end ≡ (chain_of bytes.now).end }
@@ -114,12 +114,12 @@ pub fn fetch<D: BlockDevice>(alloc: Global, dev: &mut D, blocks: [u32; 2]) -> Re
 {
     let [later, other] = blocks_with_later_revision_first(dev, blocks)?;
     let bytes = read_block(alloc, dev, later)?;
-    let head = BlockLogEnd::of(&bytes);
+    let head = ActiveBlockCandidate::of(&bytes);
     if head.has_commit {
         return header_of_fetched_pair(alloc, blocks, later, head, &bytes);
     }
     let other_bytes = read_block(alloc, dev, other)?;
-    let other_head = BlockLogEnd::of(&other_bytes);
+    let other_head = ActiveBlockCandidate::of(&other_bytes);
     if !other_head.has_commit {
         return Err(Error::Corrupt);
     }

@@ -72,7 +72,7 @@ pub(crate) fn program_commit_at<D: BlockDevice>(
 {
     let end = at + builder.end();
     let next = read_four_block_bytes_at_offset(dev, block, end)?;
-    let last = builder.last_tag_of_commit(next);
+    let last = builder.checksum_tag_as_previous_of_next_commit(next);
     let pages = builder.finish(next)?;
     dev.prog(block, at, pages)?;
     Ok(WrittenCommit {

@@ -1,7 +1,7 @@
 -- The kinds of words that options want.
 use Rattle.std.proofs.Common.{◌≡◌, ◌∙◌, ◌+◌, ◌<◌, ◌∷◌, ◌≤◌, ℕ, zero, suc, false, true, List, [], Some, ap, arith, drop, length, refl}
 use Rattle.std.specs.Str.{bytes_eq}
-use Rattle.lfs_script_lines.specs.Kinds.{Bytes, Keyword, WordKind, NoOption, Number, word_kinds_of_keyword_or_keyword_with_word, word_kinds_of_erased_option, word_kinds_of_fault_option, word_kinds_of_command, word_kinds_of_order_option, word_kinds_of_stop_option, word_kind_for_failing_call_name}
+use Rattle.lfs_script_lines.specs.Kinds.{Bytes, Keyword, WordKind, NoOption, Number, word_kinds_of_keyword_or_keyword_with_word, word_kinds_of_erased_option, word_kinds_of_fault_option, word_kinds_of_command, word_kinds_of_order_option, word_kinds_of_stop_option, word_kind_of_call_named_to_fail}
 use Rattle.lfs_script_lines.specs.Lines.{word_at}
 use Rattle.lfs_script_lines.specs.declared.names.CommandName.TheVariants as command
 
@@ -51,11 +51,11 @@ leading_choice alone leading kind words place word at within two known =
 -- ---- a fault
 
 pub fault_given : (words : List (List ℕ)) (which : List ℕ) → word_at words 1 ≡ Some which → 2 < length words
-    → word_kinds_of_fault_option (drop 1 words) ≡ word_kind_for_failing_call_name which ∷ Number ∷ word_kinds_of_stop_option (drop 3 words)
+    → word_kinds_of_fault_option (drop 1 words) ≡ word_kind_of_call_named_to_fail which ∷ Number ∷ word_kinds_of_stop_option (drop 3 words)
 fault_given [] which at long = absurd (omega arith)
 fault_given (a ∷ []) which at long = absurd (omega arith)
 fault_given (a ∷ b ∷ []) which at long = absurd (omega arith)
-fault_given (a ∷ b ∷ c ∷ words) which at long = let same : b ≡ which = (cc) in ap (λ w. word_kind_for_failing_call_name w ∷ Number ∷ word_kinds_of_stop_option words) same
+fault_given (a ∷ b ∷ c ∷ words) which at long = let same : b ≡ which = (cc) in ap (λ w. word_kind_of_call_named_to_fail w ∷ Number ∷ word_kinds_of_stop_option words) same
 
 -- ---- a device
 

@@ -69,15 +69,15 @@ word_kinds_of_stop_option [] = []
 word_kinds_of_stop_option (word ∷ words) = if bytes_eq word (codes "stop") then Keyword ∷ word_kinds_of_fault_extent_option words else word_kinds_of_fault_extent_option (word ∷ words)
 
 -- the calls of which one fails
-abbrev pub word_kind_for_failing_call_name : List ℕ → WordKind
-word_kind_for_failing_call_name word =
+abbrev pub word_kind_of_call_named_to_fail : List ℕ → WordKind
+word_kind_of_call_named_to_fail word =
     if bytes_eq word (codes "any") || bytes_eq word (codes "read") || bytes_eq word (codes "program") || bytes_eq word (codes "erase") then Keyword else NoOption
 
 -- nothing, or which call fails, and behind it how
 abbrev pub word_kinds_of_fault_option : List (List ℕ) → List WordKind
 word_kinds_of_fault_option [] = []
 word_kinds_of_fault_option (_ ∷ []) = NoOption ∷ []
-word_kinds_of_fault_option (which ∷ _ ∷ words) = word_kind_for_failing_call_name which ∷ Number ∷ word_kinds_of_stop_option words
+word_kinds_of_fault_option (which ∷ _ ∷ words) = word_kind_of_call_named_to_fail which ∷ Number ∷ word_kinds_of_stop_option words
 
 -- `entries`, the type of an attribute or nothing: how much is compared
 abbrev pub word_kinds_of_scope_option : List (List ℕ) → List WordKind

@@ -1,7 +1,7 @@
 // The options behind commands' names.
 
 ghost use Rattle.std.specs.Prelude.{◌≡◌, ◌+◌, ◌<◌, ◌≤◌, ◌∷◌, [], IfErr, IfNone, IsTrue, Ok, OnSome, drop, length};
-ghost use Rattle.lfs_script_lines.specs.Kinds.{Keyword, WordKind, NoOption, word_kinds_of_keyword_or_keyword_with_word, word_kinds_of_erased_option, word_kinds_of_fault_extent_option, word_kinds_of_fault_option, word_kinds_of_order_option, word_kinds_of_scope_option, word_kinds_of_stop_option, word_kind_for_failing_call_name};
+ghost use Rattle.lfs_script_lines.specs.Kinds.{Keyword, WordKind, NoOption, word_kinds_of_keyword_or_keyword_with_word, word_kinds_of_erased_option, word_kinds_of_fault_extent_option, word_kinds_of_fault_option, word_kinds_of_order_option, word_kinds_of_scope_option, word_kinds_of_stop_option, word_kind_of_call_named_to_fail};
 ghost use Rattle.lfs_script_lines.specs.Lines.{IsErrorOfWordsNotMatchingKinds, texts_of_borrowed_words};
 
 use crate::arguments::{
@@ -64,7 +64,7 @@ fn choose_keyword_or_keyword_with_word(
 
 // Returns the kind of calls that a word names, if it names one.
 fn call_kind_of_word(word: &[u8]) -> Option<CountedCalls>
-    ensures { IfNone result (word_kind_for_failing_call_name word.now ≡ NoOption) }
+    ensures { IfNone result (word_kind_of_call_named_to_fail word.now ≡ NoOption) }
 {
     if is_keyword(word, b"any") {
         Some(CountedCalls::Any)

@@ -188,7 +188,7 @@ impl<'a> CommitBuilder<'a> {
     /// Returns the commit's last tag, as the next tag in the block is stored with it. `next` is the
     /// argument that [`finish`](CommitBuilder::finish) will get. The caller's condition is that the
     /// commit fits the buffer.
-    pub fn last_tag_of_commit(&self, next: Option<[u8; 4]>) -> Tag
+    pub fn checksum_tag_as_previous_of_next_commit(&self, next: Option<[u8; 4]>) -> Tag
         requires { padded_commit_end self.now ≤ self.now.room }
         ensures { result ≡ tag_for_decoding_next_tag (checksum_entry_tag self.now next) }
     {

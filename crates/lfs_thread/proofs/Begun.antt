@@ -9,7 +9,7 @@ use Rattle.std.proofs.lemmas.List.Elements.{recursion_from_All}
 use Rattle.lfs_device.specs.declared.device.BlockDevice.{Ghosts}
 use Rattle.lfs_device.specs.Calls.{ReadsOnly}
 use Rattle.lfs_model.specs.Blocks.{Blocks}
-use Rattle.lfs_model.specs.BlockSets.{Free, InFlight, Used, AreExactlyTheInFlightBlocks, BlockStateList, IsBlockFree, IsBlockInFlight, IsBlockUsed}
+use Rattle.lfs_model.specs.BlockSets.{Free, InFlight, Used, AreExactlyTheInFlightBlocks, BlockStateList, IsBlockFree, IsBlockInFlight, IsBlockMarkedUsedInMap}
 use Rattle.lfs_model.specs.Disk.{Disk, block_count}
 use Rattle.lfs_model.specs.History.{DeviceCallEvent, AreCallsSinceOnlyReads}
 use Rattle.lfs_model.specs.Slots.{PairContent}
@@ -58,7 +58,7 @@ fetched_stands disk history at pair sets on f full first second =
 
 -- ---- nothing is read yet
 
-none_used : (n b : ℕ) → IsBlockUsed (replicate n Free) b → ⊥
+none_used : (n b : ℕ) → IsBlockMarkedUsedInMap (replicate n Free) b → ⊥
 none_used zero b u = absurd (cc)
 none_used (suc n) zero u = absurd (cc)
 none_used (suc n) (suc b) u = none_used n b u
@@ -81,7 +81,7 @@ begun_none disk history n e = record {
 
 -- ---- one more
 
-all_used : (sets : BlockStateList) (bs : List ℕ) → ((b : ℕ) → Contains bs b → IsBlockUsed sets b) → AreAllBlocksUsed sets bs
+all_used : (sets : BlockStateList) (bs : List ℕ) → ((b : ℕ) → Contains bs b → IsBlockMarkedUsedInMap sets b) → AreAllBlocksUsed sets bs
 all_used sets [] f = tt
 all_used sets (b ∷ bs) f = (f b (Contains-occurrence_count_of_number (b ∷ bs) b (let k = count_here b bs in omega arith)), all_used sets bs (λ c h. f c (Contains-occurrence_count_of_number (b ∷ bs) c (let k = occurrence_count_of_number-Contains bs c h in let l = more c b bs in omega arith))))
   where
@@ -119,10 +119,10 @@ module _ (disk : Disk) (blocks : Blocks) (before after : List DeviceCallEvent) (
   second_within : at.1 < length (set sets at.0 Used)
   second_within = let l = slice_get_within sets at.1 Free stands.second_free in let e = length-set sets at.0 Used in omega arith
 
-  first_used : IsBlockUsed now at.0
+  first_used : IsBlockMarkedUsedInMap now at.0
   first_used = slice_get-set_other (set sets at.0 Used) at.1 at.0 Used stands.apart ∙ slice_get-set_same sets at.0 Used first_within
 
-  second_used : IsBlockUsed now at.1
+  second_used : IsBlockMarkedUsedInMap now at.1
   second_used = slice_get-set_same (set sets at.0 Used) at.1 Used second_within
 
   other_same : (b : ℕ) → b ≢ at.0 → b ≢ at.1 → slice_get now b ≡ slice_get sets b
@@ -138,9 +138,9 @@ module _ (disk : Disk) (blocks : Blocks) (before after : List DeviceCallEvent) (
       go (inr k) (inl l) = inl (inr l.1)
       go (inr k) (inr l) = inr (k.1, l.1)
 
-  one_of : (b : ℕ) → (b ≡ at.0) ⊎ (b ≡ at.1) → (IsBlockUsed now b) × (1 ≤ occurrence_count_of_number b (at.0 ∷ at.1 ∷ []))
-  one_of b (inl e) = (subst (IsBlockUsed now) (sym e) first_used, (let k = ap (λ x. occurrence_count_of_number x (at.0 ∷ at.1 ∷ [])) e in let l = count_here at.0 (at.1 ∷ []) in omega arith))
-  one_of b (inr e) = (subst (IsBlockUsed now) (sym e) second_used, (let k = ap (λ x. occurrence_count_of_number x (at.0 ∷ at.1 ∷ [])) e in let l = count_here at.1 [] in let m = more at.1 at.0 (at.1 ∷ []) in omega arith))
+  one_of : (b : ℕ) → (b ≡ at.0) ⊎ (b ≡ at.1) → (IsBlockMarkedUsedInMap now b) × (1 ≤ occurrence_count_of_number b (at.0 ∷ at.1 ∷ []))
+  one_of b (inl e) = (subst (IsBlockMarkedUsedInMap now) (sym e) first_used, (let k = ap (λ x. occurrence_count_of_number x (at.0 ∷ at.1 ∷ [])) e in let l = count_here at.0 (at.1 ∷ []) in omega arith))
+  one_of b (inr e) = (subst (IsBlockMarkedUsedInMap now) (sym e) second_used, (let k = ap (λ x. occurrence_count_of_number x (at.0 ∷ at.1 ∷ [])) e in let l = count_here at.1 [] in let m = more at.1 at.0 (at.1 ∷ []) in omega arith))
     where
       more : (x b : ℕ) (bs : List ℕ) → occurrence_count_of_number x bs ≤ occurrence_count_of_number x (b ∷ bs)
       more x b bs = omega arith
@@ -154,10 +154,10 @@ module _ (disk : Disk) (blocks : Blocks) (before after : List DeviceCallEvent) (
       go (inr k) (inl l) = absurd (g l.1)
       go (inr k) (inr l) = rw (k.0, l.0) refl
 
-  marked_now : (b : ℕ) → IsBlockUsed now b ↔ Contains (blocks_of_pairs (pairs_of_headers disk (hs ++ h ∷ []))) b
+  marked_now : (b : ℕ) → IsBlockMarkedUsedInMap now b ↔ Contains (blocks_of_pairs (pairs_of_headers disk (hs ++ h ∷ []))) b
   marked_now b = (to, from)
     where
-      to : IsBlockUsed now b → Contains (blocks_of_pairs (pairs_of_headers disk (hs ++ h ∷ []))) b
+      to : IsBlockMarkedUsedInMap now b → Contains (blocks_of_pairs (pairs_of_headers disk (hs ++ h ∷ []))) b
       to u = go (which b)
         where
           go : ((b ≡ at.0) ⊎ (b ≡ at.1)) ⊎ ((b ≢ at.0) × (b ≢ at.1)) → Contains (blocks_of_pairs (pairs_of_headers disk (hs ++ h ∷ []))) b
@@ -165,25 +165,25 @@ module _ (disk : Disk) (blocks : Blocks) (before after : List DeviceCallEvent) (
           go (inr k) = Contains-occurrence_count_of_number (blocks_of_pairs (pairs_of_headers disk (hs ++ h ∷ []))) b
               (let e = counts b in let l = occurrence_count_of_number-Contains (blocks_of_pairs (pairs_of_headers disk hs)) b ((begun.marked b).0 (sym (other_same b k.0 k.1) ∙ u)) in omega arith)
 
-      from : Contains (blocks_of_pairs (pairs_of_headers disk (hs ++ h ∷ []))) b → IsBlockUsed now b
+      from : Contains (blocks_of_pairs (pairs_of_headers disk (hs ++ h ∷ []))) b → IsBlockMarkedUsedInMap now b
       from c = go (which b)
         where
-          go : ((b ≡ at.0) ⊎ (b ≡ at.1)) ⊎ ((b ≢ at.0) × (b ≢ at.1)) → IsBlockUsed now b
+          go : ((b ≡ at.0) ⊎ (b ≡ at.1)) ⊎ ((b ≢ at.0) × (b ≢ at.1)) → IsBlockMarkedUsedInMap now b
           go (inl k) = (one_of b k).0
           go (inr k) = other_same b k.0 k.1 ∙ (begun.marked b).1 (Contains-occurrence_count_of_number (blocks_of_pairs (pairs_of_headers disk hs)) b
               (let e = counts b in let l = occurrence_count_of_number-Contains (blocks_of_pairs (pairs_of_headers disk (hs ++ h ∷ []))) b c in let m = no_other b k.0 k.1 in omega arith))
 
-  others_now : (b : ℕ) → b < length now → IsBlockUsed now b ⊎ IsBlockFree now b
+  others_now : (b : ℕ) → b < length now → IsBlockMarkedUsedInMap now b ⊎ IsBlockFree now b
   others_now b l = go (which b)
     where
       was : b < length sets
       was = let e = length-set (set sets at.0 Used) at.1 Used in let f = length-set sets at.0 Used in omega arith
 
-      go : ((b ≡ at.0) ⊎ (b ≡ at.1)) ⊎ ((b ≢ at.0) × (b ≢ at.1)) → IsBlockUsed now b ⊎ IsBlockFree now b
+      go : ((b ≡ at.0) ⊎ (b ≡ at.1)) ⊎ ((b ≢ at.0) × (b ≢ at.1)) → IsBlockMarkedUsedInMap now b ⊎ IsBlockFree now b
       go (inl k) = inl (one_of b k).0
       go (inr k) = side (begun.others b was)
         where
-          side : IsBlockUsed sets b ⊎ IsBlockFree sets b → IsBlockUsed now b ⊎ IsBlockFree now b
+          side : IsBlockMarkedUsedInMap sets b ⊎ IsBlockFree sets b → IsBlockMarkedUsedInMap now b ⊎ IsBlockFree now b
           side (inl u) = inl (other_same b k.0 k.1 ∙ u)
           side (inr f) = inr (other_same b k.0 k.1 ∙ f)
 
@@ -230,7 +230,7 @@ begun_none_in_flight disk history hs sets next begun b = (
   λ (none : Contains [] b). absurd (let below : none.0 < 0 = none.1 in omega arith),
 )
   where
-    go : IsBlockInFlight sets b → IsBlockUsed sets b ⊎ IsBlockFree sets b → ⊥
+    go : IsBlockInFlight sets b → IsBlockMarkedUsedInMap sets b ⊎ IsBlockFree sets b → ⊥
     go flies (inl used) = absurd (let e : Some InFlight ≡ Some Used = sym flies ∙ used in cc)
     go flies (inr free) = absurd (let e : Some InFlight ≡ Some Free = sym flies ∙ free in cc)
 
@@ -280,10 +280,10 @@ begun_ends disk history hs sets at begun cannot ps t = go (begun.only ps t).0 (b
             let l = each_counted (λ x. x < block_count disk) (blocks_of_pairs ps) (recursion_from_All (λ (x : ℕ). x < block_count disk) (blocks_of_pairs ps) t.in_range) b (let m = parts b in omega arith) in
             let s = begun.size in omega arith
 
-        free : (b : ℕ) → b < length sets → ¬ IsBlockUsed sets b → IsBlockFree sets b
+        free : (b : ℕ) → b < length sets → ¬ IsBlockMarkedUsedInMap sets b → IsBlockFree sets b
         free b l unused = side (begun.others b l)
           where
-            side : IsBlockUsed sets b ⊎ IsBlockFree sets b → IsBlockFree sets b
+            side : IsBlockMarkedUsedInMap sets b ⊎ IsBlockFree sets b → IsBlockFree sets b
             side (inl u) = absurd (unused u)
             side (inr f) = f
 

@@ -6,7 +6,7 @@ use Rattle.lfs_device.specs.declared.device.BlockDevice.{Ghosts}
 use Rattle.lfs_device.specs.declared.geometry.Geometry.{Geometry}
 use Rattle.lfs_device.specs.Shown.{disk_of_geometry_and_blocks}
 use Rattle.lfs_model.specs.Blocks.{Blocks, block_bytes_by_number}
-use Rattle.lfs_model.specs.BlockSets.{BlockStateList, IsBlockUsed}
+use Rattle.lfs_model.specs.BlockSets.{BlockStateList, IsBlockMarkedUsedInMap}
 use Rattle.lfs_model.specs.Cache.{CachedBlocks, cached_bytes_of_block}
 use Rattle.lfs_model.specs.Content.{pair_content_if_slots_complete}
 use Rattle.lfs_model.specs.Disk.{Disk}
@@ -56,7 +56,7 @@ module _ (disk : Disk) (blocks : Blocks) (before after : List DeviceCallEvent) (
       (was second (let m = count_here second rest in let k = behind second first (second ∷ rest) in omega arith)).same)
       (pairs_beside hs (λ b k. was b (let m = behind b first (second ∷ rest) in let n = behind b second rest in omega arith)))
 
-pub used_beside : (sets later : BlockStateList) (bs : List ℕ) → AreAllBlocksUsed sets bs → ((b : ℕ) → 1 ≤ occurrence_count_of_number b bs → IsBlockUsed sets b → IsBlockUsed later b) → AreAllBlocksUsed later bs
+pub used_beside : (sets later : BlockStateList) (bs : List ℕ) → AreAllBlocksUsed sets bs → ((b : ℕ) → 1 ≤ occurrence_count_of_number b bs → IsBlockMarkedUsedInMap sets b → IsBlockMarkedUsedInMap later b) → AreAllBlocksUsed later bs
 used_beside sets later [] used f = tt
 used_beside sets later (b ∷ bs) used f = (f b (let m = count_here b bs in omega arith) used.0, used_beside sets later bs used.1 (λ c k. f c (let m = behind c b bs in omega arith)))
 

@@ -9,7 +9,7 @@ use Rattle.lfs_device.specs.declared.error.Error.TheVariants.{Io, NoMemory}
 use Rattle.lfs_cache.specs.Read.{ReadsBlockUnlessCached, whole_block_read_event}
 use Rattle.std.proofs.lemmas.List.{length-map, map-append}
 use Rattle.std.proofs.lemmas.List.Concat.{flat_map-append}
-use Rattle.lfs_model.specs.BlockSets.{BlockStateList, IsBlockUsed}
+use Rattle.lfs_model.specs.BlockSets.{BlockStateList, IsBlockMarkedUsedInMap}
 use Rattle.lfs_model.specs.Cache.{CachedBlocks, cached_bytes_of_block, cache_without_block}
 use Rattle.lfs_model.proofs.Cache.{cached_bytes_of_block-without_other}
 use Rattle.lfs_model.specs.Disk.{Disk, block_bytes_on_disk, block_count}
@@ -99,20 +99,20 @@ module _ (disk : Disk) (history : List DeviceCallEvent) (hs : List PairHeader) (
 
   -- ---- the reads of a step
 
-  active_used : IsBlockUsed sets h.active
+  active_used : IsBlockMarkedUsedInMap sets h.active
   active_used =
       let all = subst (λ z. AreAllBlocksUsed sets (blocks_of_pairs (pairs_of_headers disk z))) a.parts kept.used in
       let parts = subst (λ ps. AreAllBlocksUsed sets (blocks_of_pairs ps)) (map-append (λ x. pair_on_disk_at disk (pair_address_in_header x)) a.front (h ∷ a.back)) all in
       let cut = subst (AreAllBlocksUsed sets) (flat_map-append (λ (s : Pair). s.at.0 ∷ s.at.1 ∷ []) (pairs_of_headers disk a.front) (pairs_of_headers disk (h ∷ a.back))) parts in
       let right = used_right sets (blocks_of_pairs (pairs_of_headers disk a.front)) (blocks_of_pairs (pairs_of_headers disk (h ∷ a.back))) cut in
-      one_of_both (IsBlockUsed sets) right.0 right.1.0
+      one_of_both (IsBlockMarkedUsedInMap sets) right.0 right.1.0
 
   -- where two blocks in flight are no longer cached, this one still is
   pub cached_beside : (fresh : ℕ × ℕ) → AreFreshBlocksInFlight sets fresh → (cache now : CachedBlocks) → now ≡ cache_without_block (cache_without_block cache fresh.0) fresh.1 → cached_bytes_of_block now h.active ≡ cached_bytes_of_block cache h.active
   cached_beside fresh held cache now is =
       ap (λ z. cached_bytes_of_block z h.active) is
-      ∙ cached_bytes_of_block-without_other (cache_without_block cache fresh.0) fresh.1 h.active (λ e. in_flight_unused sets fresh.1 held.second (subst (IsBlockUsed sets) e active_used))
-      ∙ cached_bytes_of_block-without_other cache fresh.0 h.active (λ e. in_flight_unused sets fresh.0 held.first (subst (IsBlockUsed sets) e active_used))
+      ∙ cached_bytes_of_block-without_other (cache_without_block cache fresh.0) fresh.1 h.active (λ e. in_flight_unused sets fresh.1 held.second (subst (IsBlockMarkedUsedInMap sets) e active_used))
+      ∙ cached_bytes_of_block-without_other cache fresh.0 h.active (λ e. in_flight_unused sets fresh.0 held.first (subst (IsBlockMarkedUsedInMap sets) e active_used))
 
   -- in the words of the thread
   pub reading_there : {D : Type 0} (g : Ghosts D) (old new : D) (blocks : ℕ × ℕ → List ℕ) (base : ℕ) (cache : CachedBlocks) → ChangesOnlyBlocksWithinReadLimit g (base + read_count_unless_cached (cached_bytes_of_block cache h.active)) (blocks (pair_address_in_header h)) old new

@@ -4,7 +4,7 @@ use Rattle.std.specs.Prelude.{IfNone, IfSome}
 use Rattle.std.proofs.lemmas.Bool.{ne_eqb}
 use Rattle.std.proofs.lemmas.Option.{slice_get_within}
 use Rattle.std.proofs.lemmas.List.{length-set}
-use Rattle.lfs_model.specs.BlockSets.{BlockState, BlockStateList, Free, InFlight, Used, IsBlockFree, IsBlockInFlight, IsBlockUsed}
+use Rattle.lfs_model.specs.BlockSets.{BlockState, BlockStateList, Free, InFlight, Used, IsBlockFree, IsBlockInFlight, IsBlockMarkedUsedInMap}
 use Rattle.lfs_model.specs.Disk.{Disk}
 use Rattle.lfs_model.specs.History.{DeviceCallEvent}
 use Rattle.lfs_model.proofs.BlockSets.{slice_get-set_same, slice_get-set_other}
@@ -19,19 +19,19 @@ use Rattle.lfs_thread.specs.Steps.{AreFreshBlocksInFlight, block_map_with_used_p
 pub count_other : (x b : ℕ) (bs : List ℕ) → x ≢ b → occurrence_count_of_number x (b ∷ bs) ≡ occurrence_count_of_number x bs
 count_other x b bs apart = let e : 0 + occurrence_count_of_number x bs ≡ occurrence_count_of_number x bs = omega arith in ap (λ t. cond t 1 0 + occurrence_count_of_number x bs) (ne_eqb x b apart) ∙ e
 
-pub unused_counts : (sets : BlockStateList) (x : ℕ) (bs : List ℕ) → ¬ IsBlockUsed sets x → AreAllBlocksUsed sets bs → occurrence_count_of_number x bs ≡ 0
+pub unused_counts : (sets : BlockStateList) (x : ℕ) (bs : List ℕ) → ¬ IsBlockMarkedUsedInMap sets x → AreAllBlocksUsed sets bs → occurrence_count_of_number x bs ≡ 0
 unused_counts sets x [] unused used = refl
-unused_counts sets x (b ∷ bs) unused used = count_other x b bs (λ e. unused (subst (IsBlockUsed sets) (sym e) used.0)) ∙ unused_counts sets x bs unused used.1
+unused_counts sets x (b ∷ bs) unused used = count_other x b bs (λ e. unused (subst (IsBlockMarkedUsedInMap sets) (sym e) used.0)) ∙ unused_counts sets x bs unused used.1
 
-pub used_at : (sets : BlockStateList) (b : ℕ) (bs : List ℕ) → AreAllBlocksUsed sets bs → 1 ≤ occurrence_count_of_number b bs → IsBlockUsed sets b
+pub used_at : (sets : BlockStateList) (b : ℕ) (bs : List ℕ) → AreAllBlocksUsed sets bs → 1 ≤ occurrence_count_of_number b bs → IsBlockMarkedUsedInMap sets b
 used_at sets b [] used k = absurd (omega (arith, k))
 used_at sets b (x ∷ bs) used k = go (nat_eq b x) refl k (used_at sets b bs used.1)
   where
-    go : (t : Bool) → nat_eq b x ≡ t → 1 ≤ cond t 1 0 + occurrence_count_of_number b bs → (1 ≤ occurrence_count_of_number b bs → IsBlockUsed sets b) → IsBlockUsed sets b
-    go true e k next = subst (IsBlockUsed sets) (sym (eqb-true b x e)) used.0
+    go : (t : Bool) → nat_eq b x ≡ t → 1 ≤ cond t 1 0 + occurrence_count_of_number b bs → (1 ≤ occurrence_count_of_number b bs → IsBlockMarkedUsedInMap sets b) → IsBlockMarkedUsedInMap sets b
+    go true e k next = subst (IsBlockMarkedUsedInMap sets) (sym (eqb-true b x e)) used.0
     go false e k next = next (omega (arith, k))
 
-pub two_unused : (sets : BlockStateList) (f g : ℕ) (bs : List ℕ) → ¬ IsBlockUsed sets f → ¬ IsBlockUsed sets g → f ≢ g → AreAllBlocksUsed sets bs → ((b : ℕ) → occurrence_count_of_number b bs ≤ 1) → (b : ℕ) → occurrence_count_of_number b (f ∷ g ∷ []) + occurrence_count_of_number b bs ≤ 1
+pub two_unused : (sets : BlockStateList) (f g : ℕ) (bs : List ℕ) → ¬ IsBlockMarkedUsedInMap sets f → ¬ IsBlockMarkedUsedInMap sets g → f ≢ g → AreAllBlocksUsed sets bs → ((b : ℕ) → occurrence_count_of_number b bs ≤ 1) → (b : ℕ) → occurrence_count_of_number b (f ∷ g ∷ []) + occurrence_count_of_number b bs ≤ 1
 two_unused sets f g bs ff fg apart used once b = go (nat_eq b f) refl
   where
     second : (t : Bool) → nat_eq b g ≡ t → occurrence_count_of_number b (g ∷ []) + occurrence_count_of_number b bs ≤ 1
@@ -51,19 +51,19 @@ two_unused sets f g bs ff fg apart used once b = go (nat_eq b f) refl
         omega arith
     go false e = let s = second (nat_eq b g) refl in let z = ap (λ t. cond t 1 0 + occurrence_count_of_number b (g ∷ [])) e in omega arith
 
-pub in_flight_unused : (sets : BlockStateList) (b : ℕ) → IsBlockInFlight sets b → ¬ IsBlockUsed sets b
+pub in_flight_unused : (sets : BlockStateList) (b : ℕ) → IsBlockInFlight sets b → ¬ IsBlockMarkedUsedInMap sets b
 in_flight_unused sets b f u = absurd (let e : Some InFlight ≡ Some Used = sym f ∙ u in cc)
 
-pub free_unused : (sets : BlockStateList) (b : ℕ) → IsBlockFree sets b → ¬ IsBlockUsed sets b
+pub free_unused : (sets : BlockStateList) (b : ℕ) → IsBlockFree sets b → ¬ IsBlockMarkedUsedInMap sets b
 free_unused sets b f u = absurd (let e : Some Free ≡ Some Used = sym f ∙ u in cc)
 
 -- two blocks that no pair has, which are in use now
 pub record SettlesTwo (old : BlockStateList) (fresh : ℕ × ℕ) (new : BlockStateList) : Type 0 where
-  pub first_unused : ¬ IsBlockUsed old fresh.0
-  pub second_unused : ¬ IsBlockUsed old fresh.1
+  pub first_unused : ¬ IsBlockMarkedUsedInMap old fresh.0
+  pub second_unused : ¬ IsBlockMarkedUsedInMap old fresh.1
   pub apart : fresh.0 ≢ fresh.1
-  pub first : IsBlockUsed new fresh.0
-  pub second : IsBlockUsed new fresh.1
+  pub first : IsBlockMarkedUsedInMap new fresh.0
+  pub second : IsBlockMarkedUsedInMap new fresh.1
   pub others : (b : ℕ) → b ≢ fresh.0 → b ≢ fresh.1 → slice_get new b ≡ slice_get old b
   pub size : length new ≡ length old
 
@@ -85,7 +85,7 @@ second_held sets fresh t = slice_get-set_other sets fresh.0 fresh.1 Used (λ e. 
 pub used_still : (sets now : BlockStateList) (fresh : ℕ × ℕ) (bs : List ℕ) → SettlesTwo sets fresh now → AreAllBlocksUsed sets bs → AreAllBlocksUsed now bs
 used_still sets now fresh [] uses used = tt
 used_still sets now fresh (b ∷ bs) uses used = (
-  uses.others b (λ e. uses.first_unused (subst (IsBlockUsed sets) e used.0)) (λ e. uses.second_unused (subst (IsBlockUsed sets) e used.0)) ∙ used.0,
+  uses.others b (λ e. uses.first_unused (subst (IsBlockMarkedUsedInMap sets) e used.0)) (λ e. uses.second_unused (subst (IsBlockMarkedUsedInMap sets) e used.0)) ∙ used.0,
   used_still sets now fresh bs uses used.1,
 )
 
@@ -99,11 +99,11 @@ held_address disk history hs sets fresh kept held = record {
 
 -- ---- a block that isn't used comes into another state
 
-used_beside : (sets : BlockStateList) (x : ℕ) (s : BlockState) (bs : List ℕ) → ¬ IsBlockUsed sets x → AreAllBlocksUsed sets bs → AreAllBlocksUsed (set sets x s) bs
+used_beside : (sets : BlockStateList) (x : ℕ) (s : BlockState) (bs : List ℕ) → ¬ IsBlockMarkedUsedInMap sets x → AreAllBlocksUsed sets bs → AreAllBlocksUsed (set sets x s) bs
 used_beside sets x s [] unused used = tt
-used_beside sets x s (b ∷ bs) unused used = (slice_get-set_other sets x b s (λ e. unused (subst (IsBlockUsed sets) e used.0)) ∙ used.0, used_beside sets x s bs unused used.1)
+used_beside sets x s (b ∷ bs) unused used = (slice_get-set_other sets x b s (λ e. unused (subst (IsBlockMarkedUsedInMap sets) e used.0)) ∙ used.0, used_beside sets x s bs unused used.1)
 
-pub kept_with : (disk : Disk) (history : List DeviceCallEvent) (hs : List PairHeader) (sets now : BlockStateList) (x : ℕ) (s : BlockState) → now ≡ set sets x s → ¬ IsBlockUsed sets x → IsKeptThreadOnDisk disk history hs sets → IsKeptThreadOnDisk disk history hs now
+pub kept_with : (disk : Disk) (history : List DeviceCallEvent) (hs : List PairHeader) (sets now : BlockStateList) (x : ℕ) (s : BlockState) → now ≡ set sets x s → ¬ IsBlockMarkedUsedInMap sets x → IsKeptThreadOnDisk disk history hs sets → IsKeptThreadOnDisk disk history hs now
 kept_with disk history hs sets now x s is unused kept = subst (IsKeptThreadOnDisk disk history hs) (sym is) (record {
   each = kept.each;
   links = kept.links;

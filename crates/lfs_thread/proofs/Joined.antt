@@ -10,7 +10,7 @@ use Rattle.std.specs.List.{IsDistinct}
 use Rattle.std.specs.Option.{option_and_then, option_map}
 use Rattle.lfs_tag.specs.ContentView.{tail_view}
 use Rattle.lfs_model.proofs.Completed.{completed_parts}
-use Rattle.lfs_model.specs.BlockSets.{BlockStateList, IsBlockUsed}
+use Rattle.lfs_model.specs.BlockSets.{BlockStateList, IsBlockMarkedUsedInMap}
 use Rattle.lfs_model.specs.Disk.{Disk, block_count}
 use Rattle.lfs_model.specs.History.{DeviceCallEvent}
 use Rattle.lfs_model.specs.Slots.{PairContent, Tail, zero_gstate, null_block_address}
@@ -36,11 +36,11 @@ use Rattle.lfs_thread.proofs.Parting.{insert_behind}
 -- ---- the fresh pair is written, and nothing names it yet
 
 module _ (disk : Disk) (before : List DeviceCallEvent) (blocks : Blocks) (after : List DeviceCallEvent) (hs : List PairHeader) (sets : BlockStateList) (fresh : ℕ × ℕ) (kept : IsKeptThreadOnDisk disk before hs sets)
-    (first : ¬ IsBlockUsed sets fresh.0) (second : ¬ IsBlockUsed sets fresh.1) (others : KeepsBlocksOutsidePair fresh disk.blocks blocks) (stay : KeepsUnprogrammedBytesOutsidePair fresh before after) where
+    (first : ¬ IsBlockMarkedUsedInMap sets fresh.0) (second : ¬ IsBlockMarkedUsedInMap sets fresh.1) (others : KeepsBlocksOutsidePair fresh disk.blocks blocks) (stay : KeepsUnprogrammedBytesOutsidePair fresh before after) where
   elsewhere : AllElsewhere (fresh.0 ∷ fresh.1 ∷ []) hs
   elsewhere = elsewhere_from disk (fresh.0 ∷ fresh.1 ∷ []) hs (λ b k.
       let used = used_at sets b (blocks_of_pairs (pairs_of_headers disk hs)) kept.used k in
-      count_other b fresh.0 (fresh.1 ∷ []) (λ e. first (subst (IsBlockUsed sets) e used)) ∙ count_other b fresh.1 [] (λ e. second (subst (IsBlockUsed sets) e used)))
+      count_other b fresh.0 (fresh.1 ∷ []) (λ e. first (subst (IsBlockMarkedUsedInMap sets) e used)) ∙ count_other b fresh.1 [] (λ e. second (subst (IsBlockMarkedUsedInMap sets) e used)))
 
   pub beside_pairs : pairs_of_headers (record disk { blocks = blocks }) hs ≡ pairs_of_headers disk hs
   beside_pairs = pairs-stay disk hs elsewhere others
@@ -56,7 +56,7 @@ module _ (disk : Disk) (before : List DeviceCallEvent) (blocks : Blocks) (after 
 
 -- what changes make of a pair is what they make of it beside the fresh one
 pub beside_made : (disk : Disk) (before : List DeviceCallEvent) (blocks : Blocks) (after : List DeviceCallEvent) (hs : List PairHeader) (sets : BlockStateList) (fresh : ℕ × ℕ) (index : ℕ) (h : PairHeader) (changes : List PairContentChange) → IsAt hs index h
-    → IsKeptThreadOnDisk disk before hs sets → ¬ IsBlockUsed sets fresh.0 → ¬ IsBlockUsed sets fresh.1 → KeepsBlocksOutsidePair fresh disk.blocks blocks
+    → IsKeptThreadOnDisk disk before hs sets → ¬ IsBlockMarkedUsedInMap sets fresh.0 → ¬ IsBlockMarkedUsedInMap sets fresh.1 → KeepsBlocksOutsidePair fresh disk.blocks blocks
     → complete_content_after_changes (kept_thread_view (record disk { blocks = blocks }) after hs sets) index changes ≡ complete_content_after_changes (kept_thread_view disk before hs sets) index changes
 beside_made disk before blocks after hs sets fresh index h changes a kept first second others =
     ap (λ (p : Pair). option_and_then pair_content_if_slots_complete (pair_content_after_changes (record disk { blocks = blocks }) p.at changes)) (pair_at_index (record disk { blocks = blocks }) after hs sets index h a)
@@ -73,10 +73,10 @@ beside_made disk before blocks after hs sets fresh index h changes a kept first 
 
     apart : HaveNoCommonBlock (pair_address_in_header h) fresh
     apart = record {
-      first_first = λ e. first (subst (IsBlockUsed sets) e used.0);
-      first_second = λ e. second (subst (IsBlockUsed sets) e used.0);
-      second_first = λ e. first (subst (IsBlockUsed sets) e used.1.0);
-      second_second = λ e. second (subst (IsBlockUsed sets) e used.1.0);
+      first_first = λ e. first (subst (IsBlockMarkedUsedInMap sets) e used.0);
+      first_second = λ e. second (subst (IsBlockMarkedUsedInMap sets) e used.0);
+      second_first = λ e. first (subst (IsBlockMarkedUsedInMap sets) e used.1.0);
+      second_second = λ e. second (subst (IsBlockMarkedUsedInMap sets) e used.1.0);
     }
 
 -- ---- the tail names it
@@ -128,10 +128,10 @@ module _ (disk : Disk) (before : List DeviceCallEvent) (blocks : Blocks) (after 
 
   apart : HaveNoCommonBlock (pair_address_in_header h) fresh
   apart = record {
-    first_first = λ e. uses.first_unused (subst (IsBlockUsed sets) e used_parts.1.0.0);
-    first_second = λ e. uses.second_unused (subst (IsBlockUsed sets) e used_parts.1.0.0);
-    second_first = λ e. uses.first_unused (subst (IsBlockUsed sets) e used_parts.1.0.1.0);
-    second_second = λ e. uses.second_unused (subst (IsBlockUsed sets) e used_parts.1.0.1.0);
+    first_first = λ e. uses.first_unused (subst (IsBlockMarkedUsedInMap sets) e used_parts.1.0.0);
+    first_second = λ e. uses.second_unused (subst (IsBlockMarkedUsedInMap sets) e used_parts.1.0.0);
+    second_first = λ e. uses.first_unused (subst (IsBlockMarkedUsedInMap sets) e used_parts.1.0.1.0);
+    second_second = λ e. uses.second_unused (subst (IsBlockMarkedUsedInMap sets) e used_parts.1.0.1.0);
   }
 
   f_elsewhere : AreElsewhere (pair_address_in_header f) ((pair_address_in_header h).0 ∷ (pair_address_in_header h).1 ∷ [])

@@ -7,7 +7,7 @@ use Rattle.std.proofs.lemmas.List.Edits.{insert-append_right}
 use Rattle.std.proofs.lemmas.List.Concat.{flat_map-append}
 use Rattle.std.proofs.Math.Seq.{set-append_seam}
 use Rattle.lfs_model.specs.Blocks.{Blocks}
-use Rattle.lfs_model.specs.BlockSets.{BlockStateList, IsBlockUsed}
+use Rattle.lfs_model.specs.BlockSets.{BlockStateList, IsBlockMarkedUsedInMap}
 use Rattle.lfs_device.specs.declared.geometry.Geometry.{Geometry}
 use Rattle.lfs_device.specs.Shown.{disk_of_geometry_and_blocks}
 use Rattle.lfs_model.specs.Disk.{Disk}
@@ -117,10 +117,10 @@ can_split disk before hs sets index h fresh changes a kept can =
       commit = commit;
       fresh_is = held_address disk before hs sets fresh kept can.held;
       apart = record {
-        first_first = λ e. unused.first_unused (subst (IsBlockUsed sets) e used.0);
-        first_second = λ e. unused.second_unused (subst (IsBlockUsed sets) e used.0);
-        second_first = λ e. unused.first_unused (subst (IsBlockUsed sets) e used.1);
-        second_second = λ e. unused.second_unused (subst (IsBlockUsed sets) e used.1);
+        first_first = λ e. unused.first_unused (subst (IsBlockMarkedUsedInMap sets) e used.0);
+        first_second = λ e. unused.second_unused (subst (IsBlockMarkedUsedInMap sets) e used.0);
+        second_first = λ e. unused.first_unused (subst (IsBlockMarkedUsedInMap sets) e used.1);
+        second_second = λ e. unused.second_unused (subst (IsBlockMarkedUsedInMap sets) e used.1);
       };
       cut = subst (λ (r : RawPairContent). CanSplitSlotsIntoTwoPairs disk.block_size disk.page r.slots) (raw_same commit) can.cut;
     }
@@ -135,7 +135,7 @@ can_split disk before hs sets index h fresh changes a kept can =
     raw_same commit = same_Some can.raw commit.new (sym can.made ∙ ap (λ (p : Pair). pair_content_after_changes disk p.at changes) (pair_at_index disk before hs sets index h a)
         ∙ ap (λ r. content_made_by_changes r changes) (held_raw commit) ∙ commit.changed)
 
-    blocks_used : IsBlockUsed sets (pair_address_in_header h).0 × IsBlockUsed sets (pair_address_in_header h).1
+    blocks_used : IsBlockMarkedUsedInMap sets (pair_address_in_header h).0 × IsBlockMarkedUsedInMap sets (pair_address_in_header h).1
     blocks_used =
         let all = subst (λ z. AreAllBlocksUsed sets (blocks_of_pairs (pairs_of_headers disk z))) a.parts kept.used in
         let parts = subst (λ ps. AreAllBlocksUsed sets (blocks_of_pairs ps)) (map-append (λ x. pair_on_disk_at disk (pair_address_in_header x)) a.front (h ∷ a.back)) all in

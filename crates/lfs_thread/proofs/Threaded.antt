@@ -8,7 +8,7 @@ use Rattle.std.specs.Option.{option_and_then, option_map}
 use Rattle.lfs_tag.specs.ContentView.{tail_view}
 use Rattle.lfs_model.proofs.Completed.{fits_pair}
 use Rattle.lfs_model.specs.View.{BeginsWithLogEntry, superblock_name_log_entry}
-use Rattle.lfs_model.specs.BlockSets.{BlockStateList, IsBlockUsed}
+use Rattle.lfs_model.specs.BlockSets.{BlockStateList, IsBlockMarkedUsedInMap}
 use Rattle.lfs_model.specs.Disk.{Disk}
 use Rattle.lfs_device.specs.declared.geometry.Geometry.{Geometry}
 use Rattle.lfs_device.specs.Shown.{disk_of_geometry_and_blocks}
@@ -82,10 +82,10 @@ module _ (disk : Disk) (history : List DeviceCallEvent) (hs : List PairHeader) (
 
   pub apart : HaveNoCommonBlock (pair_address_in_header h) fresh
   apart = record {
-    first_first = λ e. uses.first_unused (subst (IsBlockUsed sets) e blocks_used.0);
-    first_second = λ e. uses.second_unused (subst (IsBlockUsed sets) e blocks_used.0);
-    second_first = λ e. uses.first_unused (subst (IsBlockUsed sets) e blocks_used.1.0);
-    second_second = λ e. uses.second_unused (subst (IsBlockUsed sets) e blocks_used.1.0);
+    first_first = λ e. uses.first_unused (subst (IsBlockMarkedUsedInMap sets) e blocks_used.0);
+    first_second = λ e. uses.second_unused (subst (IsBlockMarkedUsedInMap sets) e blocks_used.0);
+    second_first = λ e. uses.first_unused (subst (IsBlockMarkedUsedInMap sets) e blocks_used.1.0);
+    second_second = λ e. uses.second_unused (subst (IsBlockMarkedUsedInMap sets) e blocks_used.1.0);
   }
 
   same_raw : raw_content_of_pair_at beside (pair_address_in_header h) ≡ raw_content_of_pair_at disk (pair_address_in_header h)

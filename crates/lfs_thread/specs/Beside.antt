@@ -5,7 +5,7 @@ use Rattle.std.specs.Borrow.{MutBor}
 use Rattle.lfs_device.specs.declared.device.BlockDevice.{Ghosts}
 use Rattle.lfs_device.specs.declared.geometry.Geometry.{Geometry}
 use Rattle.lfs_model.specs.Blocks.{block_bytes_by_number}
-use Rattle.lfs_model.specs.BlockSets.{BlockStateList, IsBlockUsed}
+use Rattle.lfs_model.specs.BlockSets.{BlockStateList, IsBlockMarkedUsedInMap}
 use Rattle.lfs_model.specs.Disk.{Disk, block_count}
 use Rattle.lfs_model.specs.History.{is_byte_unprogrammed}
 use Rattle.lfs_model.specs.Thread.{blocks_of_pairs}
@@ -48,10 +48,10 @@ pub record MayClosureOnDeviceAndMapReturn {F D X : Type 0} (call : ClosureOnDevi
 pub record LeavesUsedBlocksOfPairsUnchangedAndUsed {D : Type 0} (g : Ghosts D) (t : KeptThread) (device : D) (map : BlockStateList) (later : D) (later_map : BlockStateList) : Type 0 where
   pub geometry : g.geometry later ≡ g.geometry device
   pub count : length (g.blocks later) ≡ length (g.blocks device)
-  pub same : (b : ℕ) → Contains (blocks_of_pairs t.pairs) b → IsBlockUsed map b → block_bytes_by_number (g.blocks later) b ≡ block_bytes_by_number (g.blocks device) b
-  pub stays : (b k : ℕ) → Contains (blocks_of_pairs t.pairs) b → IsBlockUsed map b → is_byte_unprogrammed (g.history device) b k ≡ true → is_byte_unprogrammed (g.history later) b k ≡ true
+  pub same : (b : ℕ) → Contains (blocks_of_pairs t.pairs) b → IsBlockMarkedUsedInMap map b → block_bytes_by_number (g.blocks later) b ≡ block_bytes_by_number (g.blocks device) b
+  pub stays : (b k : ℕ) → Contains (blocks_of_pairs t.pairs) b → IsBlockMarkedUsedInMap map b → is_byte_unprogrammed (g.history device) b k ≡ true → is_byte_unprogrammed (g.history later) b k ≡ true
   pub size : length later_map ≡ length map
-  pub used : (b : ℕ) → Contains (blocks_of_pairs t.pairs) b → IsBlockUsed map b → IsBlockUsed later_map b
+  pub used : (b : ℕ) → Contains (blocks_of_pairs t.pairs) b → IsBlockMarkedUsedInMap map b → IsBlockMarkedUsedInMap later_map b
 
 -- The work was called with the thread's device and map, and returned x. The thread has the device and the map that it left.
 pub record HasRunWorkOnDeviceAndMap {F D X : Type 0} (g : Ghosts D) (call : ClosureOnDeviceAndMap F D X) (work : F) (old : KeptThread) (x : X) (new : KeptThread) : Type 0 where

@@ -4,7 +4,7 @@ use Rattle.std.specs.List.{IsDistinct}
 use Rattle.lfs_device.specs.declared.device.BlockDevice.{Ghosts}
 use Rattle.lfs_device.specs.Shown.{disk_of_geometry_and_blocks}
 use Rattle.lfs_model.specs.Blocks.{Blocks, block_bytes_by_number}
-use Rattle.lfs_model.specs.BlockSets.{BlockStateList, IsBlockUsed}
+use Rattle.lfs_model.specs.BlockSets.{BlockStateList, IsBlockMarkedUsedInMap}
 use Rattle.lfs_model.specs.Cache.{CachedBlocks, cached_bytes_of_block}
 use Rattle.lfs_model.specs.Disk.{Disk, block_count}
 use Rattle.lfs_model.specs.History.{DeviceCallEvent, AreCallsSinceOnlyReads}
@@ -57,7 +57,7 @@ ArePairHeadersOnDisk disk history (h ∷ hs) = IsPairHeaderOnDisk disk history h
 
 abbrev pub AreAllBlocksUsed : BlockStateList → List ℕ → Type 0
 AreAllBlocksUsed sets [] = Unit {0}
-AreAllBlocksUsed sets (b ∷ bs) = IsBlockUsed sets b × AreAllBlocksUsed sets bs
+AreAllBlocksUsed sets (b ∷ bs) = IsBlockMarkedUsedInMap sets b × AreAllBlocksUsed sets bs
 
 -- What is kept is what the disk has: the headers are those of its thread, and the map has their blocks as used.
 pub record IsKeptThreadOnDisk (disk : Disk) (history : List DeviceCallEvent) (headers : List PairHeader) (sets : BlockStateList) : Type 0 where

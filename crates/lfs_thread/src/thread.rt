@@ -1,7 +1,7 @@
 ghost use Rattle.std.specs.Prelude.{ℕ, ◌+◌, ◌*◌, ◌≤◌, if◌then◌else◌, None, Some, List, ◌↔◌, IfOk, ◌≡◌, IsTrue, true, ◌⊎◌, ◌<◌, length, false, is_err, [], replicate, slice_set, IfErr, IfNone, IfSome, IsSome, OnOk, ◌-◌, min, take, drop, slice_range};
 ghost use Rattle.std.specs.Option.{option_map};
 ghost use Rattle.lfs_model.specs.Content.{content_of_pair_at, current_block_of_pair_at};
-ghost use Rattle.lfs_model.specs.BlockSets.{IsBlockFree, IsBlockInFlight, IsBlockUsed, used_count};
+ghost use Rattle.lfs_model.specs.BlockSets.{IsBlockFree, IsBlockInFlight, IsBlockMarkedUsedInMap, used_count};
 ghost use Rattle.lfs_model.specs.BlockSets.BlockState.{Free, InFlight};
 ghost use Rattle.lfs_model.specs.SkipLists.{IsSkipList, bytes_of_skip_list};
 ghost use Rattle.lfs_model.specs.History.{read_count_of_history};
@@ -510,7 +510,7 @@ impl<D: BlockDevice> Thread<D> {
     /// Returns whether a block is used. A block in flight isn't.
     pub fn is_used(&self, block: u32) -> bool
         requires { block < length self.now.kept.map }
-        ensures { IsTrue result ↔ IsBlockUsed self.now.kept.map block }
+        ensures { IsTrue result ↔ IsBlockMarkedUsedInMap self.now.kept.map block }
     {
         self.map.is_used(block)
     }

@@ -13,10 +13,10 @@ use Rattle.lfs_model.specs.SkipLists.{list_block_count_for_size, list_blocks_fro
 use Rattle.lfs_model.specs.Slots.{Slot, Struct, Inline, Ctz, Branch}
 use Rattle.lfs_model.specs.Thread.{Pair, IsThreadOfMetadataPairs, blocks_of_pairs, first_pair_address, pairs_from_first_with_slots}
 use Rattle.lfs_model.specs.View.{BeginsWithLogEntry, IsAcceptedImage, IsSkipListIfCtzStruct, IsSuperblockStruct, superblock_name_log_entry}
-use Rattle.lfs_tool.specs.Excerpt.{IsDiskOfSameSizedBlockExcerpts}
+use Rattle.lfs_tool.specs.Excerpt.{IsDiskOfExcerptsKeepingSizesPointersAndLogs}
 use Rattle.lfs_tool.proofs.ExcerptsAlike.{count_same, block_excerpt, holder_same, back_same, list_same}
 
-module _ (disk excerpt : Disk) (is : IsDiskOfSameSizedBlockExcerpts disk excerpt) where
+module _ (disk excerpt : Disk) (is : IsDiskOfExcerptsKeepingSizesPointersAndLogs disk excerpt) where
   -- pairs hold the same
   holders : current_block_of_pair_at excerpt ≡ current_block_of_pair_at disk
   holders = λ i at. holder_same (block_bytes_on_disk disk at.0) (block_bytes_on_disk disk at.1) (block_bytes_on_disk excerpt at.0) (block_bytes_on_disk excerpt at.1)

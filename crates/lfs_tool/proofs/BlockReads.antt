@@ -9,7 +9,7 @@ use Rattle.std.proofs.lemmas.List.{append-nil, drop-append-le, length-take-le, t
 use Rattle.std.proofs.lemmas.List.Elements.{All-push}
 use Rattle.lfs_tool.specs.declared.block_excerpt.BlockExcerpt.{BlockExcerpt}
 use Rattle.lfs_tool.specs.ExcerptBlocks.{AreExcerptsOfBlocksWithSize, block_of_excerpt, blocks_of_excerpts}
-use Rattle.lfs_tool.specs.Excerpt.{AreSameSizedExcerptsOfBlocks, IsSameSizedExcerptOfBlock}
+use Rattle.lfs_tool.specs.Excerpt.{AreExcerptsKeepingSizesPointersAndLogs, IsExcerptKeepingSizePointersAndLog}
 use Rattle.lfs_model.specs.Blocks.{Blocks, cut}
 use Rattle.lfs_model.specs.Disk.{IsImageOfWholeBlocks}
 use Rattle.lfs_tool.specs.Blocks.{AreExcerptsOfAllBlocksOfImageBytes, FillsBufferWithNextBytes, IsExcerptPushed}
@@ -45,7 +45,7 @@ cut_more size (suc k) items block len one =
     ∙ ap₂ (λ a b. a ∷ cut size (k + 1) b) (take-append-le size items block room) (drop-append-le size items block room)
     ∙ ap (λ l. take size items ∷ l) (cut_more size k (drop size items) block rest one)
 
-excerpts_more : (blocks excerpts : Blocks) (block excerpt : List ℕ) → AreSameSizedExcerptsOfBlocks blocks excerpts → IsSameSizedExcerptOfBlock block excerpt → AreSameSizedExcerptsOfBlocks (blocks ++ block ∷ []) (excerpts ++ excerpt ∷ [])
+excerpts_more : (blocks excerpts : Blocks) (block excerpt : List ℕ) → AreExcerptsKeepingSizesPointersAndLogs blocks excerpts → IsExcerptKeepingSizePointersAndLog block excerpt → AreExcerptsKeepingSizesPointersAndLogs (blocks ++ block ∷ []) (excerpts ++ excerpt ∷ [])
 excerpts_more [] [] block excerpt are is = (is, tt)
 excerpts_more [] (e ∷ es) block excerpt are is = absurd are
 excerpts_more (b ∷ bs) [] block excerpt are is = absurd are

@@ -5,10 +5,10 @@ use Rattle.lfs_device.specs.declared.error.Error.{Error}
 use Rattle.lfs_device.specs.declared.error.Error.TheVariants.{Corrupt, NoMemory}
 use Rattle.lfs_device.specs.Shown.{disk_of_geometry_and_blocks as shown, disk_with_name_order}
 use Rattle.lfs_tool.specs.declared.block_excerpt.BlockExcerpt.{BlockExcerpt}
-use Rattle.lfs_tool.specs.declared.excerpt.Excerpt.{Excerpt}
+use Rattle.lfs_tool.specs.declared.excerpt.ExcerptDevice.{ExcerptDevice}
 use Rattle.lfs_tool.specs.ExcerptBlocks.{AreExcerptsOfBlocksWithSize, blocks_of_excerpts}
 use Rattle.lfs_tool.specs.ExcerptView.{excerpt_blocks, geometry_of_excerpt_device}
-use Rattle.lfs_tool.specs.Excerpt.{AreSameSizedExcerptsOfBlocks, IsDiskOfSameSizedBlockExcerpts}
+use Rattle.lfs_tool.specs.Excerpt.{AreExcerptsKeepingSizesPointersAndLogs, IsDiskOfExcerptsKeepingSizesPointersAndLogs}
 use Rattle.lfs_tool.specs.ExcerptShape.{blocks_of_excerpts_have_size}
 use Rattle.lfs_model.specs.Blocks.{cut}
 use Rattle.lfs_model.specs.Disk.{Disk, IsImageOfWholeBlocks, disk_of_image}
@@ -42,19 +42,19 @@ pub no_image_of_blocks : (block_size page : ℕ) (bytes : List ℕ) (blocks : Li
 no_image_of_blocks block_size page bytes blocks are none is = none (subst (IsValidGeometry block_size page) (blocks_read block_size bytes blocks is.geometry.no_smaller are) is.geometry)
 
 pub excerpt_of_blocks : (block_size page : ℕ) (order : NameOrder) (bytes : List ℕ) (blocks : List BlockExcerpt) → 1024 ≤ block_size → AreExcerptsOfAllBlocksOfImageBytes block_size bytes blocks
-    → IsDiskOfSameSizedBlockExcerpts (disk_of_image block_size page order bytes) (disk_with block_size page order blocks)
+    → IsDiskOfExcerptsKeepingSizesPointersAndLogs (disk_of_image block_size page order bytes) (disk_with block_size page order blocks)
 excerpt_of_blocks block_size page order bytes blocks enough are = record {
   block_size = refl;
   order = refl;
-  blocks = subst (λ n. AreSameSizedExcerptsOfBlocks (cut block_size n bytes) (blocks_of_excerpts blocks)) (sym (blocks_read block_size bytes blocks enough are)) are.excerpts;
+  blocks = subst (λ n. AreExcerptsKeepingSizesPointersAndLogs (cut block_size n bytes) (blocks_of_excerpts blocks)) (sym (blocks_read block_size bytes blocks enough are)) are.excerpts;
 }
 
 -- ---- what was found of the excerpt is so of the image
 
 abbrev pub AreListedAlike : Type 0
-AreListedAlike = (disk excerpt : Disk) (view : DiskView) → IsDiskOfSameSizedBlockExcerpts disk excerpt → HasDiskView excerpt view → (whole : DiskView) × (HasDiskView disk whole × ((text : List ℕ) → IsListingOfTree view.tree text → IsListingOfTree whole.tree text))
+AreListedAlike = (disk excerpt : Disk) (view : DiskView) → IsDiskOfExcerptsKeepingSizesPointersAndLogs disk excerpt → HasDiskView excerpt view → (whole : DiskView) × (HasDiskView disk whole × ((text : List ℕ) → IsListingOfTree view.tree text → IsListingOfTree whole.tree text))
 
-pub lists_by_excerpt : AreListedAlike → (block_size page : ℕ) (bytes text : List ℕ) (blocks : List BlockExcerpt) (e : Excerpt) → AreExcerptsOfAllBlocksOfImageBytes block_size bytes blocks → IsValidGeometry block_size page (length blocks)
+pub lists_by_excerpt : AreListedAlike → (block_size page : ℕ) (bytes text : List ℕ) (blocks : List BlockExcerpt) (e : ExcerptDevice) → AreExcerptsOfAllBlocksOfImageBytes block_size bytes blocks → IsValidGeometry block_size page (length blocks)
     → AreExcerptsOfBlocksWithSize block_size blocks → DeviceOfExcerptHasTheseBlocksAndSizes block_size page blocks e → (order : NameOrder) → IsListingTextOfDisk (disk_with_name_order order (shown (geometry_of_excerpt_device e) (excerpt_blocks e))) text → IsListingTextOfImage block_size page bytes text
 lists_by_excerpt alike block_size page bytes text blocks e are geometry have is order lines =
     let found = listed_from (disk_with block_size page order blocks) text (sizes_of block_size page order blocks geometry.no_smaller have) (subst (λ d. IsListingTextOfDisk d text) (is.disk order) lines) in
@@ -63,9 +63,9 @@ lists_by_excerpt alike block_size page bytes text blocks e are geometry have is 
     (image_of_blocks block_size page bytes blocks are geometry, (whole.0, ((order, whole.1.0), whole.1.1 text listing)))
 
 abbrev pub AreRefusedAlike : Type 0
-AreRefusedAlike = (disk excerpt : Disk) (ps : List Pair) → IsDiskOfSameSizedBlockExcerpts disk excerpt → IsAcceptedImage disk ps → IsAcceptedImage excerpt ps
+AreRefusedAlike = (disk excerpt : Disk) (ps : List Pair) → IsDiskOfExcerptsKeepingSizesPointersAndLogs disk excerpt → IsAcceptedImage disk ps → IsAcceptedImage excerpt ps
 
-pub refuses_by_excerpt : AreRefusedAlike → (block_size page : ℕ) (bytes : List ℕ) (blocks : List BlockExcerpt) (e : Excerpt) (error : Error) → AreExcerptsOfAllBlocksOfImageBytes block_size bytes blocks → IsValidGeometry block_size page (length blocks)
+pub refuses_by_excerpt : AreRefusedAlike → (block_size page : ℕ) (bytes : List ℕ) (blocks : List BlockExcerpt) (e : ExcerptDevice) (error : Error) → AreExcerptsOfAllBlocksOfImageBytes block_size bytes blocks → IsValidGeometry block_size page (length blocks)
     → DeviceOfExcerptHasTheseBlocksAndSizes block_size page blocks e → IsMountErrorOfDisk (shown (geometry_of_excerpt_device e) (excerpt_blocks e)) error → RefusesToList block_size page bytes error
 refuses_by_excerpt alike block_size page bytes blocks e Corrupt are geometry is none = (
   image_of_blocks block_size page bytes blocks are geometry,

@@ -9,37 +9,37 @@ use Rattle.lfs_model.specs.Disk.{Disk}
 use Rattle.lfs_model.specs.Log.{revision_of_block}
 use Rattle.lfs_model.specs.SkipLists.{word_at_offset, pointer_count_of_list_block, list_block_count_for_size, list_blocks_from_head, AreListBlocks, IsSkipList}
 use Rattle.lfs_model.proofs.ListSizes.{pointer_count_of_list_block-le}
-use Rattle.lfs_tool.specs.Excerpt.{largest_skip_list_pointers_size, IsSameSizedExcerptOfBlock, AreSameSizedExcerptsOfBlocks, IsDiskOfSameSizedBlockExcerpts}
+use Rattle.lfs_tool.specs.Excerpt.{largest_skip_list_pointers_size, IsExcerptKeepingSizePointersAndLog, AreExcerptsKeepingSizesPointersAndLogs, IsDiskOfExcerptsKeepingSizesPointersAndLogs}
 
 -- ---- the other way round
 
-block_back : (block excerpt : List ℕ) → IsSameSizedExcerptOfBlock block excerpt → IsSameSizedExcerptOfBlock excerpt block
+block_back : (block excerpt : List ℕ) → IsExcerptKeepingSizePointersAndLog block excerpt → IsExcerptKeepingSizePointersAndLog excerpt block
 block_back block excerpt h = record {
   size = sym h.size;
   pointers = sym h.pointers;
   log = elim h.log [ inl same ↦ inl (sym same) | inr none ↦ inr (none.1, none.0) ];
 }
 
-all_back : (blocks excerpts : Blocks) → AreSameSizedExcerptsOfBlocks blocks excerpts → AreSameSizedExcerptsOfBlocks excerpts blocks
+all_back : (blocks excerpts : Blocks) → AreExcerptsKeepingSizesPointersAndLogs blocks excerpts → AreExcerptsKeepingSizesPointersAndLogs excerpts blocks
 all_back [] [] h = tt
 all_back [] (e ∷ es) h = absurd h
 all_back (b ∷ bs) [] h = absurd h
 all_back (b ∷ bs) (e ∷ es) h = (block_back b e h.0, all_back bs es h.1)
 
 -- a disk is an excerpt of its excerpt
-pub excerpt_back : {disk excerpt : Disk} → IsDiskOfSameSizedBlockExcerpts disk excerpt → IsDiskOfSameSizedBlockExcerpts excerpt disk
+pub excerpt_back : {disk excerpt : Disk} → IsDiskOfExcerptsKeepingSizesPointersAndLogs disk excerpt → IsDiskOfExcerptsKeepingSizesPointersAndLogs excerpt disk
 excerpt_back {disk} {excerpt} is = record { block_size = sym is.block_size; order = sym is.order; blocks = all_back disk.blocks excerpt.blocks is.blocks }
 
 -- ---- each block
 
-pub count_same : (blocks excerpts : Blocks) → AreSameSizedExcerptsOfBlocks blocks excerpts → length excerpts ≡ length blocks
+pub count_same : (blocks excerpts : Blocks) → AreExcerptsKeepingSizesPointersAndLogs blocks excerpts → length excerpts ≡ length blocks
 count_same [] [] h = refl
 count_same [] (e ∷ es) h = absurd h
 count_same (b ∷ bs) [] h = absurd h
 count_same (b ∷ bs) (e ∷ es) h = ap suc (count_same bs es h.1)
 
 -- also past the end
-pub block_excerpt : (blocks excerpts : Blocks) → AreSameSizedExcerptsOfBlocks blocks excerpts → (b : ℕ) → IsSameSizedExcerptOfBlock (block_bytes_by_number blocks b) (block_bytes_by_number excerpts b)
+pub block_excerpt : (blocks excerpts : Blocks) → AreExcerptsKeepingSizesPointersAndLogs blocks excerpts → (b : ℕ) → IsExcerptKeepingSizePointersAndLog (block_bytes_by_number blocks b) (block_bytes_by_number excerpts b)
 block_excerpt [] [] h n = record { size = refl; pointers = refl; log = inl refl }
 block_excerpt [] (e ∷ es) h n = absurd h
 block_excerpt (b ∷ bs) [] h n = absurd h
@@ -58,7 +58,7 @@ neither a b e f = second_only a b e ∙ ap (λ t. if t then Some b else None) f
 first_only : (a b : List ℕ) → has_commit b ≡ false → current_block_of_two a b ≡ (if not (has_commit a) then None else Some a)
 first_only a b e = ap (λ t. if not (has_commit a) then (if t then Some b else None) else (if t && is_later_revision (revision_of_block a) (revision_of_block b) then Some b else Some a)) e
 
-pub holder_same : (a b c d : List ℕ) → IsSameSizedExcerptOfBlock a c → IsSameSizedExcerptOfBlock b d → current_block_of_two c d ≡ current_block_of_two a b
+pub holder_same : (a b c d : List ℕ) → IsExcerptKeepingSizePointersAndLog a c → IsExcerptKeepingSizePointersAndLog b d → current_block_of_two c d ≡ current_block_of_two a b
 holder_same a b c d h k = go h.log k.log
   where
     go : (c ≡ a) ⊎ ((has_commit a ≡ false) × (has_commit c ≡ false)) → (d ≡ b) ⊎ ((has_commit b ≡ false) × (has_commit d ≡ false)) → current_block_of_two c d ≡ current_block_of_two a b
@@ -75,11 +75,11 @@ front_range bytes off le =
     ap (λ n. take n (drop off bytes)) (let e : off + 4 - off ≡ 4 = omega arith in e)
     ∙ sym (drop-take off 4 bytes) ∙ ap (drop off) (sym (take-take (off + 4) largest_skip_list_pointers_size bytes le))
 
-word_same : (block excerpt : List ℕ) (off : ℕ) → IsSameSizedExcerptOfBlock block excerpt → off + 4 ≤ largest_skip_list_pointers_size → word_at_offset excerpt off ≡ word_at_offset block off
+word_same : (block excerpt : List ℕ) (off : ℕ) → IsExcerptKeepingSizePointersAndLog block excerpt → off + 4 ≤ largest_skip_list_pointers_size → word_at_offset excerpt off ≡ word_at_offset block off
 word_same block excerpt off h le = ap (from_le_bytes w32)
     (front_range excerpt off le ∙ ap (λ front. drop off (take (off + 4) front)) h.pointers ∙ sym (front_range block off le))
 
-module _ (d e : Blocks) (are : AreSameSizedExcerptsOfBlocks d e) where
+module _ (d e : Blocks) (are : AreExcerptsKeepingSizesPointersAndLogs d e) where
   -- pointer k of block i, wherever it stands
   pointer_same : (b i k : ℕ) → k < pointer_count_of_list_block i → word_at_offset (block_bytes_by_number e b) (4 * k) ≡ word_at_offset (block_bytes_by_number d b) (4 * k)
   pointer_same b i k lt = let few = pointer_count_of_list_block-le i in word_same (block_bytes_by_number d b) (block_bytes_by_number e b) (4 * k) (block_excerpt d e are b) (omega arith)

@@ -14,7 +14,7 @@ use Rattle.lfs_model.specs.Slots.{Slot, Struct, Inline, Ctz, Branch, Attributes}
 use Rattle.lfs_model.specs.Thread.{Pair, root_directory_address_of_pairs}
 use Rattle.lfs_model.specs.Tree.{Path, Node, Tree, EntriesByDirectory, node_of_struct_and_attributes, root_slot, slot_at_path, tree_beneath_root}
 use Rattle.lfs_model.specs.TreeEdits.{names_of_directory_node}
-use Rattle.lfs_tool.specs.Excerpt.{AreSameSizedExcerptsOfBlocks, IsDiskOfSameSizedBlockExcerpts}
+use Rattle.lfs_tool.specs.Excerpt.{AreExcerptsKeepingSizesPointersAndLogs, IsDiskOfExcerptsKeepingSizesPointersAndLogs}
 use Rattle.lfs_tool.proofs.ExcerptsAlike.{block_excerpt, back_same}
 
 -- ---- trees
@@ -85,7 +85,7 @@ module _ (c d : ℕ → ℕ → List ℕ) (lengths : (head size : ℕ) → lengt
 
 -- ---- excerpts
 
-module _ (d e : Blocks) (are : AreSameSizedExcerptsOfBlocks d e) where
+module _ (d e : Blocks) (are : AreExcerptsKeepingSizesPointersAndLogs d e) where
   length-data : (place : ℕ × ℕ) → length (data_of_list_block e place) ≡ length (data_of_list_block d place)
   length-data (i, b) =
       length-drop (4 * pointer_count_of_list_block i) (block_bytes_by_number e b)
@@ -104,7 +104,7 @@ module _ (d e : Blocks) (are : AreSameSizedExcerptsOfBlocks d e) where
       ∙ sym (length-take size (flat_map (data_of_list_block d) (enumerate_from 0 (list_blocks_from_head d n head))))
 
 -- a disk and its excerpt are listed alike
-pub listed_as : (disk excerpt : Disk) → IsDiskOfSameSizedBlockExcerpts disk excerpt → (ps : List Pair) (text : List ℕ) → IsListingOfTree (tree_on_disk disk ps) text → IsListingOfTree (tree_on_disk excerpt ps) text
+pub listed_as : (disk excerpt : Disk) → IsDiskOfExcerptsKeepingSizesPointersAndLogs disk excerpt → (ps : List Pair) (text : List ℕ) → IsListingOfTree (tree_on_disk disk ps) text → IsListingOfTree (tree_on_disk excerpt ps) text
 listed_as disk excerpt is ps = listed_alike (tree_on_disk disk ps) (tree_on_disk excerpt ps) (trees_alike (skip_list_bytes_on_disk disk) (skip_list_bytes_on_disk excerpt) lengths (entries_by_directory_in_thread ps) (root_directory_address_of_pairs ps))
   where
     lengths : (head size : ℕ) → length (skip_list_bytes_on_disk excerpt head size) ≡ length (skip_list_bytes_on_disk disk head size)

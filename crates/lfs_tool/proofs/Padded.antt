@@ -5,7 +5,7 @@ use Rattle.std.proofs.lemmas.List.{take-replicate, take_all, take-append-le, tak
 use Rattle.std.proofs.Math.Seq.{drop-append_seam}
 use Rattle.std.proofs.lemmas.Bool.{cases_lt, or_parts}
 use Rattle.lfs_model.specs.Content.{has_commit}
-use Rattle.lfs_tool.specs.Excerpt.{IsSameSizedExcerptOfBlock, is_whole_block_kept_in_excerpt, byte_count_kept_in_excerpt, bytes_padded_to_size}
+use Rattle.lfs_tool.specs.Excerpt.{IsExcerptKeepingSizePointersAndLog, is_whole_block_kept_in_excerpt, byte_count_kept_in_excerpt, bytes_padded_to_size}
 use Rattle.lfs_tool.specs.ExcerptShape.{length-padded}
 
 -- ---- a part
@@ -63,14 +63,14 @@ read_padded size off n start end xs fits within end_is start_is =
 none_behind : (block : List ℕ) → bytes_padded_to_size (length block) block ≡ block
 none_behind block = ap (λ k. block ++ replicate k 255) (let e : length block - length block ≡ 0 = omega arith in e) ∙ append-nil block
 
-pub whole_excerpt : (block items : List ℕ) → items ≡ block → IsSameSizedExcerptOfBlock block (bytes_padded_to_size (length block) items)
+pub whole_excerpt : (block items : List ℕ) → items ≡ block → IsExcerptKeepingSizePointersAndLog block (bytes_padded_to_size (length block) items)
 whole_excerpt block items is = rw (is) (record {
   size = ap length (none_behind block);
   pointers = ap (take 132) (none_behind block);
   log = inl (none_behind block);
 })
 
-pub cut_excerpt : (block items : List ℕ) → items ≡ take 132 block → 132 ≤ length block → is_whole_block_kept_in_excerpt block ≡ false → IsSameSizedExcerptOfBlock block (bytes_padded_to_size (length block) items)
+pub cut_excerpt : (block items : List ℕ) → items ≡ take 132 block → 132 ≤ length block → is_whole_block_kept_in_excerpt block ≡ false → IsExcerptKeepingSizePointersAndLog block (bytes_padded_to_size (length block) items)
 cut_excerpt block items is room none =
     let len = length-take-le 132 block room in
     rw (is) (record {

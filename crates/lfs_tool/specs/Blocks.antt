@@ -4,9 +4,9 @@ use Rattle.std.specs.Io.KnownBytes.{Consumes, IsAtEnd}
 use Rattle.lfs_tool.specs.declared.block_excerpt.BlockExcerpt.{BlockExcerpt}
 use Rattle.lfs_tool.specs.ExcerptBlocks.{block_of_excerpt, blocks_of_excerpts}
 use Rattle.lfs_device.specs.Shown.{disk_of_geometry_and_blocks, disk_with_name_order}
-use Rattle.lfs_tool.specs.declared.excerpt.Excerpt.{Excerpt}
+use Rattle.lfs_tool.specs.declared.excerpt.ExcerptDevice.{ExcerptDevice}
 use Rattle.lfs_tool.specs.ExcerptView.{excerpt_blocks, geometry_of_excerpt_device}
-use Rattle.lfs_tool.specs.Excerpt.{AreSameSizedExcerptsOfBlocks, IsSameSizedExcerptOfBlock}
+use Rattle.lfs_tool.specs.Excerpt.{AreExcerptsKeepingSizesPointersAndLogs, IsExcerptKeepingSizePointersAndLog}
 use Rattle.lfs_model.specs.Blocks.{cut}
 use Rattle.lfs_model.specs.declared.order.NameOrder.{NameOrder}
 
@@ -19,15 +19,15 @@ pub record FillsBufferWithNextBytes (old new : Option (List ℕ)) (n : ℕ) (buf
 -- the bytes are whole blocks, and these are excerpts of them
 pub record AreExcerptsOfAllBlocksOfImageBytes (size : ℕ) (bytes : List ℕ) (blocks : List BlockExcerpt) : Type 0 where
   pub whole : length bytes ≡ size * length blocks
-  pub excerpts : AreSameSizedExcerptsOfBlocks (cut size (length blocks) bytes) (blocks_of_excerpts blocks)
+  pub excerpts : AreExcerptsKeepingSizesPointersAndLogs (cut size (length blocks) bytes) (blocks_of_excerpts blocks)
 
 -- an excerpt of this block follows the old blocks
 pub record IsExcerptPushed (block : List ℕ) (old new : List BlockExcerpt) : Type 0 where
   pub kept : BlockExcerpt
   pub is : new ≡ old ++ kept ∷ []
-  pub excerpt : IsSameSizedExcerptOfBlock block (block_of_excerpt kept)
+  pub excerpt : IsExcerptKeepingSizePointersAndLog block (block_of_excerpt kept)
   pub size : kept.size ≡ length block
 
 -- the device shows these blocks, of that size and in such pages, with the names in any order
-pub record DeviceOfExcerptHasTheseBlocksAndSizes (block_size page : ℕ) (blocks : List BlockExcerpt) (e : Excerpt) : Type 0 where
+pub record DeviceOfExcerptHasTheseBlocksAndSizes (block_size page : ℕ) (blocks : List BlockExcerpt) (e : ExcerptDevice) : Type 0 where
   pub disk : (order : NameOrder) → disk_with_name_order order (disk_of_geometry_and_blocks (geometry_of_excerpt_device e) (excerpt_blocks e)) ≡ record { block_size = block_size; page = page; order = order; blocks = blocks_of_excerpts blocks }

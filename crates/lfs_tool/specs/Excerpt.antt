@@ -10,23 +10,23 @@ largest_skip_list_pointers_size = 132
 
 -- One block for another: of the same size, and with the same pointers if it is a skip list's. Where either has a commit, they
 -- are the same.
-pub record IsSameSizedExcerptOfBlock (block excerpt : List ℕ) : Type 0 where
+pub record IsExcerptKeepingSizePointersAndLog (block excerpt : List ℕ) : Type 0 where
   pub size : length excerpt ≡ length block
   pub pointers : take largest_skip_list_pointers_size excerpt ≡ take largest_skip_list_pointers_size block
   pub log : (excerpt ≡ block) ⊎ ((has_commit block ≡ false) × (has_commit excerpt ≡ false))
 
 -- each block for another
-abbrev pub AreSameSizedExcerptsOfBlocks : Blocks → Blocks → Type 0
-AreSameSizedExcerptsOfBlocks [] [] = Unit {0}
-AreSameSizedExcerptsOfBlocks [] (e ∷ excerpts) = ⊥
-AreSameSizedExcerptsOfBlocks (b ∷ blocks) [] = ⊥
-AreSameSizedExcerptsOfBlocks (b ∷ blocks) (e ∷ excerpts) = IsSameSizedExcerptOfBlock b e × AreSameSizedExcerptsOfBlocks blocks excerpts
+abbrev pub AreExcerptsKeepingSizesPointersAndLogs : Blocks → Blocks → Type 0
+AreExcerptsKeepingSizesPointersAndLogs [] [] = Unit {0}
+AreExcerptsKeepingSizesPointersAndLogs [] (e ∷ excerpts) = ⊥
+AreExcerptsKeepingSizesPointersAndLogs (b ∷ blocks) [] = ⊥
+AreExcerptsKeepingSizesPointersAndLogs (b ∷ blocks) (e ∷ excerpts) = IsExcerptKeepingSizePointersAndLog b e × AreExcerptsKeepingSizesPointersAndLogs blocks excerpts
 
 -- a disk whose blocks are excerpts of the other's, of the same size
-pub record IsDiskOfSameSizedBlockExcerpts (disk excerpt : Disk) : Type 0 where
+pub record IsDiskOfExcerptsKeepingSizesPointersAndLogs (disk excerpt : Disk) : Type 0 where
   pub block_size : excerpt.block_size ≡ disk.block_size
   pub order : excerpt.order ≡ disk.order
-  pub blocks : AreSameSizedExcerptsOfBlocks disk.blocks excerpt.blocks
+  pub blocks : AreExcerptsKeepingSizesPointersAndLogs disk.blocks excerpt.blocks
 
 -- these bytes, and then erased ones up to a size
 abbrev pub bytes_padded_to_size : ℕ → List ℕ → List ℕ

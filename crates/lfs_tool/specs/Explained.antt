@@ -30,8 +30,8 @@ use Rattle.lfs_tool.specs.declared.writer.ToolOutput.{Ghosts}
 -- ---- lines
 
 -- the path, and what is wrong there
-abbrev pub path_fault_text : PathFault → List ℕ
-path_fault_text f = escaped_text f.path.items ++ codes ": " ++ escaped_text f.words.items ++ newline
+abbrev pub text_of_fault_met_at_host_path : PathFault → List ℕ
+text_of_fault_met_at_host_path f = escaped_text f.path.items ++ codes ": " ++ escaped_text f.words.items ++ newline
 
 abbrev pub broken_size_rule_text : Sizes → Option SizeRule → List ℕ
 broken_size_rule_text sizes None = []
@@ -46,7 +46,7 @@ abbrev pub needed_blocks_text : NeededBlocks → List ℕ
 needed_blocks_text n = decimal n.blocks ++ codes " blocks are too few" ++ enough_blocks_text n.enough ++ newline
 
 abbrev pub explanation_text : Explanation → List ℕ
-explanation_text (explanation.Place f) = path_fault_text f
+explanation_text (explanation.Place f) = text_of_fault_met_at_host_path f
 explanation_text (explanation.Checked checked) = check_result_text checked
 explanation_text (explanation.Sizes sizes rule) = broken_size_rule_text sizes rule
 explanation_text (explanation.Blocks needed) = needed_blocks_text needed
@@ -97,13 +97,13 @@ ExplainsTooFewBlocks folder_of limit_of shown line e =
     IsTrueForMode line.mode (e ≡ explanation.Nothing) (e ≡ explanation.Nothing) (λ folder. ExplainsNeededBlocksOfFolder folder_of limit_of shown line folder e) (λ _. e ≡ explanation.Nothing)
 
 -- this explains the error: of sizes the rule that is broken, of an image what a check says, of too few blocks how many it takes
-abbrev pub ExplainsError : {I F : Type 0} → (I → List ℕ) → (I → Option (List ℕ)) → (F → List ℕ) → (F → ℕ) → (F → Option TreeSource) → Line → ToolError → Explanation → Type 0
-ExplainsError path_of bytes folder_of limit_of shown line (Fs fs.Invalid) e = ExplainsBrokenSizeRule path_of bytes line e
-ExplainsError path_of bytes folder_of limit_of shown line (Fs fs.Corrupt) e = ExplainsErrorByImageCheck path_of bytes line e
-ExplainsError path_of bytes folder_of limit_of shown line (Fs fs.NoSpace) e = ExplainsTooFewBlocks folder_of limit_of shown line e
-ExplainsError path_of bytes folder_of limit_of shown line (Fs other) e = e ≡ explanation.Nothing
-ExplainsError path_of bytes folder_of limit_of shown line Input e = IsExplanationPathFaultOrNothing e
-ExplainsError path_of bytes folder_of limit_of shown line Output e = IsExplanationPathFaultOrNothing e
+abbrev pub IsExplanationOfError : {I F : Type 0} → (I → List ℕ) → (I → Option (List ℕ)) → (F → List ℕ) → (F → ℕ) → (F → Option TreeSource) → Line → ToolError → Explanation → Type 0
+IsExplanationOfError path_of bytes folder_of limit_of shown line (Fs fs.Invalid) e = ExplainsBrokenSizeRule path_of bytes line e
+IsExplanationOfError path_of bytes folder_of limit_of shown line (Fs fs.Corrupt) e = ExplainsErrorByImageCheck path_of bytes line e
+IsExplanationOfError path_of bytes folder_of limit_of shown line (Fs fs.NoSpace) e = ExplainsTooFewBlocks folder_of limit_of shown line e
+IsExplanationOfError path_of bytes folder_of limit_of shown line (Fs other) e = e ≡ explanation.Nothing
+IsExplanationOfError path_of bytes folder_of limit_of shown line Input e = IsExplanationPathFaultOrNothing e
+IsExplanationOfError path_of bytes folder_of limit_of shown line Output e = IsExplanationPathFaultOrNothing e
 
 -- ---- why none is found out
 
@@ -144,7 +144,7 @@ not_explained_text e = codes "not explained: " ++ tool_error_line e
 -- what explains the line's error is said
 abbrev pub WritesExplanation : {I F W : Type 0} → (I → List ℕ) → (I → Option (List ℕ)) → (F → List ℕ) → (F → ℕ) → (F → Option TreeSource) → Ghosts W → Line → ToolError → W → W → Type 0
 WritesExplanation path_of bytes folder_of limit_of shown g line error old new =
-    (e : Explanation) × (ExplainsError path_of bytes folder_of limit_of shown line error e × WritesTextOrFails g (explanation_text e) old new)
+    (e : Explanation) × (IsExplanationOfError path_of bytes folder_of limit_of shown line error e × WritesTextOrFails g (explanation_text e) old new)
 
 -- which error comes in place of an explanation is said
 abbrev pub WritesErrorInPlaceOfExplanation : {I F W : Type 0} → (I → List ℕ) → (I → ℕ) → (F → List ℕ) → (F → ℕ) → (F → Option TreeSource) → Ghosts W → Line → ToolError → W → W → Type 0

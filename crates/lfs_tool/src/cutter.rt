@@ -22,7 +22,7 @@ impl ExcerptMaker {
     ghost use Rattle.std.specs.Prelude.{◌≡◌, IfOk};
     ghost use Rattle.lfs_tool.specs.ExcerptBlocks.{block_of_excerpt};
     ghost use Rattle.lfs_tool.specs.ExcerptView.{excerpt_maker_block_size};
-    ghost use Rattle.lfs_tool.specs.Excerpt.{IsSameSizedExcerptOfBlock, is_whole_block_kept_in_excerpt, byte_count_kept_in_excerpt};
+    ghost use Rattle.lfs_tool.specs.Excerpt.{IsExcerptKeepingSizePointersAndLog, is_whole_block_kept_in_excerpt, byte_count_kept_in_excerpt};
 
     /// Makes a cutter for blocks of so many bytes, at least 132.
     ///
@@ -47,7 +47,7 @@ impl ExcerptMaker {
         block: &[u8],
     ) -> Result<BlockExcerpt, Error>
         requires { length block.now ≡ excerpt_maker_block_size self.old }
-        ensures excerpt { IfOk result (λ b. IsSameSizedExcerptOfBlock block.now (block_of_excerpt b)) }
+        ensures excerpt { IfOk result (λ b. IsExcerptKeepingSizePointersAndLog block.now (block_of_excerpt b)) }
         ensures sizes { IfOk result (λ b. (b.size ≡ length block.now) × (length b.bytes.items ≡ byte_count_kept_in_excerpt block.now)) }
         ensures same { excerpt_maker_block_size self.new ≡ excerpt_maker_block_size self.old }
         ensures err { IfErr result (λ e. e ≡ Error.NoMemory) }

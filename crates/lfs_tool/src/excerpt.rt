@@ -2,7 +2,7 @@ ghost use Rattle.std.specs.Prelude.{◌≡◌, ◌≤◌, ◌<◌, ◌+◌, ◌%
 ghost use Rattle.lfs_model.specs.Blocks.{block_bytes_by_number};
 ghost use Rattle.lfs_model.specs.History.{device_call_event_with_blocks, AreBytesUnprogrammed, AreBlocksLeftByNewestCall};
 ghost use Rattle.lfs_model.specs.History.DeviceCall.{Read, Program, Erase};
-ghost use Rattle.lfs_model.specs.Conformance.{AreConformingDeviceCalls};
+ghost use Rattle.lfs_model.specs.Conformance.{DoSuccessfulCallsHaveOnlyTheirEffect};
 ghost use Rattle.lfs_tool.specs.ExcerptBlocks.{IsDeviceCallNoFailedRead, AreExcerptsOfBlocksWithSize, blocks_of_excerpts};
 
 use crate::BlockExcerpt;
@@ -12,7 +12,7 @@ use lfs_device::{BlockDevice, Error, Geometry, Trace};
 /// files in skip lists can't be read from it. A read never fails. A program and an erase always
 /// fail with `Io`, and change nothing.
 #[derive(Drop)]
-pub struct Excerpt {
+pub struct ExcerptDevice {
     geometry: Geometry,
     blocks: Vec<BlockExcerpt>,
     trace: Trace,
@@ -20,21 +20,21 @@ pub struct Excerpt {
     ghost sizes: { AreExcerptsOfBlocksWithSize geometry.block_size blocks.items },
     pub ghost has_read: { All IsDeviceCallNoFailedRead trace.events },
     ghost newest: { AreBlocksLeftByNewestCall trace.events (blocks_of_excerpts blocks.items) },
-    ghost conforms: { AreConformingDeviceCalls trace.events },
+    ghost conforms: { DoSuccessfulCallsHaveOnlyTheirEffect trace.events },
 }
 
-impl Excerpt {
+impl ExcerptDevice {
     ghost use Rattle.lfs_tool.specs.ExcerptView.{excerpt_blocks, geometry_of_excerpt_device, call_history_of_excerpt_device};
 
     /// Makes the device of these blocks. There are as many as the geometry has, of its size.
-    pub fn new(geometry: Geometry, blocks: Vec<BlockExcerpt>) -> Excerpt
+    pub fn new(geometry: Geometry, blocks: Vec<BlockExcerpt>) -> ExcerptDevice
         requires count { length blocks.items ≡ geometry.block_count }
         requires sizes { AreExcerptsOfBlocksWithSize geometry.block_size blocks.items }
         ensures geometry { geometry_of_excerpt_device result ≡ geometry }
         ensures blocks { excerpt_blocks result ≡ blocks_of_excerpts blocks.items }
         ensures no_call { call_history_of_excerpt_device result ≡ [] }
     {
-        Excerpt {
+        ExcerptDevice {
             geometry,
             blocks,
             trace: Trace::with_history_chosen_by_proof(&geometry, &()),
@@ -42,7 +42,7 @@ impl Excerpt {
     }
 }
 
-impl BlockDevice for Excerpt {
+impl BlockDevice for ExcerptDevice {
     ghost use Rattle.lfs_tool.specs.ExcerptView.{excerpt_blocks, geometry_of_excerpt_device, call_history_of_excerpt_device};
     ghost use Rattle.lfs_tool.specs.ExcerptShape.{values_in_excerpt_blocks_are_bytes, blocks_of_excerpts_have_size};
 

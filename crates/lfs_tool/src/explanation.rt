@@ -1,7 +1,7 @@
 // The cause for which a call failed, and its lines.
 
 ghost use Rattle.std.specs.Prelude.{◌≡◌, ◌++◌, IfOk, OnOk};
-ghost use Rattle.lfs_tool.specs.Explained.{enough_blocks_text, explanation_text, path_fault_text, needed_blocks_text, broken_size_rule_text};
+ghost use Rattle.lfs_tool.specs.Explained.{enough_blocks_text, explanation_text, text_of_fault_met_at_host_path, needed_blocks_text, broken_size_rule_text};
 
 use crate::check_result::CheckResult;
 use crate::checked_lines::{lines_of_check_result, push_labelled_number, push_text};
@@ -28,7 +28,7 @@ pub enum Explanation {
 
 // Adds the line of a fault: its path, and what is wrong there.
 fn push_path_fault(text: &mut Vec<u8>, fault: &PathFault) -> Result<(), AllocError>
-    ensures { OnOk result (text.new.items ≡ text.old.items ++ path_fault_text fault.now) }
+    ensures { OnOk result (text.new.items ≡ text.old.items ++ text_of_fault_met_at_host_path fault.now) }
 {
     push_escaped_path(text, &fault.path)?;
     text.extend_from_slice(b": ")?;

@@ -1,7 +1,7 @@
 // The cause for which a command line wasn't carried out.
 
 ghost use Rattle.std.specs.Prelude.{◌≡◌, IfErr, IfOk, IfSome, length, take};
-ghost use Rattle.lfs_tool.specs.Explained.{FailsToCountNeededBlocks, FailsToReadImage, ExplainsTooFewBlocks, ExplainsBrokenSizeRule, ExplainsErrorByImageCheck, IsSizeOfMadeOrReadImage, ExplainsError, IsExplanationPathFaultOrNothing, IsErrorFollowedByExplanationIfRequested, IsErrorInsteadOfExplanation, IsErrorInsteadOfExplanationOrItsLines, ExplainsNeededBlocksOfFolder, WritesExplanationOrErrorInstead, explanation_text, not_explained_text};
+ghost use Rattle.lfs_tool.specs.Explained.{FailsToCountNeededBlocks, FailsToReadImage, ExplainsTooFewBlocks, ExplainsBrokenSizeRule, ExplainsErrorByImageCheck, IsSizeOfMadeOrReadImage, IsExplanationOfError, IsExplanationPathFaultOrNothing, IsErrorFollowedByExplanationIfRequested, IsErrorInsteadOfExplanation, IsErrorInsteadOfExplanationOrItsLines, ExplainsNeededBlocksOfFolder, WritesExplanationOrErrorInstead, explanation_text, not_explained_text};
 ghost use Rattle.lfs_tool.specs.Reports.{WritesTextOrFails};
 ghost use Rattle.lfs_tool.specs.RunsAtPaths.{IsTrueOfSomethingAtPath, IsTrueForMode};
 
@@ -138,7 +138,7 @@ pub fn explanation_of_error<P: Places>(
     line: &Line<'_>,
     error: ToolError,
 ) -> Result<Explanation, ToolError>
-    ensures ok { IfOk result (ExplainsError P.image_path P.Image.remaining P.folder_path P.folder_limit P.Folder.shown line.now error) }
+    ensures ok { IfOk result (IsExplanationOfError P.image_path P.Image.remaining P.folder_path P.folder_limit P.Folder.shown line.now error) }
     ensures err { IfErr result (IsErrorInsteadOfExplanation P.image_path P.Image.faults P.folder_path P.Folder.faults P.Folder.shown line.now error) }
 {
     match error {
@@ -157,7 +157,7 @@ fn explanation_lines_of_error<P: Places>(
     line: &Line<'_>,
     error: ToolError,
 ) -> Result<Vec<u8>, ToolError>
-    ensures ok { IfOk result (λ text. (e : _) × (ExplainsError P.image_path P.Image.remaining P.folder_path P.folder_limit P.Folder.shown line.now error e × (text.items ≡ explanation_text e))) }
+    ensures ok { IfOk result (λ text. (e : _) × (IsExplanationOfError P.image_path P.Image.remaining P.folder_path P.folder_limit P.Folder.shown line.now error e × (text.items ≡ explanation_text e))) }
     ensures err { IfErr result (IsErrorInsteadOfExplanationOrItsLines P.image_path P.Image.faults P.folder_path P.Folder.faults P.Folder.shown line.now error) }
 {
     let explanation = match explanation_of_error(alloc, places, line, error) {

@@ -17,7 +17,7 @@ ghost use Rattle.lfs_tool.specs.Blocks.{DeviceOfExcerptHasTheseBlocksAndSizes};
 ghost use Rattle.lfs_tool.specs.Listings.{IsThreadWithEntriesOfTreeWalk, IsMountErrorOfDisk};
 ghost use Rattle.lfs_lookup.specs.Walk.{tree_items_view};
 
-use crate::{BlockExcerpt, Excerpt, excerpt_is_read_without_fault};
+use crate::{BlockExcerpt, ExcerptDevice, excerpt_is_read_without_fault};
 use lfs_device::{BlockDevice, Error, Geometry, Ordered, RamDevice};
 use lfs_lookup::{TreeItem, walk_tree};
 use lfs_mount::mount_with_either_name_order;
@@ -60,7 +60,7 @@ pub(crate) fn excerpt_device_of_blocks(
     blocks: Vec<BlockExcerpt>,
     block_size: u32,
     page: u32,
-) -> Result<Excerpt, Error>
+) -> Result<ExcerptDevice, Error>
     requires many { length blocks.items < 2 ^ 32 }
     requires sizes { AreExcerptsOfBlocksWithSize block_size blocks.items }
     ensures geometry { OnOk result (IsValidGeometry block_size page (length blocks.items)) }
@@ -68,7 +68,7 @@ pub(crate) fn excerpt_device_of_blocks(
     ensures err { IfErr result (λ e. (e ≡ Error.Invalid) × (¬ IsValidGeometry block_size page (length blocks.items))) }
 {
     let geometry = Geometry::new(block_size, page, blocks.len() as u32)?;
-    Ok(Excerpt::new(geometry, blocks))
+    Ok(ExcerptDevice::new(geometry, blocks))
 }
 
 // Returns the thread of an image that is accepted in one of the orders of names, and all entries of
@@ -92,8 +92,8 @@ pub(crate) fn tree_items_of_device<D: BlockDevice>(
 // Returns the thread and the entries of an excerpt.
 pub(crate) fn tree_items_of_excerpt(
     alloc: Global,
-    device: Excerpt,
-) -> Result<(Thread<Ordered<Excerpt>>, Vec<TreeItem>), Error>
+    device: ExcerptDevice,
+) -> Result<(Thread<Ordered<ExcerptDevice>>, Vec<TreeItem>), Error>
     ensures items { IfOk result (λ found. IsThreadWithEntriesOfTreeWalk (shown (excerpt.geometry_of_excerpt_device device) (excerpt.excerpt_blocks device)) found.0 (tree_items_view found.1.items)) }
     ensures err { IfErr result (IsMountErrorOfDisk (shown (excerpt.geometry_of_excerpt_device device) (excerpt.excerpt_blocks device))) }
 {

@@ -63,7 +63,7 @@ pub use cutter::ExcerptMaker;
 pub use error_lines::report;
 pub use errors::{Fault, ToolError};
 pub use examination::check_result_of_image;
-pub use excerpt::Excerpt;
+pub use excerpt::ExcerptDevice;
 pub use excerpt_laws::{excerpt_is_listed_like_its_disk, excerpt_is_read_without_fault};
 pub use explanation::Explanation;
 pub use explanations::explanation_of_error;

@@ -17,13 +17,13 @@ use crate::input::read_image_without_keeping;
 use crate::lines::listing_lines_of_tree_items;
 use crate::output::write_bytes_and_flush;
 use crate::{
-    BlockExcerpt, Excerpt, ImageInput, ToolError, ToolOutput, excerpt_is_listed_like_its_disk,
+    BlockExcerpt, ExcerptDevice, ImageInput, ToolError, ToolOutput, excerpt_is_listed_like_its_disk,
 };
 use lfs_device::{Error, Geometry};
 use std::alloc::Global;
 
 // Returns the lines of an excerpt.
-fn listing_lines_of_excerpt(alloc: Global, device: Excerpt) -> Result<Vec<u8>, Error>
+fn listing_lines_of_excerpt(alloc: Global, device: ExcerptDevice) -> Result<Vec<u8>, Error>
     ensures lines { IfOk result (λ text. (order : NameOrder) × IsListingTextOfDisk (disk_with_name_order order (shown (geometry_of_excerpt_device device) (excerpt_blocks device))) text.items) }
     ensures err { IfErr result (IsMountErrorOfDisk (shown (geometry_of_excerpt_device device) (excerpt_blocks device))) }
 {

@@ -76,7 +76,7 @@ fn needed_block_count(
     ensures { IfOk result (λ count. IfSome count (IsJustEnoughBlocksForEntries line.now entries.now)) }
 {
     let mut few = few;
-    let most = largest_block_count_of_image(line.block_size);
+    let most = largest_allowed_block_count_for_block_size(line.block_size);
     while few < most {
         let more = (few + few.max(1)).min(most);
         if has_room_for_entries(alloc, line, entries, more)? {
@@ -89,7 +89,7 @@ fn needed_block_count(
 }
 
 // Returns how many blocks of a size an image has at most.
-fn largest_block_count_of_image(block_size: u32) -> u32
+fn largest_allowed_block_count_for_block_size(block_size: u32) -> u32
     ensures { result ≤ 65536 }
 {
     match (IMAGE_MAX as u32).checked_div(block_size) {

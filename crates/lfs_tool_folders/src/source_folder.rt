@@ -4,7 +4,7 @@ ghost use Rattle.lfs_tool_folders.specs.Roots.{root_path_of_source_folder, file_
 
 use crate::file_bytes::read_at_most;
 use crate::full_path::{full_path, full_path_joined_with_name_unless_empty};
-use crate::zeros::{number_of_zeros_replacing_too_long_file, zeros};
+use crate::zeros::{number_of_zeros_refused_like_too_long_file, zeros};
 use crate::{FaultLog, ListedName, Source, SourceError, SourceKind, Tally};
 use std::alloc::{AllocError, Global};
 use std::fs::{File, FileType, OpenFile};
@@ -128,7 +128,7 @@ impl<'a, R: Files + AllocGlobal + Clone + Drop> Folder<'a, R> {
         let full = full_path(self.rt.alloc(), self.root.as_str(), path)?;
         let file = File::open(self.rt, full.as_str())?;
         let len = file.metadata()?.len();
-        if let Some(count) = number_of_zeros_replacing_too_long_file(len, self.size) {
+        if let Some(count) = number_of_zeros_refused_like_too_long_file(len, self.size) {
             return Ok(zeros(self.rt.alloc(), count)?);
         }
         // A file that has become longer meanwhile is too long, too.

@@ -11,7 +11,7 @@ const FILE_MAX: u64 = 2_147_483_647;
 // Returns how many zeros stand for a file of `len` bytes, where an image of `size` bytes is too short for
 // it. They are too many for the image, too, and more than a file may have exactly where the file's bytes
 // are.
-pub(crate) fn number_of_zeros_replacing_too_long_file(len: u64, size: u64) -> Option<usize>
+pub(crate) fn number_of_zeros_refused_like_too_long_file(len: u64, size: u64) -> Option<usize>
     ensures short { (result ≡ None) ↔ (len ≤ size) }
     ensures long { IfSome result (λ n. (size < n) × (n ≤ len) × ((file_size_limit < n) ↔ (file_size_limit < len))) }
 {

@@ -148,7 +148,7 @@ fn name_order_option_arg<'a>(alloc: Global) -> Arg<'a>
         .help("Order of names in the image that -c makes")
 }
 
-fn with_name_order_option<'a>(
+fn add_name_order_option_to_command<'a>(
     alloc: Global,
     command: Command<'a>,
 ) -> Result<Command<'a>, AllocError>
@@ -167,7 +167,7 @@ fn arg_of_explain_option<'a>(alloc: Global) -> Arg<'a>
         .help("Say why behind the line of an error")
 }
 
-fn with_explain_option<'a>(alloc: Global, command: Command<'a>) -> Result<Command<'a>, AllocError>
+fn add_explain_option_to_command<'a>(alloc: Global, command: Command<'a>) -> Result<Command<'a>, AllocError>
     ensures { IfOk result (λ c. app_of c ≡ with_rule (app_of command.entry) rule_of_explain_option) }
 {
     command.arg(arg_of_explain_option(alloc))
@@ -184,7 +184,7 @@ fn image_arg<'a>(alloc: Global) -> Arg<'a>
         .help("The file with the image, or - for standard input or output")
 }
 
-fn with_image_argument<'a>(alloc: Global, command: Command<'a>) -> Result<Command<'a>, AllocError>
+fn add_image_argument_to_command<'a>(alloc: Global, command: Command<'a>) -> Result<Command<'a>, AllocError>
     ensures { IfOk result (λ c. app_of c ≡ with_rule (app_of command.entry) rule_of_image_argument) }
 {
     command.arg(image_arg(alloc))
@@ -249,9 +249,9 @@ fn mklittlefs_command<'a>(alloc: Global) -> Result<Command<'a>, AllocError>
         clap_command_before_arguments_are_added(alloc),
     )?;
     let command = with_size_options(alloc, command)?;
-    let command = with_name_order_option(alloc, command)?;
-    let command = with_explain_option(alloc, command)?;
-    let command = with_image_argument(alloc, command)?;
+    let command = add_name_order_option_to_command(alloc, command)?;
+    let command = add_explain_option_to_command(alloc, command)?;
+    let command = add_image_argument_to_command(alloc, command)?;
     Ok(command)
 }
 

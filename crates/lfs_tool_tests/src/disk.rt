@@ -38,7 +38,7 @@ pub(crate) enum DiskHabit {
 }
 
 #[derive(Drop)]
-pub(crate) struct Disk {
+pub(crate) struct MemoryFileSystem {
     pub(crate) nodes: RefCell<Vec<DiskNode>>,
     // How many bytes of files it takes yet.
     pub(crate) room: Cell<usize>,
@@ -55,9 +55,9 @@ fn index_of_node_name(nodes: &[DiskNode], name: &str) -> Option<usize> {
         .position(|node| node.name.as_slice() == name.as_bytes())
 }
 
-impl Disk {
-    pub(crate) fn new(alloc: Global, room: usize, habit: DiskHabit) -> Disk {
-        Disk {
+impl MemoryFileSystem {
+    pub(crate) fn new(alloc: Global, room: usize, habit: DiskHabit) -> MemoryFileSystem {
+        MemoryFileSystem {
             nodes: RefCell::new(Vec::new(alloc)),
             room: Cell::new(room),
             habit,
@@ -216,13 +216,13 @@ impl Disk {
 #[derive(Clone, Drop)]
 pub(crate) struct DiskFiles<'a> {
     pub(crate) alloc: Global,
-    pub(crate) disk: &'a Disk,
+    pub(crate) disk: &'a MemoryFileSystem,
 }
 
 // A file that is open.
 #[derive(Drop)]
 pub(crate) struct OpenedDiskFile<'a> {
-    disk: &'a Disk,
+    disk: &'a MemoryFileSystem,
     number: usize,
 }
 

@@ -1,6 +1,6 @@
 // Images that are written whole or not at all.
 
-use crate::disk::{Disk, DiskFiles, DiskHabit, PathKind};
+use crate::disk::{MemoryFileSystem, DiskFiles, DiskHabit, PathKind};
 use lfs_tool_folders::NewImage;
 use std::alloc::Global;
 use std::io;
@@ -106,8 +106,8 @@ fn disk_with_old_image(
     kind: Option<PathKind>,
     room: usize,
     habit: DiskHabit,
-) -> io::Result<Disk> {
-    let disk = Disk::new(alloc, room, habit);
+) -> io::Result<MemoryFileSystem> {
+    let disk = MemoryFileSystem::new(alloc, room, habit);
     if let Some(kind) = kind {
         disk.add_node(alloc, PATH, kind, OLD)?;
     }

@@ -22,7 +22,7 @@ use Rattle.lfs_model.proofs.Changes.{IsImageAfterTreeChange}
 use Rattle.lfs_model.proofs.Histories.{IsTrueAfterAnyPowerLossSince-weaker, IsTrueAfterAnyPowerLossSince-worst}
 use Rattle.lfs_writer.specs.Hand.{KeepsBytesOfUsedBlocks}
 use Rattle.lfs_model.proofs.Files.{HasSameFileBlocksOfStructOnDisks, file_blocks_same}
-use Rattle.lfs_writer.specs.ThreadContents.{CanTruncateContentsOnThread, CanWriteContentsOnThread, HasContentsInStorageFormOnThread, LeavesPairsAndUsedBlocksUnchanged, ReportsFaultOrNoMemory, list_blocks_of_contents}
+use Rattle.lfs_writer.specs.ThreadContents.{CanTruncateContentsOnThread, CanWriteContentsOnThread, AreConsistentContentsWithBytesAndFormOnThread, LeavesPairsAndUsedBlocksUnchanged, ReportsFaultOrNoMemory, list_blocks_of_contents}
 use Rattle.lfs_thread.specs.Kept.{KeptThread, ThreadView}
 use Rattle.lfs_tree.specs.RootedThreads.{IsSoundThreadUnlessFailed, IsSoundThreadWithRootAtPairNumber, tree_state_of_kept_thread, tree_state_of_thread}
 use Rattle.lfs_tree.specs.OpenContents.{CanTruncateWriterContents, CanWriteWriterContents, AreWriterContentsOverFileOnThread, WritesOnlyUnusedBlocksOrFails, WritesOnlyUnusedBlocks, skip_list_blocks_of_slot, bytes_of_writer_contents, skip_list_blocks_at_path}
@@ -39,7 +39,7 @@ use Rattle.lfs_writer.specs.declared.contents.WriterContents.{WriterContents}
 use Rattle.lfs_writer.proofs.Used.{used_back}
 
 -- the bytes and the form of contents that stand on a thread's device
-pub bytes_of_held : (t : KeptThread) (c : WriterContents) (bytes : List ℕ) (shape : ContentsStorageForm) → HasContentsInStorageFormOnThread t c bytes shape → bytes_of_writer_contents t c ≡ bytes
+pub bytes_of_held : (t : KeptThread) (c : WriterContents) (bytes : List ℕ) (shape : ContentsStorageForm) → AreConsistentContentsWithBytesAndFormOnThread t c bytes shape → bytes_of_writer_contents t c ≡ bytes
 bytes_of_held t c bytes shape h = ap (λ (n : ℕ). writer_contents_bytes_in_memory_or_blocks t.disk.blocks n c) (sym h.divided.block_size) ∙ h.has.has
 
 pub geometry_beside : (a b : KeptThread) → LeavesPairsAndUsedBlocksUnchanged a b → SameGeometry a.disk b.disk
@@ -74,7 +74,7 @@ module _ (a b : KeptThread) (leaves : LeavesPairsAndUsedBlocksUnchanged a b) (ac
           (slot_has (λ (x : Slot). HasSameFileBlocksOfStructOnDisks a.disk b.disk x.struct) a.disk a.pairs accepted (files_still a.disk b.disk a.pairs accepted (geometry_beside a b leaves) used_same) tt path s e)
 
   -- what a call makes of contents is over the same file
-  pub over_beside : (path : Path) (contents c : WriterContents) (bytes : List ℕ) (shape : ContentsStorageForm) → AreWriterContentsOverFileOnThread a path contents → HasContentsInStorageFormOnThread b c bytes shape → AreUsedBlocksOfListAmongOwnBlocks b.map (list_blocks_of_contents a contents) (list_blocks_of_contents b c) → AreWriterContentsOverFileOnThread b path c
+  pub over_beside : (path : Path) (contents c : WriterContents) (bytes : List ℕ) (shape : ContentsStorageForm) → AreWriterContentsOverFileOnThread a path contents → AreConsistentContentsWithBytesAndFormOnThread b c bytes shape → AreUsedBlocksOfListAmongOwnBlocks b.map (list_blocks_of_contents a contents) (list_blocks_of_contents b c) → AreWriterContentsOverFileOnThread b path c
   over_beside path contents c bytes shape over holds owned = record {
     file = ap (λ (t : Tree). is_file (t path)) tree_beside ∙ over.file;
     stands = record { geometry = holds.geometry; divided = holds.divided; stands = holds.has.stands };
@@ -161,7 +161,7 @@ module _ (a b : ThreadView) (root : ℕ) (writable : Bool) (h : IsSoundThreadWit
       go (Err e) f = absurd (cc)
       go (Ok x) f = rooted_beside
 
-  pub all_over : (path : Path) (contents : WriterContents) (bytes : List ℕ) (shape : ContentsStorageForm) (r : Result WriterContents Error) → AreWriterContentsOverFileOnThread a.kept path contents → IfOk r (λ c. HasContentsInStorageFormOnThread b.kept c bytes shape)
+  pub all_over : (path : Path) (contents : WriterContents) (bytes : List ℕ) (shape : ContentsStorageForm) (r : Result WriterContents Error) → AreWriterContentsOverFileOnThread a.kept path contents → IfOk r (λ c. AreConsistentContentsWithBytesAndFormOnThread b.kept c bytes shape)
       → IfOk r (λ c. AreUsedBlocksOfListAmongOwnBlocks b.kept.map (list_blocks_of_contents a.kept contents) (list_blocks_of_contents b.kept c)) → IfOk r (AreWriterContentsOverFileOnThread b.kept path)
   all_over path contents bytes shape (Err e) over holds owned = tt
   all_over path contents bytes shape (Ok c) over holds owned = over_beside a.kept b.kept leaves sound.accepted sound.used path contents c bytes shape over holds owned

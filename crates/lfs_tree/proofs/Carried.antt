@@ -5,7 +5,7 @@ use Rattle.std.specs.List.{AllByRecursion}
 use Rattle.std.proofs.lemmas.List.Elements.{All-from_recursion}
 use Rattle.std.proofs.lemmas.Option.{same_Some}
 use Rattle.lfs_model.specs.TreeEdits.{is_file}
-use Rattle.lfs_model.specs.BlockSets.{AreExactlyTheUsedBlocks, BlockStateList, IsBlockFree, IsBlockInFlight, IsBlockUsed}
+use Rattle.lfs_model.specs.BlockSets.{AreExactlyTheUsedBlocks, BlockStateList, IsBlockFree, IsBlockInFlight, IsBlockMarkedUsedInMap}
 use Rattle.lfs_model.specs.BlockSets.BlockState.{Free, InFlight, Used}
 use Rattle.lfs_model.specs.Disk.{Disk, block_bytes_on_disk}
 use Rattle.lfs_model.specs.History.{DeviceCallEvent, AreCallsSinceOnlyReads, fault_count_of_history}
@@ -51,7 +51,7 @@ read_is a b r =
 abbrev pub IsPairsOrFree : KeptThread → ℕ → Type 0
 IsPairsOrFree t b = Contains (blocks_of_pairs t.pairs) b ⊎ IsBlockFree t.map b
 
-apart_state : (sets : BlockStateList) (b c : ℕ) → IsBlockInFlight sets b → IsBlockUsed sets c → c ≢ b
+apart_state : (sets : BlockStateList) (b c : ℕ) → IsBlockInFlight sets b → IsBlockMarkedUsedInMap sets c → c ≢ b
 apart_state sets b c flies used e = let k : InFlight ≡ Used = same_Some InFlight Used (sym flies ∙ ap (slice_get sets) (sym e) ∙ used) in absurd (cc)
 
 apart_free : (sets : BlockStateList) (b c : ℕ) → IsBlockInFlight sets b → IsBlockFree sets c → c ≢ b
@@ -108,7 +108,7 @@ keeps_writing a c bs accepted used each w path file same =
 pub apart_files : (t : KeptThread) (bs : List ℕ) → IsAcceptedImage t.disk t.pairs → AreExactlyTheUsedBlocks t.map (used_blocks t.disk t.pairs) → AllByRecursion (IsPairsOrFree t) bs → (b : ℕ) → 1 ≤ occurrence_count_of_number b (file_blocks_of_slots t.disk (all_slots_not_moved t.pairs)) → All (λ c. c ≢ b) bs
 apart_files t bs accepted used each b some = All-from_recursion (λ c. c ≢ b) bs (each_weaker (IsPairsOrFree t) (λ c. c ≢ b) other bs each)
   where
-    here : IsBlockUsed t.map b
+    here : IsBlockMarkedUsedInMap t.map b
     here = let e = count_append b (blocks_of_pairs t.pairs) (file_blocks_of_slots t.disk (all_slots_not_moved t.pairs)) in (used b).1 (Contains-occurrence_count_of_number (used_blocks t.disk t.pairs) b (omega arith))
 
     other : (c : ℕ) → IsPairsOrFree t c → c ≢ b

@@ -6,7 +6,7 @@ use Rattle.std.proofs.lemmas.List.Elements.{All-from_recursion, recursion_from_A
 use Rattle.std.proofs.lemmas.Option.{same_Some}
 use Rattle.lfs_writer.specs.SettledFiles.{CanMarkStoredListUsedAndOldFree, ChangesOnlyBlockMap, IsStoredListUsedAndOldListFree, blocks_of_list_on_thread}
 use Rattle.lfs_model.specs.Blocks.{AreBlocksEqualExceptThese}
-use Rattle.lfs_model.specs.BlockSets.{AreExactlyTheUsedBlocks, BlockStateList, IsBlockInFlight, IsBlockUsed}
+use Rattle.lfs_model.specs.BlockSets.{AreExactlyTheUsedBlocks, BlockStateList, IsBlockInFlight, IsBlockMarkedUsedInMap}
 use Rattle.lfs_model.specs.BlockSets.BlockState.{Free, InFlight, Used}
 use Rattle.lfs_model.specs.Disk.{Disk, SameGeometry, block_bytes_on_disk}
 use Rattle.lfs_model.specs.History.{DeviceCallEvent}
@@ -97,7 +97,7 @@ writes_then a b c bs w r = record {
   at_worst = IsTrueAfterAnyPowerLossSince-trans w.at_worst (IsTrueAfterAnyPowerLossSince-read_count_of_history ArePossibleBlocksAfterPowerLossInCall-read r.reads w.others);
 }
 
-pub not_both : (sets : BlockStateList) (b : ℕ) → IsBlockUsed sets b → IsBlockInFlight sets b → ⊥
+pub not_both : (sets : BlockStateList) (b : ℕ) → IsBlockMarkedUsedInMap sets b → IsBlockInFlight sets b → ⊥
 not_both sets b is flies = let k : Used ≡ InFlight = same_Some Used InFlight (sym is ∙ flies) in absurd (cc)
 
 pub not_free : (sets : BlockStateList) (b : ℕ) → slice_get sets b ≡ Some Free → IsBlockInFlight sets b → ⊥

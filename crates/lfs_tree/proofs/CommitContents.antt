@@ -4,7 +4,7 @@ use Rattle.std.specs.Prelude.{Contains}
 use Rattle.std.specs.List.{IsDistinct, flat_map}
 use Rattle.std.proofs.lemmas.Bool.{cases_lt}
 use Rattle.std.proofs.lemmas.List.Elements.{All-contains, All-from_recursion, recursion_from_All}
-use Rattle.lfs_model.specs.BlockSets.{AreExactlyTheUsedBlocks, IsBlockFree, IsBlockInFlight, IsBlockUsed, in_flight_block_count}
+use Rattle.lfs_model.specs.BlockSets.{AreExactlyTheUsedBlocks, IsBlockFree, IsBlockInFlight, IsBlockMarkedUsedInMap, in_flight_block_count}
 use Rattle.lfs_model.specs.Disk.{Disk, inline_limit}
 use Rattle.lfs_model.specs.History.{DeviceCallEvent}
 use Rattle.lfs_model.specs.SkipLists.{list_block_count_for_size, bytes_of_skip_list}
@@ -19,7 +19,7 @@ use Rattle.lfs_model.proofs.BlockCounts.{few_flying}
 use Rattle.lfs_model.proofs.BlockSets.{Contains-occurrence_count_of_number, occurrence_count_of_number-Contains}
 use Rattle.lfs_model.proofs.Counts.{Each, occurrence_count_of_number, count_append, each_from_counted, each_pieces, once_from_distinct}
 use Rattle.lfs_model.proofs.Files.{length_back}
-use Rattle.lfs_writer.specs.StructChanges.{CanReplaceFileStruct}
+use Rattle.lfs_writer.specs.StructChanges.{IsStructOfContentsWithNewBlocksInFlight}
 use Rattle.lfs_writer.specs.SettledFiles.{blocks_of_list_on_thread}
 use Rattle.lfs_writer.specs.ThreadContents.{AreContentsConsistentWithThread}
 use Rattle.lfs_writer.proofs.Coming.{inline_comes, list_comes}
@@ -90,8 +90,8 @@ module _ (t : KeptThread) (path : Path) (u : Slot) (ok : IsAcceptedImage t.disk 
       let o = once_from_distinct (used_blocks t.disk t.pairs) ok.owned_once b in
       omega arith
 
-  pub list_used : (b : ℕ) → 1 ≤ occurrence_count_of_number b (skip_list_blocks_of_struct t.disk u.struct) → IsBlockUsed t.map b
-  list_used b some = All-contains (IsBlockUsed t.map) (skip_list_blocks_of_struct t.disk u.struct) b (marked_there t path u ok used at) (Contains-occurrence_count_of_number (skip_list_blocks_of_struct t.disk u.struct) b some)
+  pub list_used : (b : ℕ) → 1 ≤ occurrence_count_of_number b (skip_list_blocks_of_struct t.disk u.struct) → IsBlockMarkedUsedInMap t.map b
+  list_used b some = All-contains (IsBlockMarkedUsedInMap t.map) (skip_list_blocks_of_struct t.disk u.struct) b (marked_there t path u ok used at) (Contains-occurrence_count_of_number (skip_list_blocks_of_struct t.disk u.struct) b some)
 
   stored_of : (s : StoredList) → AreContentsConsistentWithThread t (Finished s) → IsStoredList t.map t.disk.blocks t.disk.block_size s
   stored_of s stands = subst (λ (n : ℕ). IsStoredList t.map t.disk.blocks n s) stands.divided.block_size stands.stands
@@ -99,7 +99,7 @@ module _ (t : KeptThread) (path : Path) (u : Slot) (ok : IsAcceptedImage t.disk 
   size_of_list : (s : StoredList) (limit : ℕ) → limit < s.size → AreContentsConsistentWithThread t (Finished s) → s.size ≡ length (bytes_of_writer_contents t (Finished s))
   size_of_list s limit large stands = sym (sized s.head s.size (⊎_elim (λ none. absurd (omega arith)) (λ list. list) (stored_of s stands).base))
 
-  pub may_come : (c : WriterContents) → AreWriterContentsOverFileOnThread t path c → IsFinishedAndInlineExactlyUpToLimit (inline_limit t.disk.block_size) (storage_form_of_contents c) → CanReplaceFileStruct t (bytes_of_writer_contents t c) u.struct (struct_of_finished_contents c)
+  pub may_come : (c : WriterContents) → AreWriterContentsOverFileOnThread t path c → IsFinishedAndInlineExactlyUpToLimit (inline_limit t.disk.block_size) (storage_form_of_contents c) → IsStructOfContentsWithNewBlocksInFlight t (bytes_of_writer_contents t c) u.struct (struct_of_finished_contents c)
   may_come (InMemory list) over few = inline_comes t (bytes_of_writer_contents t (InMemory list)) u.struct few
   may_come (Finished s) over large =
       let size = size_of_list s (inline_limit t.disk.block_size) large over.stands in

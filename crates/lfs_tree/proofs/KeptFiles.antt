@@ -3,7 +3,7 @@ use Rattle.std.proofs.Common.{ℕ, ◌≡◌, ◌≤◌, ◌∙◌, true, List, 
 use Rattle.std.specs.Prelude.{Contains}
 use Rattle.std.specs.Option.{option_map}
 use Rattle.lfs_model.specs.TreeEdits.{is_file}
-use Rattle.lfs_model.specs.BlockSets.{AreExactlyTheUsedBlocks, IsBlockUsed}
+use Rattle.lfs_model.specs.BlockSets.{AreExactlyTheUsedBlocks, IsBlockMarkedUsedInMap}
 use Rattle.lfs_model.specs.Disk.{Disk, SameGeometry, block_bytes_on_disk}
 use Rattle.lfs_model.specs.Keeping.{struct_of_path}
 use Rattle.lfs_model.specs.SlotEdits.{slot_of_path}
@@ -42,7 +42,7 @@ list_counted t path accepted b = go (slot_of_path t.pairs path) refl
     go (Some s) e = slot_has (λ (x : Slot). occurrence_count_of_number b (skip_list_blocks_of_struct t.disk x.struct) ≤ occurrence_count_of_number b (file_blocks_of_slots t.disk (all_slots_not_moved t.pairs))) t.disk t.pairs accepted (among_files b t.disk (all_slots_not_moved t.pairs)) (omega arith) path s e
 
 -- they are used
-pub list_used : (t : KeptThread) (path : Path) → IsAcceptedImage t.disk t.pairs → AreExactlyTheUsedBlocks t.map (used_blocks t.disk t.pairs) → (b : ℕ) → Contains (skip_list_blocks_at_path t path) b → IsBlockUsed t.map b
+pub list_used : (t : KeptThread) (path : Path) → IsAcceptedImage t.disk t.pairs → AreExactlyTheUsedBlocks t.map (used_blocks t.disk t.pairs) → (b : ℕ) → Contains (skip_list_blocks_at_path t path) b → IsBlockMarkedUsedInMap t.map b
 list_used t path accepted used b has =
     let k = occurrence_count_of_number-Contains (skip_list_blocks_at_path t path) b has in
     let l = list_counted t path accepted b in

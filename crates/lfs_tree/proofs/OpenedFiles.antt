@@ -9,7 +9,7 @@ use Rattle.lfs_device.specs.declared.error.Error.{Error}
 use Rattle.lfs_device.specs.declared.geometry.Geometry.{Geometry}
 use Rattle.lfs_model.specs.TreeEdits.{file_bytes_of_node, is_file}
 use Rattle.lfs_model.specs.Blocks.{Blocks}
-use Rattle.lfs_model.specs.BlockSets.{AreExactlyTheUsedBlocks, BlockStateList, IsBlockFree, IsBlockInFlight, IsBlockUsed, in_flight_block_count}
+use Rattle.lfs_model.specs.BlockSets.{AreExactlyTheUsedBlocks, BlockStateList, IsBlockFree, IsBlockInFlight, IsBlockMarkedUsedInMap, in_flight_block_count}
 use Rattle.lfs_model.specs.BlockSets.BlockState.{Free, Used}
 use Rattle.lfs_model.specs.Disk.{inline_limit}
 use Rattle.lfs_model.specs.History.{DeviceCallEvent}
@@ -38,7 +38,7 @@ use Rattle.lfs_tree.proofs.BesideWritten.{bytes_of_held}
 use Rattle.lfs_lookup.proofs.BytesAtSlots.{IsFileOf, file_since}
 use Rattle.lfs_tree.proofs.Carried.{with_history}
 use Rattle.lfs_tree.proofs.SlotsHave.{slot_has}
-use Rattle.lfs_writer.specs.Contents.{HasContentsInStorageForm, HasNoBlockInFlight, storage_form_of_contents}
+use Rattle.lfs_writer.specs.Contents.{AreConsistentContentsWithBytesAndForm, HasNoBlockInFlight, storage_form_of_contents}
 use Rattle.lfs_writer.specs.Form as form
 use Rattle.lfs_writer.specs.Form.{ContentsStorageForm}
 use Rattle.lfs_writer.specs.Hand.{IsFinishedListConsistentWithMapAndDisk}
@@ -65,7 +65,7 @@ owns_nothing t (Finished stored) size own e b has = absurd (cc)
 owns_nothing t (InHand hand) size own e b has = absurd (cc)
 
 pub opened_in_memory : (t : KeptThread) (geometry : Geometry) (xs bytes : List ℕ) (s : Struct) (size : ℕ) (r : Result WriterContents Error) → DiskHasGeometry geometry t.disk → HasNoBlockInFlight t.map t.disk.blocks → xs ≡ bytes → s ≡ Inline bytes → length bytes ≡ size
-    → IfOk r (λ c. (map : BlockStateList) (disk : Blocks) → HasNoBlockInFlight map disk → HasContentsInStorageForm map disk geometry c xs (form.InMemory (length xs))) → IfOk r (AreOpenedContentsOfStruct t s (form.InMemory size))
+    → IfOk r (λ c. (map : BlockStateList) (disk : Blocks) → HasNoBlockInFlight map disk → AreConsistentContentsWithBytesAndForm map disk geometry c xs (form.InMemory (length xs))) → IfOk r (AreOpenedContentsOfStruct t s (form.InMemory size))
 opened_in_memory t geometry xs bytes s size (Err x) divided idle same e l h = tt
 opened_in_memory t geometry xs bytes s size (Ok c) divided idle same e l h =
     let has = h t.map t.disk.blocks idle in
@@ -111,17 +111,17 @@ opened_list t geometry head size slot held divided can =
 
 -- ---- the file at a path
 
-pub not_free : (sets : BlockStateList) (b : ℕ) → IsBlockUsed sets b → ¬ (IsBlockFree sets b)
+pub not_free : (sets : BlockStateList) (b : ℕ) → IsBlockMarkedUsedInMap sets b → ¬ (IsBlockFree sets b)
 not_free sets b used free = absurd (let k : Used ≡ Free = same_Some Used Free (sym used ∙ free) in cc)
 
 -- no block of its list is free
 pub marked_there : (t : KeptThread) (path : Path) (held : Slot) → IsAcceptedImage t.disk t.pairs → AreExactlyTheUsedBlocks t.map (used_blocks t.disk t.pairs) → slot_of_path t.pairs path ≡ Some held
-    → All (λ b. IsBlockUsed t.map b) (skip_list_blocks_of_struct t.disk held.struct)
+    → All (λ b. IsBlockMarkedUsedInMap t.map b) (skip_list_blocks_of_struct t.disk held.struct)
 marked_there t path held ok used at =
-    All-from_recursion (λ b. IsBlockUsed t.map b) (skip_list_blocks_of_struct t.disk held.struct)
-    (slot_has (λ (s : Slot). Each (λ b. IsBlockUsed t.map b) (skip_list_blocks_of_struct t.disk s.struct)) t.disk t.pairs ok
-    (each_pieces (λ b. IsBlockUsed t.map b) (λ (s : Slot). skip_list_blocks_of_struct t.disk s.struct) (all_slots_not_moved t.pairs)
-    (each_from_counted (λ b. IsBlockUsed t.map b) (flat_map (λ (s : Slot). skip_list_blocks_of_struct t.disk s.struct) (all_slots_not_moved t.pairs))
+    All-from_recursion (λ b. IsBlockMarkedUsedInMap t.map b) (skip_list_blocks_of_struct t.disk held.struct)
+    (slot_has (λ (s : Slot). Each (λ b. IsBlockMarkedUsedInMap t.map b) (skip_list_blocks_of_struct t.disk s.struct)) t.disk t.pairs ok
+    (each_pieces (λ b. IsBlockMarkedUsedInMap t.map b) (λ (s : Slot). skip_list_blocks_of_struct t.disk s.struct) (all_slots_not_moved t.pairs)
+    (each_from_counted (λ b. IsBlockMarkedUsedInMap t.map b) (flat_map (λ (s : Slot). skip_list_blocks_of_struct t.disk s.struct) (all_slots_not_moved t.pairs))
     (λ b some. (used b).1 (Contains-occurrence_count_of_number (used_blocks t.disk t.pairs) b
     (let e = count_append b (blocks_of_pairs t.pairs) (flat_map (λ (s : Slot). skip_list_blocks_of_struct t.disk s.struct) (all_slots_not_moved t.pairs)) in omega arith)))))
     tt path held at)

@@ -10,12 +10,12 @@ use Rattle.lfs_model.specs.Shown.{all_slots_not_moved}
 use Rattle.lfs_model.specs.Thread.{Pair}
 use Rattle.lfs_model.specs.Tree.{Path}
 use Rattle.lfs_model.specs.View.{IsAcceptedImage, IsSkipListIfCtzStruct}
-use Rattle.lfs_lookup.specs.FileContents.{AreFileContentsAtPath, struct_of_file_contents}
+use Rattle.lfs_lookup.specs.FileContents.{IsInlineBytesOrSkipListOfFileAtPath, struct_of_file_contents}
 use Rattle.lfs_lookup.specs.declared.file_contents.FileContents.{FileContents}
 use Rattle.lfs_tree.proofs.SlotsHave.{slot_has}
 
 -- its list is well formed
-pub list_read : (disk : Disk) (ps : List Pair) (path : Path) (contents : FileContents) → IsAcceptedImage disk ps → AreFileContentsAtPath ps path contents → IsSkipListIfCtzStruct disk (struct_of_file_contents contents)
+pub list_read : (disk : Disk) (ps : List Pair) (path : Path) (contents : FileContents) → IsAcceptedImage disk ps → IsInlineBytesOrSkipListOfFileAtPath ps path contents → IsSkipListIfCtzStruct disk (struct_of_file_contents contents)
 list_read disk ps path contents ok h = go (slot_of_path ps path) refl h.struct
   where
     go : (o : Option Slot) → slot_of_path ps path ≡ o → option_map (λ (u : Slot). u.struct) o ≡ Some (struct_of_file_contents contents) → IsSkipListIfCtzStruct disk (struct_of_file_contents contents)

@@ -7,7 +7,7 @@ use Rattle.lfs_device.specs.declared.error.Error.{Error}
 use Rattle.lfs_device.specs.declared.error.Error.TheVariants.{Io, NoMemory}
 use Rattle.lfs_writer.specs.SettledFiles.{ChangesOnlyBlockMap}
 use Rattle.lfs_writer.specs.ThreadContents.{ReportsFaultOrNoMemory}
-use Rattle.lfs_model.specs.BlockSets.{AreExactlyTheUsedBlocks, IsBlockInFlight, IsBlockUsed}
+use Rattle.lfs_model.specs.BlockSets.{AreExactlyTheUsedBlocks, IsBlockInFlight, IsBlockMarkedUsedInMap}
 use Rattle.lfs_model.specs.BlockSets.BlockState.{InFlight, Used}
 use Rattle.lfs_model.specs.Disk.{Disk}
 use Rattle.lfs_model.specs.History.{IsTrueOfEachCall, IsTrueOfEachCallSince, DeviceCallEvent, AreCallsSinceOnlyReads, fault_count_of_history}
@@ -79,7 +79,7 @@ apart_pairs t used b flies = All-from_recursion (λ c. c ≢ b) (blocks_of_pairs
     go zero e = refl
     go (suc n) e =
         let k = count_append b (blocks_of_pairs t.pairs) (flat_map (λ s. skip_list_blocks_of_struct t.disk s.struct) (all_slots_not_moved t.pairs)) in
-        let here : IsBlockUsed t.map b = (used b).1 (Contains-occurrence_count_of_number (used_blocks t.disk t.pairs) b (omega arith)) in
+        let here : IsBlockMarkedUsedInMap t.map b = (used b).1 (Contains-occurrence_count_of_number (used_blocks t.disk t.pairs) b (omega arith)) in
         let wrong : InFlight ≡ Used = same_Some InFlight Used (sym flies ∙ here) in
         absurd (cc)
 

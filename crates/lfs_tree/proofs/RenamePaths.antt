@@ -22,7 +22,7 @@ use Rattle.lfs_lookup.specs.declared.paths.PathLookup.TheVariants as found
 use Rattle.lfs_lookup.specs.declared.paths.VisiblePathLookup.{VisiblePathLookup}
 use Rattle.lfs_lookup.specs.declared.search.SlotPosition.{SlotPosition}
 use Rattle.lfs_lookup.proofs.Entered.{hiding_none}
-use Rattle.lfs_tree.specs.RenamePaths.{AreRenameTargets, directories_searched_for_rename, visible_lookup_without_insertion_spot_and_parent}
+use Rattle.lfs_tree.specs.RenamePaths.{AreLookupResultsAtBothRenamePaths, directories_searched_for_rename, visible_lookup_without_insertion_spot_and_parent}
 use Rattle.lfs_tree.specs.TreeState.{TreeState, kept_thread_of_tree_state}
 use Rattle.lfs_tree.specs.declared.rename_paths.RenameFindings.{RenameFindings}
 use Rattle.lfs_tree.specs.declared.rename_paths.RenameTargets.{RenameTargets}
@@ -41,7 +41,7 @@ leads_on t h path (found.File parent slot contents) l = record { parents = l.par
 pub leads_since : (a b : KeptThread) (path : Path) (f : PathLookup) → IsThreadOnlyRead a b → PathLeadsToLookupResult a path f → PathLeadsToLookupResult b path f
 leads_since a b path f only l = subst (λ z. PathLeadsToLookupResult z path f) (sym (read_is a b only)) (leads_on a b.history path f l)
 
-targets_since : (a b : KeptThread) (from to : Path) (r : RenameTargets) → IsThreadOnlyRead a b → AreRenameTargets a from to r → AreRenameTargets b from to r
+targets_since : (a b : KeptThread) (from to : Path) (r : RenameTargets) → IsThreadOnlyRead a b → AreLookupResultsAtBothRenamePaths a from to r → AreLookupResultsAtBothRenamePaths b from to r
 targets_since a b from to r only k = record {
   settled = ap gstate_of_pairs only.pairs ∙ k.settled;
   entry = leads_since a b from r.entry only k.entry;
@@ -53,18 +53,18 @@ pub same_tree : (a b : KeptThread) → IsThreadOnlyRead a b → tree_on_disk b.d
 same_tree a b only = ap (λ (d : Disk). tree_on_disk d b.pairs) only.disk ∙ ap (λ (ps : List Pair). tree_on_disk a.disk ps) only.pairs
 
 -- so do those of what was found, if they are known
-pub found_since : (a b : KeptThread) (from to : Path) (r : Result RenameFindings Error) → IsThreadOnlyRead a b → IfOk r (λ found. IfSome found.targets (AreRenameTargets a from to)) → IfOk r (λ found. IfSome found.targets (AreRenameTargets b from to))
+pub found_since : (a b : KeptThread) (from to : Path) (r : Result RenameFindings Error) → IsThreadOnlyRead a b → IfOk r (λ found. IfSome found.targets (AreLookupResultsAtBothRenamePaths a from to)) → IfOk r (λ found. IfSome found.targets (AreLookupResultsAtBothRenamePaths b from to))
 found_since a b from to (Err e) only k = tt
 found_since a b from to (Ok x) only k = go x.targets k
   where
-    go : (o : Option RenameTargets) → IfSome o (AreRenameTargets a from to) → IfSome o (AreRenameTargets b from to)
+    go : (o : Option RenameTargets) → IfSome o (AreLookupResultsAtBothRenamePaths a from to) → IfSome o (AreLookupResultsAtBothRenamePaths b from to)
     go None k = tt
     go (Some x) k = targets_since a b from to x only k
 
 -- a recovery before it did nothing
-pub known_behind : (old mid : TreeState) (t : ThreadView) (from to : Path) (o : Option RenameTargets) → (gstate_of_pairs old.pairs ≡ zero_gstate → mid ≡ old) → t.kept ≡ kept_thread_of_tree_state mid → IfSome o (AreRenameTargets (kept_thread_of_tree_state old) from to) → IfSome o (AreRenameTargets t.kept from to)
+pub known_behind : (old mid : TreeState) (t : ThreadView) (from to : Path) (o : Option RenameTargets) → (gstate_of_pairs old.pairs ≡ zero_gstate → mid ≡ old) → t.kept ≡ kept_thread_of_tree_state mid → IfSome o (AreLookupResultsAtBothRenamePaths (kept_thread_of_tree_state old) from to) → IfSome o (AreLookupResultsAtBothRenamePaths t.kept from to)
 known_behind old mid t from to None idle is k = tt
-known_behind old mid t from to (Some x) idle is k = subst (λ z. AreRenameTargets z from to x) (sym (is ∙ ap kept_thread_of_tree_state (idle k.settled))) k
+known_behind old mid t from to (Some x) idle is k = subst (λ z. AreLookupResultsAtBothRenamePaths z from to x) (sym (is ∙ ap kept_thread_of_tree_state (idle k.settled))) k
 
 -- ---- what is there
 

@@ -8,7 +8,7 @@ use Rattle.lfs_device.specs.Bytes.{AreAllBlockElementsBelow256}
 use Rattle.lfs_model.proofs.Sites.{IsTrueOfSomeElement, among_right}
 use Rattle.lfs_model.specs.Frame.{IsPairWithSlotOfPath}
 use Rattle.lfs_model.specs.TreeEdits.{tree_after_change_of_node, same_path}
-use Rattle.lfs_model.specs.BlockSets.{AreExactlyTheUsedBlocks, IsBlockFree, IsBlockInFlight, IsBlockUsed}
+use Rattle.lfs_model.specs.BlockSets.{AreExactlyTheUsedBlocks, IsBlockFree, IsBlockInFlight, IsBlockMarkedUsedInMap}
 use Rattle.lfs_model.specs.BlockSets.BlockState.{Free, InFlight, Used}
 use Rattle.lfs_model.specs.Disk.{Disk, SameGeometry, block_bytes_on_disk, block_count}
 use Rattle.lfs_model.specs.History.{DeviceCallEvent, IsTrueAfterAnyPowerLossSince, AreCallsSinceOnlyReads}
@@ -32,7 +32,7 @@ use Rattle.lfs_model.proofs.BlockSets.{Contains-occurrence_count_of_number, occu
 use Rattle.lfs_model.proofs.Counts.{occurrence_count_of_number, count_append, each_from_counted, each_weaker, once_from_distinct}
 use Rattle.lfs_model.proofs.Files.{HasSameFileBlocksOfStructOnDisks, file_blocks_same, is_list_same}
 use Rattle.lfs_model.proofs.Histories.{IsTrueAfterAnyPowerLossSince-read_count_of_history, IsTrueAfterAnyPowerLossSince-trans, IsTrueAfterAnyPowerLossSince-weaker, IsTrueAfterAnyPowerLossSince-worst, AreBlocksLeftByPowerLossInCall-read}
-use Rattle.lfs_writer.specs.StructChanges.{CanReplaceFileStruct}
+use Rattle.lfs_writer.specs.StructChanges.{IsStructOfContentsWithNewBlocksInFlight}
 use Rattle.lfs_writer.specs.SettledFiles.{CanMarkStoredListUsedAndOldFree, ChangesOnlyBlockMap, IsStoredListUsedAndOldListFree, blocks_of_list_on_thread}
 use Rattle.lfs_writer.proofs.Settlement.{settled_exactly}
 use Rattle.lfs_operations.proofs.Held.{here}
@@ -61,7 +61,7 @@ not_there b bs none = All-from_recursion (λ x. x ≢ b) bs (none_there b bs non
 -- ---- the slot gets them
 
 module _ (t : KeptThread) (path : Path) (u : Slot) (ok : IsAcceptedImage t.disk t.pairs) (used : AreExactlyTheUsedBlocks t.map (used_blocks t.disk t.pairs)) (at : slot_of_path t.pairs path ≡ Some u) (sized : SizedLists t.disk)
-    (c : WriterContents) (can : CanCommitContentsAtPath t path c) (pair : ℕ) (below : pair < length t.pairs) (new : KeptThread) (w : WritesPairAndTwoFreeBlocks t pair new) (above : Path) (name : Name) (come : CanReplaceFileStruct t (bytes_of_writer_contents t c) u.struct (struct_of_finished_contents c))
+    (c : WriterContents) (can : CanCommitContentsAtPath t path c) (pair : ℕ) (below : pair < length t.pairs) (new : KeptThread) (w : WritesPairAndTwoFreeBlocks t pair new) (above : Path) (name : Name) (come : IsStructOfContentsWithNewBlocksInFlight t (bytes_of_writer_contents t c) u.struct (struct_of_finished_contents c))
     (is : HasStoredContentsOfFile t new above name (bytes_of_writer_contents t c) come.gone come.come) where
   -- a block that isn't free and no pair's isn't written
   untouched : (b : ℕ) → (IsBlockFree t.map b → ⊥) → occurrence_count_of_number b (blocks_of_pairs t.pairs) ≡ 0 → block_bytes_on_disk new.disk b ≡ block_bytes_on_disk t.disk b
@@ -155,7 +155,7 @@ module _ (t : KeptThread) (path : Path) (u : Slot) (ok : IsAcceptedImage t.disk 
 
     none_later : (b : ℕ) → ¬ (IsBlockInFlight later.map b)
     none_later b flies = ⊎_elim
-        (λ some. absurd (let k : Used ≡ InFlight = same_Some Used InFlight (sym (All-contains (IsBlockUsed later.map) (blocks_of_list_on_thread new (stored_skip_list_of_finished_contents c)) b settled.used (Contains-occurrence_count_of_number (blocks_of_list_on_thread new (stored_skip_list_of_finished_contents c)) b some)) ∙ flies) in cc))
+        (λ some. absurd (let k : Used ≡ InFlight = same_Some Used InFlight (sym (All-contains (IsBlockMarkedUsedInMap later.map) (blocks_of_list_on_thread new (stored_skip_list_of_finished_contents c)) b settled.used (Contains-occurrence_count_of_number (blocks_of_list_on_thread new (stored_skip_list_of_finished_contents c)) b some)) ∙ flies) in cc))
         (λ none. ⊎_elim
         (λ was. absurd (let k : Free ≡ InFlight = same_Some Free InFlight (sym (settled.freed b (Contains-occurrence_count_of_number (blocks_of_list_on_thread new (skip_list_in_struct u.struct)) b was) (not_there b (blocks_of_list_on_thread new (stored_skip_list_of_finished_contents c)) none)) ∙ flies) in cc))
         (λ never.
@@ -211,7 +211,7 @@ module _ (t : ThreadView) (root : ℕ) (rests : CanChangeRecoveredImage t root) 
   at : slot_of_path t.kept.pairs path ≡ Some slot.slot.stands.stands.stands.slot
   at = ap (slot_of_path t.kept.pairs) slot.slot.is ∙ slot.slot.stands.slot
 
-  come : CanReplaceFileStruct (with_history t.kept h) (bytes_of_writer_contents (with_history t.kept h) c) slot.slot.stands.stands.stands.slot.struct (struct_of_finished_contents c)
+  come : IsStructOfContentsWithNewBlocksInFlight (with_history t.kept h) (bytes_of_writer_contents (with_history t.kept h) c) slot.slot.stands.stands.stands.slot.struct (struct_of_finished_contents c)
   come = may_come (with_history t.kept h) path u ok used at sized c (over_read t.kept h path c can.over) can.finished
 
   below : file.spot.pair < length t.kept.pairs

@@ -7,7 +7,7 @@ use Rattle.std.proofs.lemmas.Option.{same_Some}
 use Rattle.lfs_device.specs.declared.error.Error.{Error}
 use Rattle.lfs_device.specs.declared.error.Error.TheVariants.{Io, NoMemory, NoSpace}
 use Rattle.lfs_model.specs.TreeEdits.{tree_after_rename, path_without_prefix}
-use Rattle.lfs_model.specs.BlockSets.{IsBlockFree, IsBlockUsed}
+use Rattle.lfs_model.specs.BlockSets.{IsBlockFree, IsBlockMarkedUsedInMap}
 use Rattle.lfs_model.specs.BlockSets.BlockState.{Free, Used}
 use Rattle.lfs_model.specs.Changes.{PairContentChange}
 use Rattle.lfs_model.specs.Disk.{block_bytes_on_disk}
@@ -134,7 +134,7 @@ apart_across t from to source name other new can below w = record {
 }
 
 -- none of them is a file's
-file_used : (t : KeptThread) (index id : ℕ) (can : CanEditEntryOfPair t index id) (b : ℕ) → 1 ≤ occurrence_count_of_number b (skip_list_blocks_of_struct t.disk (slot_of_editable_entry can).struct) → IsBlockUsed t.map b
+file_used : (t : KeptThread) (index id : ℕ) (can : CanEditEntryOfPair t index id) (b : ℕ) → 1 ≤ occurrence_count_of_number b (skip_list_blocks_of_struct t.disk (slot_of_editable_entry can).struct) → IsBlockMarkedUsedInMap t.map b
 file_used t index id can b some =
     let l = each_here (λ (s : Slot). occurrence_count_of_number b (skip_list_blocks_of_struct t.disk s.struct) ≤ occurrence_count_of_number b (file_blocks_of_slots t.disk (all_slots_not_moved t.pairs))) t index id can (among_files b t.disk (all_slots_not_moved t.pairs)) in
     let e = count_append b (blocks_of_pairs t.pairs) (file_blocks_of_slots t.disk (all_slots_not_moved t.pairs)) in

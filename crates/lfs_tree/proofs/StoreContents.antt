@@ -22,7 +22,7 @@ use Rattle.lfs_model.proofs.AfterStops.{survives_then}
 use Rattle.lfs_model.proofs.Arranged.{arranged_after, recovered_stays}
 use Rattle.lfs_model.proofs.Committed.{recovered_from}
 use Rattle.lfs_model.proofs.Histories.{IsTrueAfterAnyPowerLossSince-weaker, IsTrueAfterAnyPowerLossSince-worst}
-use Rattle.lfs_writer.specs.ThreadContents.{CanFinishContentsOnThread, HasContentsInStorageFormOnThread, LeavesPairsAndUsedBlocksUnchanged, list_blocks_of_contents}
+use Rattle.lfs_writer.specs.ThreadContents.{CanFinishContentsOnThread, AreConsistentContentsWithBytesAndFormOnThread, LeavesPairsAndUsedBlocksUnchanged, list_blocks_of_contents}
 use Rattle.lfs_thread.specs.Kept.{KeptThread, ThreadView}
 use Rattle.lfs_tree.proofs.LeftAlone.{pair_of_alone}
 use Rattle.lfs_tree.specs.TreeChanges.{HasFurtherDeviceCalls, CanChangeRecoveredImage, SurvivesWithOldOrNewTree, ReportsIoWithFaultOrNoMemory}
@@ -89,7 +89,7 @@ module _ (t : ThreadView) (root : ℕ) (rests : CanChangeRecoveredImage t root) 
     pub survives_beside : (after : Tree) → SurvivesWithOldOrNewTree t.kept b.kept after
     survives_beside after clean = IsTrueAfterAnyPowerLossSince-weaker (λ blocks spared. left_beside t.kept blocks sound.accepted (sound.fits refl) sound.used spared) (IsTrueAfterAnyPowerLossSince-worst leaves.at_worst)
 
-    module _ (c : WriterContents) (holds : HasContentsInStorageFormOnThread b.kept c (writer_contents_bytes_in_memory_or_blocks t.kept.disk.blocks t.kept.disk.block_size contents) (storage_form_after_finish (storage_form_of_contents contents))) (owned : AreUsedBlocksOfListAmongOwnBlocks b.kept.map (list_blocks_of_contents t.kept contents) (list_blocks_of_contents b.kept c)) where
+    module _ (c : WriterContents) (holds : AreConsistentContentsWithBytesAndFormOnThread b.kept c (writer_contents_bytes_in_memory_or_blocks t.kept.disk.blocks t.kept.disk.block_size contents) (storage_form_after_finish (storage_form_of_contents contents))) (owned : AreUsedBlocksOfListAmongOwnBlocks b.kept.map (list_blocks_of_contents t.kept contents) (list_blocks_of_contents b.kept c)) where
       bytes_same : bytes_of_writer_contents b.kept c ≡ bytes_of_writer_contents t.kept contents
       bytes_same = bytes_of_held b.kept c (writer_contents_bytes_in_memory_or_blocks t.kept.disk.blocks t.kept.disk.block_size contents) (storage_form_after_finish (storage_form_of_contents contents)) holds
 

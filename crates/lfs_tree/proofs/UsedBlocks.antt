@@ -3,7 +3,7 @@ use Rattle.std.proofs.Common.{ℕ, ◌≡◌, ◌⊎◌, ◌==◌, ◌||◌, Boo
 use Rattle.std.specs.Prelude.{◌↔◌, Contains, IsTrue}
 use Rattle.std.specs.List.{list_any}
 use Rattle.std.proofs.lemmas.Bool.{eqb-false}
-use Rattle.lfs_model.specs.BlockSets.{AreExactlyTheUsedBlocks, BlockStateList, IsBlockUsed, used_count}
+use Rattle.lfs_model.specs.BlockSets.{AreExactlyTheUsedBlocks, BlockStateList, IsBlockMarkedUsedInMap, used_count}
 use Rattle.lfs_model.specs.Shown.{used_blocks}
 use Rattle.lfs_model.proofs.BlockSets.{Contains-cons, Contains-head, Contains-tail, used_count-AreExactlyTheUsedBlocks}
 use Rattle.lfs_tree.specs.TreeState.{TreeState, IsSoundTreeState}
@@ -26,7 +26,7 @@ any_contained (b ∷ bs) block h = go (b == block) refl (any_contained bs block)
     go false e rest k = Contains-tail b block bs (rest k)
 
 -- by the map
-pub used_is : (sets : BlockStateList) (bs : List ℕ) (block : ℕ) (r : Bool) → AreExactlyTheUsedBlocks sets bs → IsTrue r ↔ IsBlockUsed sets block → r ≡ list_any (λ b. b == block) bs
+pub used_is : (sets : BlockStateList) (bs : List ℕ) (block : ℕ) (r : Bool) → AreExactlyTheUsedBlocks sets bs → IsTrue r ↔ IsBlockMarkedUsedInMap sets block → r ≡ list_any (λ b. b == block) bs
 used_is sets bs block true are h = sym (contained_any bs block ((are block).0 (h.0 refl)))
 used_is sets bs block false are h = go (list_any (λ b. b == block) bs) refl
   where

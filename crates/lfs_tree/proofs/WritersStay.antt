@@ -7,7 +7,7 @@ use Rattle.lfs_device.specs.declared.geometry.Geometry.{Geometry}
 use Rattle.lfs_ctz.specs.Growing.{GrowingList, blocks_kept_when_growing as blocks_kept, unwritten_block_of_list, growing_list_size_with_block_size, size_of_growing_list}
 use Rattle.lfs_writer.specs.ThreadContents.{list_blocks_of_contents}
 use Rattle.lfs_model.specs.Blocks.{Blocks, block_bytes_by_number}
-use Rattle.lfs_model.specs.BlockSets.{BlockStateList, BlockState, IsBlockFree, IsBlockInFlight, IsBlockUsed, in_flight_block_count}
+use Rattle.lfs_model.specs.BlockSets.{BlockStateList, BlockState, IsBlockFree, IsBlockInFlight, IsBlockMarkedUsedInMap, in_flight_block_count}
 use Rattle.lfs_model.specs.BlockSets.BlockState.{Free, InFlight, Used}
 use Rattle.lfs_model.specs.Disk.{SameGeometry}
 use Rattle.lfs_model.specs.Keeping.{removes_or_moves_path_or_ancestor}
@@ -84,10 +84,10 @@ stands_flying map d now (InHand hand) is =
 
 -- ---- no block of theirs is free
 
-state_of : (sets : BlockStateList) (b : ℕ) → b < length sets → ¬ (IsBlockFree sets b) → IsBlockUsed sets b ⊎ IsBlockInFlight sets b
+state_of : (sets : BlockStateList) (b : ℕ) → b < length sets → ¬ (IsBlockFree sets b) → IsBlockMarkedUsedInMap sets b ⊎ IsBlockInFlight sets b
 state_of sets b below taken = go (get_or sets b Free) (slice_get-get_or sets b Free below)
   where
-    go : (s : BlockState) → slice_get sets b ≡ Some s → IsBlockUsed sets b ⊎ IsBlockInFlight sets b
+    go : (s : BlockState) → slice_get sets b ≡ Some s → IsBlockMarkedUsedInMap sets b ⊎ IsBlockInFlight sets b
     go Free is = absurd (taken is)
     go InFlight is = inr is
     go Used is = inl is
@@ -96,14 +96,14 @@ base_below : (d : Blocks) (block_size : ℕ) (s : StoredList) → IsSkipListOnDi
 base_below d block_size s (inl none) b has = absurd (let k : Contains [] b = subst (λ n. Contains (list_blocks_by_head_and_size d block_size s.head n) b) none has in omega (arith, k.1))
 base_below d block_size s (inr list) b has = of_all (λ x. x < length d) (list_blocks_by_head_and_size d block_size s.head s.size) list.blocks.in_range b has
 
-own_state : (map : BlockStateList) (d : Blocks) (block_size : ℕ) (g : GrowingList) (base : StoredList) (shared : ℕ) → CanEndGrowingListOverBase map d block_size g base shared → (b : ℕ) → Contains (blocks_kept d g) b → IsBlockUsed map b ⊎ IsBlockInFlight map b
+own_state : (map : BlockStateList) (d : Blocks) (block_size : ℕ) (g : GrowingList) (base : StoredList) (shared : ℕ) → CanEndGrowingListOverBase map d block_size g base shared → (b : ℕ) → Contains (blocks_kept d g) b → IsBlockMarkedUsedInMap map b ⊎ IsBlockInFlight map b
 own_state map d block_size g base shared hand b has = ⊎_elim
     (λ full. state_of map b (let l = of_all (λ x. x < length d) (list_blocks_from_head d g.full g.head) hand.begun.growing.chain.in_range b full in omega (arith, l, hand.begun.marked.count))
     (of_all (λ x. ¬ (IsBlockFree map x)) (blocks_kept d g) hand.begun.marked.kept b has))
     (λ pending. inr (of_all (IsBlockInFlight map) (unwritten_block_of_list g) hand.begun.marked.pending b pending))
     (Contains-append_cases (list_blocks_from_head d g.full g.head) (unwritten_block_of_list g) b has)
 
-pub held_states : (map : BlockStateList) (d : Blocks) (now : Geometry) (c : WriterContents) → AreContentsConsistentWithMapAndDisk map d now c → (b : ℕ) → Contains (blocks_of_contents d now.block_size c) b → IsBlockUsed map b ⊎ IsBlockInFlight map b
+pub held_states : (map : BlockStateList) (d : Blocks) (now : Geometry) (c : WriterContents) → AreContentsConsistentWithMapAndDisk map d now c → (b : ℕ) → Contains (blocks_of_contents d now.block_size c) b → IsBlockMarkedUsedInMap map b ⊎ IsBlockInFlight map b
 held_states map d now (InMemory list) is b has = absurd (omega (arith, has.1))
 held_states map d now (Finished stored) is b has =
     state_of map b (let l = base_below d now.block_size stored is.base b has in omega (arith, l, is.count)) (of_all (λ x. ¬ (IsBlockFree map x)) (list_blocks_by_head_and_size d now.block_size stored.head stored.size) is.marked b has)

@@ -3,7 +3,7 @@ use Rattle.std.specs.Prelude.{All, false}
 use Rattle.lfs_model.specs.BlockSets.{IsBlockFree}
 use Rattle.lfs_model.specs.Slots.{Slot, Struct}
 use Rattle.lfs_model.specs.Shown.{skip_list_blocks_of_struct}
-use Rattle.lfs_writer.specs.ThreadContents.{HasContentsInStorageFormOnThread, list_blocks_of_contents}
+use Rattle.lfs_writer.specs.ThreadContents.{AreConsistentContentsWithBytesAndFormOnThread, list_blocks_of_contents}
 use Rattle.lfs_thread.specs.Kept.{KeptThread}
 use Rattle.lfs_lookup.specs.BytesAt.{IsFileSlotAtSpot}
 use Rattle.lfs_lookup.specs.FileBytes.{file_bytes_of_struct}
@@ -28,5 +28,5 @@ form_of_opened_storage (entry.List head size) = form.Finished size false
 
 -- a writer has the bytes of the struct, in memory or as the file's list
 pub record AreOpenedContentsOfStruct (t : KeptThread) (struct : Struct) (shape : ContentsStorageForm) (contents : WriterContents) : Type 0 where
-  pub holds : HasContentsInStorageFormOnThread t contents (file_bytes_of_struct t.disk struct) shape
+  pub holds : AreConsistentContentsWithBytesAndFormOnThread t contents (file_bytes_of_struct t.disk struct) shape
   pub owned : AreUsedBlocksOfListAmongOwnBlocks t.map (skip_list_blocks_of_struct t.disk struct) (list_blocks_of_contents t contents)

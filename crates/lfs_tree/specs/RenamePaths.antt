@@ -30,7 +30,7 @@ abbrev pub directories_searched_for_rename : Path → Path → List Path
 directories_searched_for_rename from to = ancestor_paths_of_path from ++ (ancestor_paths_of_path from ++ (ancestor_paths_of_path to ++ to ∷ []))
 
 -- the image has nothing to recover, and the two paths lead there
-pub record AreRenameTargets (t : KeptThread) (from to : Path) (targets : RenameTargets) : Type 0 where
+pub record AreLookupResultsAtBothRenamePaths (t : KeptThread) (from to : Path) (targets : RenameTargets) : Type 0 where
   pub settled : gstate_of_pairs t.pairs ≡ zero_gstate
   pub entry : PathLeadsToLookupResult t from targets.entry
   pub target : PathLeadsToLookupResult t to targets.target

@@ -15,7 +15,7 @@ use Rattle.lfs_model.specs.Tree.{Path, branch_address_of_struct}
 use Rattle.lfs_model.specs.Profile.{IsWritableImage}
 use Rattle.lfs_model.specs.Shown.{tree_on_disk, used_blocks}
 use Rattle.lfs_operations.specs.Ready.{KeepsPairCountBeforeRoot}
-use Rattle.lfs_writer.specs.StructChanges.{CanReplaceFileStruct}
+use Rattle.lfs_writer.specs.StructChanges.{IsStructOfContentsWithNewBlocksInFlight}
 use Rattle.lfs_writer.specs.ThreadContents.{AreContentsConsistentWithThread}
 use Rattle.lfs_operations.specs.Editing.{CanEditEntryOfPair, slot_of_editable_entry}
 use Rattle.lfs_operations.specs.Making.{HasSoManyFreeBlocks}
@@ -92,7 +92,7 @@ pub record CanPutFinishedContentsInSlot (t : KeptThread) (spot : SlotPosition) (
   pub stands : AreContentsConsistentWithThread t contents
   pub leaf : branch_address_of_struct (slot_of_editable_entry can).struct ≡ None
   pub finished : IsFinishedAndInlineExactlyUpToLimit (inline_limit t.disk.block_size) (storage_form_of_contents contents)
-  pub come : CanReplaceFileStruct t (bytes_of_writer_contents t contents) (slot_of_editable_entry can).struct (struct_of_finished_contents contents)
+  pub come : IsStructOfContentsWithNewBlocksInFlight t (bytes_of_writer_contents t contents) (slot_of_editable_entry can).struct (struct_of_finished_contents contents)
   pub room : HasSoManyFreeBlocks 2 t.map
 
 -- The file at the path may get finished contents, and there is room for their list and two blocks.

@@ -5,7 +5,7 @@ ghost use Rattle.lfs_model.specs.Frame.{ancestor_paths_of_path};
 ghost use Rattle.lfs_model.specs.Slots.{Inline};
 ghost use Rattle.lfs_model.specs.Tree.{Path as ModelPath};
 ghost use Rattle.lfs_model.specs.TreeEdits.{file_bytes_of_node};
-ghost use Rattle.lfs_lookup.specs.FileContents.{AreFileContentsAtPath, AreContentsOfFileAtPathOrNone, struct_of_file_contents};
+ghost use Rattle.lfs_lookup.specs.FileContents.{IsInlineBytesOrSkipListOfFileAtPath, AreContentsOfFileAtPathOrNone, struct_of_file_contents};
 ghost use Rattle.lfs_lookup.specs.Finds.{IsFoundNodeAtPath};
 ghost use Rattle.lfs_tree.specs.Reads.{ReadsDirectoryPairsAtMostOnce};
 ghost use Rattle.lfs_tree.specs.TreeState.{OnlyReadsTreeOrFails, kept_thread_of_tree_state, tree_view};
@@ -49,9 +49,9 @@ impl<D: BlockDevice> Tree<D> {
         count: usize,
     ) -> Result<Vec<u8>, Error>
         requires works { self.old.failed ≡ false }
-        requires there { (path : ModelPath) × AreFileContentsAtPath self.old.pairs path contents.now }
+        requires there { (path : ModelPath) × IsInlineBytesOrSkipListOfFileAtPath self.old.pairs path contents.now }
         ensures asks { OnlyReadsTreeOrFails self.old result self.new }
-        ensures bytes { (path : ModelPath) → AreFileContentsAtPath self.old.pairs path contents.now → IfOk result (λ v. v.items ≡ take count (drop position (file_bytes_of_node (tree_view self.old path)))) }
+        ensures bytes { (path : ModelPath) → IsInlineBytesOrSkipListOfFileAtPath self.old.pairs path contents.now → IfOk result (λ v. v.items ≡ take count (drop position (file_bytes_of_node (tree_view self.old path)))) }
         ensures end { IfOk result (λ v. position + length v.items < 2 ^ 32) }
         ensures none { (own : List ℕ) → struct_of_file_contents contents.now ≡ Inline own → self.new.history ≡ self.old.history }
     {

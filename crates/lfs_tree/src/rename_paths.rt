@@ -11,7 +11,7 @@ ghost use Rattle.lfs_lookup.specs.Paths.{PathLeadsToLookupResult};
 ghost use Rattle.lfs_lookup.specs.Reading.{OnlyReadsThreadAndReportsErrors};
 ghost use Rattle.lfs_tree.specs.TreeChanges.{CanChangeRecoveredImage};
 ghost use Rattle.lfs_tree.specs.RootedThreads.{IsSoundThreadWithRootAtPairNumber};
-ghost use Rattle.lfs_tree.specs.RenamePaths.{AreRenameTargets, AreFindingsAtBothRenamePaths, directories_searched_for_rename, visible_lookup_without_insertion_spot_and_parent};
+ghost use Rattle.lfs_tree.specs.RenamePaths.{AreLookupResultsAtBothRenamePaths, AreFindingsAtBothRenamePaths, directories_searched_for_rename, visible_lookup_without_insertion_spot_and_parent};
 ghost use Rattle.lfs_tree.specs.TreeState.{OnlyReadsTreeOrFails, kept_thread_of_tree_state, tree_view};
 
 use crate::answers::mark_thread_failed_on_error;
@@ -71,7 +71,7 @@ fn find_rename_targets<D: BlockDevice>(
     to: &Path<'_>,
 ) -> Result<RenameTargets, Error>
     requires { CanChangeRecoveredImage thread.old root }
-    ensures targets { IfOk result (AreRenameTargets thread.old.kept from.now to.now) }
+    ensures targets { IfOk result (AreLookupResultsAtBothRenamePaths thread.old.kept from.now to.now) }
     ensures few { read_count_of_history thread.new.kept.history ≤ read_count_of_history thread.old.kept.history + sum_by (pair_count_of_directory_at thread.old.kept.pairs) (ancestor_paths_of_path from.now ++ ancestor_paths_of_path to.now) }
     ensures reading { OnlyReadsThreadAndReportsErrors thread.old thread.new result }
 {
@@ -93,8 +93,8 @@ pub(crate) fn given_or_looked_up_rename_targets<D: BlockDevice>(
     known: Option<RenameTargets>,
 ) -> Result<RenameTargets, Error>
     requires rests { CanChangeRecoveredImage thread.old root }
-    requires known { IfSome known (AreRenameTargets thread.old.kept from.now to.now) }
-    ensures targets { IfOk result (AreRenameTargets thread.old.kept from.now to.now) }
+    requires known { IfSome known (AreLookupResultsAtBothRenamePaths thread.old.kept from.now to.now) }
+    ensures targets { IfOk result (AreLookupResultsAtBothRenamePaths thread.old.kept from.now to.now) }
     ensures reading { OnlyReadsThreadAndReportsErrors thread.old thread.new result }
 {
     match known {
@@ -139,7 +139,7 @@ fn look_up_rename_without_recovery<D: BlockDevice>(
 ) -> Result<RenameFindings, Error>
     requires { CanChangeRecoveredImage thread.old root }
     ensures found { IfOk result (AreFindingsAtBothRenamePaths (tree_on_disk thread.old.kept.disk thread.old.kept.pairs) from.now to.now) }
-    ensures targets { IfOk result (λ found. IfSome found.targets (AreRenameTargets thread.old.kept from.now to.now)) }
+    ensures targets { IfOk result (λ found. IfSome found.targets (AreLookupResultsAtBothRenamePaths thread.old.kept from.now to.now)) }
     ensures handed_on { IfOk result (λ found. IsSome found.targets) }
     ensures few { read_count_of_history thread.new.kept.history ≤ read_count_of_history thread.old.kept.history + sum_by (pair_count_of_directory_at thread.old.kept.pairs) (directories_searched_for_rename from.now to.now) }
     ensures reading { OnlyReadsThreadAndReportsErrors thread.old thread.new result }
@@ -169,7 +169,7 @@ fn look_up_rename_before_recovery<D: BlockDevice>(
 ) -> Result<RenameFindings, Error>
     requires { IsSoundThreadWithRootAtPairNumber thread.old root true }
     ensures found { IfOk result (AreFindingsAtBothRenamePaths (tree_on_disk thread.old.kept.disk thread.old.kept.pairs) from.now to.now) }
-    ensures targets { IfOk result (λ found. IfSome found.targets (AreRenameTargets thread.old.kept from.now to.now)) }
+    ensures targets { IfOk result (λ found. IfSome found.targets (AreLookupResultsAtBothRenamePaths thread.old.kept from.now to.now)) }
     ensures few { read_count_of_history thread.new.kept.history ≤ read_count_of_history thread.old.kept.history + sum_by (pair_count_of_directory_at thread.old.kept.pairs) (directories_searched_for_rename from.now to.now) }
     ensures reading { OnlyReadsThreadAndReportsErrors thread.old thread.new result }
 {
@@ -194,7 +194,7 @@ fn look_up_both_rename_paths<D: BlockDevice>(
 ) -> Result<RenameFindings, Error>
     requires { IsSoundThreadWithRootAtPairNumber thread.old root true }
     ensures found { IfOk result (AreFindingsAtBothRenamePaths (tree_on_disk thread.old.kept.disk thread.old.kept.pairs) from.now to.now) }
-    ensures targets { IfOk result (λ found. IfSome found.targets (AreRenameTargets thread.old.kept from.now to.now)) }
+    ensures targets { IfOk result (λ found. IfSome found.targets (AreLookupResultsAtBothRenamePaths thread.old.kept from.now to.now)) }
     ensures handed_on { gstate_of_pairs thread.old.kept.pairs ≡ zero_gstate → IfOk result (λ found. IsSome found.targets) }
     ensures few { read_count_of_history thread.new.kept.history ≤ read_count_of_history thread.old.kept.history + sum_by (pair_count_of_directory_at thread.old.kept.pairs) (directories_searched_for_rename from.now to.now) }
     ensures reading { OnlyReadsThreadAndReportsErrors thread.old thread.new result }
@@ -224,7 +224,7 @@ impl<D: BlockDevice> Tree<D> {
         requires writable { self.old.writable ≡ true }
         ensures asks { OnlyReadsTreeOrFails self.old result self.new }
         ensures found { IfOk result (AreFindingsAtBothRenamePaths (tree_view self.old) from.now to.now) }
-        ensures targets { IfOk result (λ found. IfSome found.targets (AreRenameTargets (kept_thread_of_tree_state self.new) from.now to.now)) }
+        ensures targets { IfOk result (λ found. IfSome found.targets (AreLookupResultsAtBothRenamePaths (kept_thread_of_tree_state self.new) from.now to.now)) }
         ensures handed_on { gstate_of_pairs self.old.pairs ≡ zero_gstate → IfOk result (λ found. IsSome found.targets) }
         ensures few { read_count_of_history self.new.history ≤ read_count_of_history self.old.history + sum_by (pair_count_of_directory_at self.old.pairs) (directories_searched_for_rename from.now to.now) }
     {

@@ -14,7 +14,7 @@ ghost use Rattle.lfs_tree.specs.TreeChanges.{CanChangeRecoveredImage, AppliesCal
 ghost use Rattle.lfs_tree.specs.SlotChanges.{is_entry_found};
 ghost use Rattle.lfs_tree.specs.RootedThreads.{tree_state_of_kept_thread};
 ghost use Rattle.lfs_tree.specs.Moves.{CanMoveOntoFound, CanMoveOntoFile, CanMoveOntoDirectory, HasMovedEntry, HasMovedOntoFileWithListStillUsed, IsRenameSourceOfFound, ThreadWorksOrReportsError};
-ghost use Rattle.lfs_tree.specs.RenamePaths.{AreRenameTargets};
+ghost use Rattle.lfs_tree.specs.RenamePaths.{AreLookupResultsAtBothRenamePaths};
 ghost use Rattle.lfs_tree.specs.TreeState.{kept_thread_of_tree_state};
 
 use crate::answers::mark_thread_failed_on_error;
@@ -191,7 +191,7 @@ pub(crate) fn rename_at<D: BlockDevice>(
     requires rests { CanChangeRecoveredImage thread.old root }
     requires can { CanRenamePath (tree_state_of_kept_thread thread.old.kept true false) from.now to.now }
     requires apart { same_path from.now to.now ≡ false }
-    requires known { IfSome known (AreRenameTargets thread.old.kept from.now to.now) }
+    requires known { IfSome known (AreLookupResultsAtBothRenamePaths thread.old.kept from.now to.now) }
     ensures { AppliesCallOnThreadOrFails thread.old (call.Rename from.now to.now) result thread.new }
 {
     from.show_path_comes_from_bytes_to_proof();
@@ -229,7 +229,7 @@ impl<D: BlockDevice> Tree<D> {
     ) -> Result<(), Error>
         requires can { CanRenamePath self.old from.now to.now }
         requires apart { same_path from.now to.now ≡ false }
-        requires known { IfSome known (AreRenameTargets (kept_thread_of_tree_state self.old) from.now to.now) }
+        requires known { IfSome known (AreLookupResultsAtBothRenamePaths (kept_thread_of_tree_state self.old) from.now to.now) }
         requires looked_up { gstate_of_pairs self.old.pairs ≡ zero_gstate → IsSome known }
         ensures { AppliesCallOrFails self.old (call.Rename from.now to.now) result self.new }
     {

@@ -3,7 +3,7 @@ use Rattle.std.proofs.Common.{ℕ, ◌≡◌, ◌≤◌, ◌<◌, ⊎_elim, nat_
 use Rattle.std.specs.List.{IsDistinct, slice_get}
 use Rattle.std.proofs.lemmas.List.Elements.{All-contains}
 use Rattle.std.proofs.lemmas.Option.{slice_get-get_or}
-use Rattle.lfs_model.specs.BlockSets.{BlockState, BlockStateList, IsBlockFree, IsBlockInFlight, IsBlockUsed}
+use Rattle.lfs_model.specs.BlockSets.{BlockState, BlockStateList, IsBlockFree, IsBlockInFlight, IsBlockMarkedUsedInMap}
 use Rattle.lfs_model.specs.BlockSets.BlockState.{Free, InFlight, Used}
 use Rattle.lfs_model.specs.Disk.{inline_limit}
 use Rattle.lfs_model.specs.SkipLists.{IsSkipList, bytes_of_skip_list}
@@ -17,13 +17,13 @@ use Rattle.lfs_writer.specs.Hand.{IsFinishedListConsistentWithMapAndDisk}
 use Rattle.lfs_writer.specs.BlockOwners.{AreUsedBlocksOfListAmongOwnBlocks}
 use Rattle.lfs_writer.specs.declared.contents.WriterContents.TheVariants.{Finished}
 use Rattle.lfs_writer.specs.declared.stored_list.StoredList.{StoredList}
-use Rattle.lfs_writer.specs.StructChanges.{CanReplaceFileStruct}
+use Rattle.lfs_writer.specs.StructChanges.{IsStructOfContentsWithNewBlocksInFlight}
 use Rattle.lfs_writer.specs.SettledFiles.{blocks_of_list_on_thread}
-use Rattle.lfs_writer.specs.ThreadContents.{HasContentsInStorageFormOnThread}
+use Rattle.lfs_writer.specs.ThreadContents.{AreConsistentContentsWithBytesAndFormOnThread}
 use Rattle.lfs_writer.proofs.Ends.{none_distinct}
 use Rattle.lfs_writer.proofs.Outside.{came, come_apart, counted_both, outside}
 
-flying_else : (sets : BlockStateList) (b : ℕ) → b < length sets → (IsBlockFree sets b → ⊥) → (IsBlockUsed sets b → ⊥) → IsBlockInFlight sets b
+flying_else : (sets : BlockStateList) (b : ℕ) → b < length sets → (IsBlockFree sets b → ⊥) → (IsBlockMarkedUsedInMap sets b → ⊥) → IsBlockInFlight sets b
 flying_else sets b lt free used = go (get_or sets b Free) (slice_get-get_or sets b Free lt)
   where
     go : (s : BlockState) → slice_get sets b ≡ Some s → IsBlockInFlight sets b
@@ -42,8 +42,8 @@ module _ (t : KeptThread) (s : StoredList) (was : List ℕ) (stored : IsFinished
       (λ used. absurd (let k = occurrence_count_of_number-Contains was b (owned.each b has used) in let z = both.0 in omega arith))
 
 -- a list
-pub list_comes : (t : KeptThread) (s : StoredList) (bytes : List ℕ) (form : ContentsStorageForm) (was : Struct) → HasContentsInStorageFormOnThread t (Finished s) bytes form → s.size ≡ length bytes → inline_limit t.disk.block_size < length bytes
-    → AreUsedBlocksOfListAmongOwnBlocks t.map (skip_list_blocks_of_struct t.disk was) (blocks_of_list_on_thread t s) → IsDistinct nat_eq (skip_list_blocks_of_struct t.disk was) → CanReplaceFileStruct t bytes was (Ctz s.head s.size)
+pub list_comes : (t : KeptThread) (s : StoredList) (bytes : List ℕ) (form : ContentsStorageForm) (was : Struct) → AreConsistentContentsWithBytesAndFormOnThread t (Finished s) bytes form → s.size ≡ length bytes → inline_limit t.disk.block_size < length bytes
+    → AreUsedBlocksOfListAmongOwnBlocks t.map (skip_list_blocks_of_struct t.disk was) (blocks_of_list_on_thread t s) → IsDistinct nat_eq (skip_list_blocks_of_struct t.disk was) → IsStructOfContentsWithNewBlocksInFlight t bytes was (Ctz s.head s.size)
 list_comes t s bytes form was holds size large owned distinct =
     let stored : IsFinishedListConsistentWithMapAndDisk t.map t.disk.blocks t.disk.block_size s = subst (λ (n : ℕ). IsFinishedListConsistentWithMapAndDisk t.map t.disk.blocks n s) holds.divided.block_size holds.has.stands in
     let list : IsSkipList t.disk.blocks t.disk.block_size s.head s.size = ⊎_elim (λ none. absurd (omega arith)) (λ is. is) stored.base in
@@ -60,7 +60,7 @@ list_comes t s bytes form was holds size large owned distinct =
     }
 
 -- inline
-pub inline_comes : (t : KeptThread) (bytes : List ℕ) (was : Struct) → length bytes ≤ inline_limit t.disk.block_size → CanReplaceFileStruct t bytes was (Inline bytes)
+pub inline_comes : (t : KeptThread) (bytes : List ℕ) (was : Struct) → length bytes ≤ inline_limit t.disk.block_size → IsStructOfContentsWithNewBlocksInFlight t bytes was (Inline bytes)
 inline_comes t bytes was few = record {
   stores = (refl, few);
   list = tt;

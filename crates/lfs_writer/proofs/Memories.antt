@@ -10,7 +10,7 @@ use Rattle.std.specs.Prelude.{All, Contains, slice_range}
 use Rattle.lfs_model.specs.Blocks.{Blocks}
 use Rattle.lfs_model.specs.BlockSets.{BlockStateList, IsBlockFree, IsBlockInFlight}
 use Rattle.lfs_model.specs.SkipLists.{AreListBlocks, IsSkipList, list_blocks_from_head, list_block_count_for_size, byte_count_before_list_block, bytes_of_skip_list}
-use Rattle.lfs_ctz.specs.Growing.{GrowingList, HasGrowingListOnDisk, HasAllBytesInBuffer, AreLastBytesAtLocation, bytes_of_growing_list, are_last_bytes_only_in_buffer, data_of_list_blocks, blocks_kept_when_growing, unwritten_block_after_full_blocks, unwritten_block_of_list, growing_list_size_with_block_size, size_of_growing_list}
+use Rattle.lfs_ctz.specs.Growing.{GrowingList, HasGrowingListOnDisk, HasAllBytesInBuffer, AreLastBytesAtLocation, bytes_of_growing_list, have_last_bytes_no_block, data_of_list_blocks, blocks_kept_when_growing, unwritten_block_after_full_blocks, unwritten_block_of_list, growing_list_size_with_block_size, size_of_growing_list}
 use Rattle.lfs_ctz.specs.declared.rest.RestLocation.{RestLocation}
 use Rattle.lfs_ctz.specs.declared.rest.RestLocation.TheVariants.{Closed, Shared, Handed, Held}
 use Rattle.lfs_writer.specs.Bases.{IsSkipListOnDiskUnlessEmpty, list_blocks_by_head_and_size}
@@ -111,13 +111,13 @@ bytes_on d e geometry now head size same is = ap (λ x. bytes_of_skip_list x now
 
 -- ---- bytes in memory as the beginning of a list
 
-never : (t : RestLocation) → (full : ℕ) → are_last_bytes_only_in_buffer t ≡ true → full ≡ 0 → (disk : Blocks) (head : ℕ) (rest : List ℕ) → AreLastBytesAtLocation disk full head rest t
+never : (t : RestLocation) → (full : ℕ) → have_last_bytes_no_block t ≡ true → full ≡ 0 → (disk : Blocks) (head : ℕ) (rest : List ℕ) → AreLastBytesAtLocation disk full head rest t
 never Closed full held none disk head rest = absurd (cc)
 never (Shared b) full held none disk head rest = absurd (cc)
 never (Handed b) full held none disk head rest = absurd (cc)
 never Held full held none disk head rest = none
 
-pending_held : (t : RestLocation) → are_last_bytes_only_in_buffer t ≡ true → unwritten_block_after_full_blocks t ≡ []
+pending_held : (t : RestLocation) → have_last_bytes_no_block t ≡ true → unwritten_block_after_full_blocks t ≡ []
 pending_held Closed held = absurd (cc)
 pending_held (Shared b) held = absurd (cc)
 pending_held (Handed b) held = absurd (cc)

@@ -7,7 +7,7 @@ use Rattle.std.proofs.lemmas.List.Elements.{All-cons}
 use Rattle.std.proofs.lemmas.List.Sums.{sum_by-set}
 use Rattle.std.proofs.lemmas.Option.{slice_get-get_or}
 use Rattle.lfs_model.specs.Blocks.{Blocks, block_bytes_by_number}
-use Rattle.lfs_model.specs.BlockSets.{BlockState, BlockStateList, IsBlockInFlight, IsBlockUsed, is_used, used_count}
+use Rattle.lfs_model.specs.BlockSets.{BlockState, BlockStateList, IsBlockInFlight, IsBlockMarkedUsedInMap, is_used, used_count}
 use Rattle.lfs_model.specs.BlockSets.BlockState.{Free, InFlight, Used}
 use Rattle.lfs_model.specs.SkipLists.{AreListBlocks, list_blocks_from_head, word_at_offset}
 use Rattle.lfs_model.proofs.BlockSets.{slice_get-set_same, slice_get-set_other}
@@ -26,7 +26,7 @@ uncounted InFlight ne = refl
 uncounted Used ne = absurd (ne refl)
 
 -- a block that isn't used becomes free
-pub releases_one : (sets new : BlockStateList) (b : ℕ) → b < length sets → ¬ (IsBlockUsed sets b) → new ≡ set sets b Free → ReleasesBlocksInFlight sets new (b ∷ [])
+pub releases_one : (sets new : BlockStateList) (b : ℕ) → b < length sets → ¬ (IsBlockMarkedUsedInMap sets b) → new ≡ set sets b Free → ReleasesBlocksInFlight sets new (b ∷ [])
 releases_one sets new b lt unused is =
     let here : slice_get new b ≡ Some Free = ap (λ m. slice_get m b) is ∙ slice_get-set_same sets b Free lt in
     let there : (other : ℕ) → other ≢ b → slice_get new other ≡ slice_get sets other = λ other ne. ap (λ m. slice_get m other) is ∙ slice_get-set_other sets b other Free ne in
@@ -36,7 +36,7 @@ releases_one sets new b lt unused is =
     record {
       count = ap length is ∙ length-set sets b Free;
       used = ap used_count is ∙ omega (arith, none, change);
-      stays = λ other used. ⊎_elim (λ same. absurd (unused (subst (IsBlockUsed sets) same used))) (λ ne. there other ne ∙ used) (cases_eq other b);
+      stays = λ other used. ⊎_elim (λ same. absurd (unused (subst (IsBlockMarkedUsedInMap sets) same used))) (λ ne. there other ne ∙ used) (cases_eq other b);
       gone = All-cons (λ x. ¬ (IsBlockInFlight new x)) b [] (λ flying. let both : Some Free ≡ Some InFlight = sym here ∙ flying in cc) (λ k x l. absurd (omega (arith, l)));
       others = λ other apart. there other (λ e. apart 0 0 (omega arith) (sym e));
     }

@@ -7,7 +7,7 @@ use Rattle.std.proofs.lemmas.Option.{slice_get-get_or}
 use Rattle.std.proofs.lemmas.List.Elements.{All-cons, All-contains}
 use Rattle.lfs_device.specs.declared.error.Error.{Error}
 use Rattle.lfs_model.specs.Blocks.{Blocks}
-use Rattle.lfs_model.specs.BlockSets.{BlockState, BlockStateList, IsBlockUsed}
+use Rattle.lfs_model.specs.BlockSets.{BlockState, BlockStateList, IsBlockMarkedUsedInMap}
 use Rattle.lfs_model.specs.BlockSets.BlockState.{Free, InFlight, Used}
 use Rattle.lfs_model.specs.SkipLists.{list_blocks_from_head}
 use Rattle.lfs_model.proofs.BlockSets.{slice_get-set_same, slice_get-set_other}
@@ -77,10 +77,10 @@ settles old mid new gone kept first second = record {
 }
 
 -- a block that is neither free nor in flight is used
-pub used_else : (sets : BlockStateList) (b : ℕ) → b < length sets → (slice_get sets b ≡ Some InFlight → ⊥) → (slice_get sets b ≡ Some Free → ⊥) → IsBlockUsed sets b
+pub used_else : (sets : BlockStateList) (b : ℕ) → b < length sets → (slice_get sets b ≡ Some InFlight → ⊥) → (slice_get sets b ≡ Some Free → ⊥) → IsBlockMarkedUsedInMap sets b
 used_else sets b lt flying free = go (get_or sets b Free) (slice_get-get_or sets b Free lt)
   where
-    go : (s : BlockState) → slice_get sets b ≡ Some s → IsBlockUsed sets b
+    go : (s : BlockState) → slice_get sets b ≡ Some s → IsBlockMarkedUsedInMap sets b
     go Free is = absurd (free is)
     go InFlight is = absurd (flying is)
     go Used is = is

@@ -6,7 +6,7 @@ use Rattle.std.proofs.lemmas.Bool.{cases_lt}
 use Rattle.std.proofs.lemmas.List.{get_or-take, take-append-drop, take_more}
 use Rattle.std.proofs.lemmas.List.Elements.{All-contains, Contains-append_cases, Contains-append_left, Contains-get_or}
 use Rattle.lfs_model.specs.Blocks.{Blocks, block_bytes_by_number}
-use Rattle.lfs_model.specs.BlockSets.{BlockStateList, IsBlockUsed}
+use Rattle.lfs_model.specs.BlockSets.{BlockStateList, IsBlockMarkedUsedInMap}
 use Rattle.lfs_model.specs.BlockSets.BlockState.{Free, Used}
 use Rattle.lfs_model.specs.SkipLists.{AreListBlocks, list_blocks_from_head, word_at_offset}
 use Rattle.lfs_model.proofs.BlockSets.{occurrence_count_of_number-Contains}
@@ -113,7 +113,7 @@ not_behind n xs b distinct front =
 
 module _ (old mid new : BlockStateList) (gone kept : List ℕ) (n : ℕ) (distinct : IsDistinct nat_eq gone) (same : take n gone ≡ take n kept) (shared : AreSharedBlocksUsed old gone kept)
     (first : PutsBlocksInState Free old mid (drop n gone)) (second : PutsBlocksInState Used mid new (drop n kept)) where
-  used_at : (b : ℕ) → Contains kept b → IsBlockUsed new b
+  used_at : (b : ℕ) → Contains kept b → IsBlockMarkedUsedInMap new b
   used_at b has =
       ⊎_elim
       (λ behind. All-contains (λ x. slice_get new x ≡ Some Used) (drop n kept) b second.put behind)

@@ -1,7 +1,7 @@
 -- Used blocks, which stand apart from each list in hand.
 use Rattle.std.proofs.Common.{ℕ, ◌≡◌, List, Some, refl, sym, ◌∙◌, subst}
 use Rattle.lfs_model.specs.Blocks.{Blocks, AreBlocksEqualExceptThese}
-use Rattle.lfs_model.specs.BlockSets.{BlockStateList, IsBlockInFlight, IsBlockUsed}
+use Rattle.lfs_model.specs.BlockSets.{BlockStateList, IsBlockInFlight, IsBlockMarkedUsedInMap}
 use Rattle.lfs_model.specs.BlockSets.BlockState.{Free, InFlight, Used}
 use Rattle.lfs_model.specs.History.{DeviceCallEvent, ArePossibleBlocksAfterPowerLossInCall, IsTrueAfterAnyPowerLossSince, AreBytesStillUnprogrammed}
 use Rattle.lfs_model.proofs.Histories.{IsTrueOfEachCallSince-weaker, goes_on_by}
@@ -12,7 +12,7 @@ use Rattle.lfs_writer.specs.Releases.{ReleasesBlocksInFlight}
 use Rattle.lfs_writer.specs.TakenBlocks.{ChangesOnlyFreeBlocksInMap}
 
 module _ (map : BlockStateList) (at : Blocks) (g : GrowingList) (marked : HasGrowingListBlocksTaken map at g) where
-  used_apart : (b : ℕ) → IsBlockUsed map b → IsUsedOrInFlightButNotUnwritten map (unwritten_block_of_list g) b
+  used_apart : (b : ℕ) → IsBlockMarkedUsedInMap map b → IsUsedOrInFlightButNotUnwritten map (unwritten_block_of_list g) b
   used_apart b used = (
     λ free. let both : Some Free ≡ Some Used = sym free ∙ used in cc,
     λ k x l same. let both : Some InFlight ≡ Some Used = sym (subst (IsBlockInFlight map) same (marked.pending k x l)) ∙ used in cc,

@@ -9,11 +9,11 @@ use Rattle.lfs_model.specs.BlockSets.{BlockStateList, used_count}
 use Rattle.lfs_model.specs.Disk.{Disk}
 use Rattle.lfs_thread.specs.Beside.{DiskHasGeometry, AreDeviceAndMapOfThread}
 use Rattle.lfs_thread.specs.Kept.{KeptThread}
-use Rattle.lfs_writer.specs.Contents.{CanFinishContents, CanTruncateContents, CanWriteContents, HasBlockRoomForTruncation, HasBlockRoomForWrite, HasContentsInStorageForm, AreContentsConsistentWithMapAndDisk, block_room_for_finish, storage_form_of_contents}
+use Rattle.lfs_writer.specs.Contents.{CanFinishContents, CanTruncateContents, CanWriteContents, HasBlockRoomForTruncation, HasBlockRoomForWrite, AreConsistentContentsWithBytesAndForm, AreContentsConsistentWithMapAndDisk, block_room_for_finish, storage_form_of_contents}
 use Rattle.lfs_writer.specs.Form.{ContentsStorageForm}
 use Rattle.lfs_writer.specs.BlockOwners.{AreUsedBlocksOfListAmongOwnBlocks, blocks_of_contents}
 use Rattle.lfs_writer.specs.declared.contents.WriterContents.{WriterContents}
-use Rattle.lfs_writer.specs.ThreadContents.{CanFinishContentsOnThread, CanTruncateContentsOnThread, CanWriteContentsOnThread, HasContentsInStorageFormOnThread, AreContentsConsistentWithThread, list_blocks_of_contents}
+use Rattle.lfs_writer.specs.ThreadContents.{CanFinishContentsOnThread, CanTruncateContentsOnThread, CanWriteContentsOnThread, AreConsistentContentsWithBytesAndFormOnThread, AreContentsConsistentWithThread, list_blocks_of_contents}
 use Rattle.lfs_writer.proofs.Geometries.{geometry_is}
 
 module _ {D : Type 0} (g : Ghosts D) (t : KeptThread) (device : D) (map : BlockStateList) (shows : AreDeviceAndMapOfThread g t device map)
@@ -37,13 +37,13 @@ module _ {D : Type 0} (g : Ghosts D) (t : KeptThread) (device : D) (map : BlockS
       (subst (λ (x : Geometry). AreContentsConsistentWithMapAndDisk t.map t.disk.blocks x contents) (sym (geometry_here is.geometry is.divided)) is.stands))
 
   -- contents that a call left there
-  pub holds_here : (x : Geometry) (contents : WriterContents) (bytes : List ℕ) (form : ContentsStorageForm) → x ≡ g.geometry device → HasContentsInStorageForm map (g.blocks device) x contents bytes form → HasContentsInStorageFormOnThread t contents bytes form
+  pub holds_here : (x : Geometry) (contents : WriterContents) (bytes : List ℕ) (form : ContentsStorageForm) → x ≡ g.geometry device → AreConsistentContentsWithBytesAndForm map (g.blocks device) x contents bytes form → AreConsistentContentsWithBytesAndFormOnThread t contents bytes form
   holds_here x contents bytes form is has = record {
     geometry = g.geometry device;
     divided = divided_here;
-    has = subst (λ (y : Geometry). HasContentsInStorageForm t.map t.disk.blocks y contents bytes form) is
-        (subst (λ (m : BlockStateList). HasContentsInStorageForm m t.disk.blocks x contents bytes form) shows.map
-        (subst (λ (d : Blocks). HasContentsInStorageForm map d x contents bytes form) blocks_here has));
+    has = subst (λ (y : Geometry). AreConsistentContentsWithBytesAndForm t.map t.disk.blocks y contents bytes form) is
+        (subst (λ (m : BlockStateList). AreConsistentContentsWithBytesAndForm m t.disk.blocks x contents bytes form) shows.map
+        (subst (λ (d : Blocks). AreConsistentContentsWithBytesAndForm map d x contents bytes form) blocks_here has));
   }
 
   -- a write there
@@ -71,10 +71,10 @@ module _ {D : Type 0} (g : Ghosts D) (t : KeptThread) (device : D) (map : BlockS
 -- what a call answers, seen from the thread
 pub holds_after : {D : Type 0} (g : Ghosts D) (old new : KeptThread) (d e : D) (m n : BlockStateList) → AreDeviceAndMapOfThread g old d m → AreDeviceAndMapOfThread g new e n → HasBlocksOfCountAndSize (g.geometry d).block_size (g.geometry d).block_count (g.blocks d)
     → HasBlocksOfCountAndSize (g.geometry e).block_size (g.geometry e).block_count (g.blocks e) → g.geometry e ≡ g.geometry d → (bytes : Blocks → ℕ → List ℕ) (form : ContentsStorageForm) (r : Result WriterContents Error)
-    → IfOk r (λ c. HasContentsInStorageForm n (g.blocks e) (g.geometry d) c (bytes (g.blocks d) (g.geometry d).block_size) form) → IfOk r (λ c. HasContentsInStorageFormOnThread new c (bytes old.disk.blocks old.disk.block_size) form)
+    → IfOk r (λ c. AreConsistentContentsWithBytesAndForm n (g.blocks e) (g.geometry d) c (bytes (g.blocks d) (g.geometry d).block_size) form) → IfOk r (λ c. AreConsistentContentsWithBytesAndFormOnThread new c (bytes old.disk.blocks old.disk.block_size) form)
 holds_after g old new d e m n before after shape later geometry bytes form (Ok c) has =
-    subst (λ (x : Blocks). HasContentsInStorageFormOnThread new c (bytes x old.disk.block_size) form) (blocks_here g old d m before shape)
-    (subst (λ (k : ℕ). HasContentsInStorageFormOnThread new c (bytes (g.blocks d) k) form) (size_here g old d m before shape)
+    subst (λ (x : Blocks). AreConsistentContentsWithBytesAndFormOnThread new c (bytes x old.disk.block_size) form) (blocks_here g old d m before shape)
+    (subst (λ (k : ℕ). AreConsistentContentsWithBytesAndFormOnThread new c (bytes (g.blocks d) k) form) (size_here g old d m before shape)
     (holds_here g new e n after later (g.geometry d) c (bytes (g.blocks d) (g.geometry d).block_size) form (sym geometry) has))
 holds_after g old new d e m n before after shape later geometry bytes form (Err x) has = tt
 

@@ -1,7 +1,7 @@
 -- Whose the blocks of lists are.
 use Rattle.std.specs.Prelude.{ℕ, ◌≡◌, ◌++◌, true, Contains, List, []}
 use Rattle.lfs_model.specs.Blocks.{Blocks}
-use Rattle.lfs_model.specs.BlockSets.{BlockStateList, IsBlockUsed}
+use Rattle.lfs_model.specs.BlockSets.{BlockStateList, IsBlockMarkedUsedInMap}
 use Rattle.lfs_ctz.specs.Growing.{blocks_kept_when_growing}
 use Rattle.lfs_writer.specs.Bases.{list_blocks_by_head_and_size}
 use Rattle.lfs_writer.specs.declared.contents.WriterContents.{WriterContents}
@@ -10,7 +10,7 @@ use Rattle.lfs_writer.specs.declared.stored_list.StoredList.{StoredList}
 
 -- of these blocks the used ones are among those: the others are in flight, where none is free
 pub record AreUsedBlocksOfListAmongOwnBlocks (map : BlockStateList) (own bs : List ℕ) : Type 0 where
-  pub each : (b : ℕ) → Contains bs b → IsBlockUsed map b → Contains own b
+  pub each : (b : ℕ) → Contains bs b → IsBlockMarkedUsedInMap map b → Contains own b
 
 abbrev pub blocks_of_stored_list : Blocks → ℕ → StoredList → List ℕ
 blocks_of_stored_list disk block_size s = list_blocks_by_head_and_size disk block_size s.head s.size

@@ -47,7 +47,7 @@ AreContentsConsistentWithMapAndDisk map disk now (Finished stored) = IsFinishedL
 AreContentsConsistentWithMapAndDisk map disk now (InHand hand) = IsUnfinishedListWithAtLeastOneByte map disk now hand
 
 -- the contents are in that form, with these bytes
-pub record HasContentsInStorageForm (map : BlockStateList) (disk : Blocks) (now : Geometry) (contents : WriterContents) (bytes : List ℕ) (shape : ContentsStorageForm) : Type 0 where
+pub record AreConsistentContentsWithBytesAndForm (map : BlockStateList) (disk : Blocks) (now : Geometry) (contents : WriterContents) (bytes : List ℕ) (shape : ContentsStorageForm) : Type 0 where
   pub stands : AreContentsConsistentWithMapAndDisk map disk now contents
   pub has : writer_contents_bytes_in_memory_or_blocks disk now.block_size contents ≡ bytes
   pub form : storage_form_of_contents contents ≡ shape

@@ -1,7 +1,7 @@
 -- Lists that hold the contents of a file that is written, and what the map has of them.
 use Rattle.std.specs.Prelude.{ℕ, ◌≡◌, ◌≢◌, ◌≤◌, ◌++◌, ◌⊎◌, All, Contains, true, false, List, length, take, drop}
 use Rattle.lfs_model.specs.Blocks.{Blocks, block_bytes_by_number}
-use Rattle.lfs_model.specs.BlockSets.{BlockStateList, IsBlockFree, IsBlockInFlight, IsBlockUsed, used_count}
+use Rattle.lfs_model.specs.BlockSets.{BlockStateList, IsBlockFree, IsBlockInFlight, IsBlockMarkedUsedInMap, used_count}
 use Rattle.lfs_model.specs.History.{DeviceCallEvent, is_byte_unprogrammed}
 use Rattle.lfs_model.specs.SkipLists.{list_block_count_for_size, bytes_of_skip_list}
 use Rattle.lfs_ctz.specs.Growing.{GrowingList, HasGrowingListOnDisk, blocks_of_growing_list, bytes_of_growing_list, are_last_bytes_of_list_only_in_buffer, blocks_kept_when_growing, unwritten_block_of_list, growing_list_size_with_block_size}
@@ -26,7 +26,7 @@ pub record GrowingListSharesOnlyFirstBlocksWithBase (map : BlockStateList) (disk
   pub few : shared ≤ list_block_count_for_size block_size base.size
   pub front : take shared (blocks_kept_when_growing disk g) ≡ take shared (list_blocks_by_head_and_size disk block_size base.head base.size)
   pub behind : All (λ b. All (λ c. c ≢ b) (list_blocks_by_head_and_size disk block_size base.head base.size)) (drop shared (blocks_kept_when_growing disk g))
-  pub taken : (b : ℕ) → Contains (blocks_kept_when_growing disk g) b → IsBlockUsed map b → Contains (list_blocks_by_head_and_size disk block_size base.head base.size) b
+  pub taken : (b : ℕ) → Contains (blocks_kept_when_growing disk g) b → IsBlockMarkedUsedInMap map b → Contains (list_blocks_by_head_and_size disk block_size base.head base.size) b
   pub flying : (b : ℕ) → IsBlockInFlight map b → Contains (blocks_kept_when_growing disk g) b ⊎ ((base.in_flight ≡ true) × Contains (list_blocks_by_head_and_size disk block_size base.head base.size) b)
 
 -- All blocks of the list are its own, as many as its bytes need, and it can be ended.
@@ -47,14 +47,14 @@ list_bytes_then_rest_of_base disk block_size g base = bytes_of_growing_list disk
 pub record KeepsBytesOfUsedBlocks (map : BlockStateList) (old new : Blocks) : Type 0 where
   pub count : length new ≡ length old
   pub sizes : (b : ℕ) → length (block_bytes_by_number new b) ≡ length (block_bytes_by_number old b)
-  pub same : (b : ℕ) → IsBlockUsed map b → block_bytes_by_number new b ≡ block_bytes_by_number old b
+  pub same : (b : ℕ) → IsBlockMarkedUsedInMap map b → block_bytes_by_number new b ≡ block_bytes_by_number old b
 
 -- bytes of used blocks that were unprogrammed still are
 pub record KeepsUnprogrammedInUsedBlocks (map : BlockStateList) (old new : List DeviceCallEvent) : Type 0 where
-  pub stays : (b k : ℕ) → IsBlockUsed map b → is_byte_unprogrammed old b k ≡ true → is_byte_unprogrammed new b k ≡ true
+  pub stays : (b k : ℕ) → IsBlockMarkedUsedInMap map b → is_byte_unprogrammed old b k ≡ true → is_byte_unprogrammed new b k ≡ true
 
 -- the same blocks are used
 pub record KeepsUsedBlocksInMap (old new : BlockStateList) : Type 0 where
   pub count : length new ≡ length old
   pub used : used_count new ≡ used_count old
-  pub stays : (b : ℕ) → IsBlockUsed old b → IsBlockUsed new b
+  pub stays : (b : ℕ) → IsBlockMarkedUsedInMap old b → IsBlockMarkedUsedInMap new b

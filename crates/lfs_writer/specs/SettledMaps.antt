@@ -1,6 +1,6 @@
 -- Blocks of a list that take another state.
 use Rattle.std.specs.Prelude.{ℕ, ◌≡◌, ◌≢◌, Bool, true, false, All, Contains, List, Some, length, slice_get}
-use Rattle.lfs_model.specs.BlockSets.{BlockStateList, BlockState, IsBlockFree, IsBlockUsed}
+use Rattle.lfs_model.specs.BlockSets.{BlockStateList, BlockState, IsBlockFree, IsBlockMarkedUsedInMap}
 use Rattle.lfs_model.specs.BlockSets.BlockState.{Free, Used}
 
 -- the state of a block that is used, or is free
@@ -17,13 +17,13 @@ pub record PutsBlocksInState (state : BlockState) (old new : BlockStateList) (bs
 -- The blocks of the list that is kept are used, and those that only the other one had are free.
 pub record MarksNewListUsedAndOldFree (old new : BlockStateList) (gone kept : List ℕ) : Type 0 where
   pub count : length new ≡ length old
-  pub used : All (IsBlockUsed new) kept
+  pub used : All (IsBlockMarkedUsedInMap new) kept
   pub freed : (b : ℕ) → Contains gone b → All (λ x. x ≢ b) kept → IsBlockFree new b
   pub others : (b : ℕ) → All (λ x. x ≢ b) gone → All (λ x. x ≢ b) kept → slice_get new b ≡ slice_get old b
 
 -- blocks that are in both lists are used
 pub record AreSharedBlocksUsed (sets : BlockStateList) (gone kept : List ℕ) : Type 0 where
-  pub used : (b : ℕ) → Contains gone b → Contains kept b → IsBlockUsed sets b
+  pub used : (b : ℕ) → Contains gone b → Contains kept b → IsBlockMarkedUsedInMap sets b
 
 -- the blocks that aren't among these are as they were
 pub record KeepsStatesOfOtherBlocks (old new : BlockStateList) (bs : List ℕ) : Type 0 where

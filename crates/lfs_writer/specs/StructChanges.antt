@@ -11,7 +11,7 @@ use Rattle.lfs_thread.specs.Kept.{KeptThread}
 
 -- The struct gives these contents, inline or as a list that is on the disk. `come` are the blocks that the list before hasn't;
 -- they are in flight. `gone` are the blocks that only the list before has.
-pub record CanReplaceFileStruct (t : KeptThread) (contents : List ℕ) (was now : Struct) : Type 0 where
+pub record IsStructOfContentsWithNewBlocksInFlight (t : KeptThread) (contents : List ℕ) (was now : Struct) : Type 0 where
   pub stores : IsStructStoringBytes t.disk contents now
   pub list : IsSkipListIfCtzStruct t.disk now
   pub gone : List ℕ

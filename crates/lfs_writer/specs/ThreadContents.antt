@@ -8,7 +8,7 @@ use Rattle.lfs_model.specs.History.{ArePossibleBlocksAfterPowerLossInCall, IsTru
 use Rattle.lfs_thread.specs.Beside.{DiskHasGeometry}
 use Rattle.lfs_thread.specs.Kept.{KeptThread}
 use Rattle.lfs_thread.specs.Steps.{HasSameGeometry}
-use Rattle.lfs_writer.specs.Contents.{HasBlockRoomForTruncation, HasBlockRoomForWrite, HasContentsInStorageForm, AreContentsConsistentWithMapAndDisk, block_room_for_finish, storage_form_of_contents}
+use Rattle.lfs_writer.specs.Contents.{HasBlockRoomForTruncation, HasBlockRoomForWrite, AreConsistentContentsWithBytesAndForm, AreContentsConsistentWithMapAndDisk, block_room_for_finish, storage_form_of_contents}
 use Rattle.lfs_writer.specs.Form.{ContentsStorageForm}
 use Rattle.lfs_writer.specs.Hand.{KeepsUsedBlocksInMap, KeepsBytesOfUsedBlocks, KeepsUnprogrammedInUsedBlocks}
 use Rattle.lfs_writer.specs.BlockOwners.{blocks_of_contents}
@@ -21,10 +21,10 @@ pub record AreContentsConsistentWithThread (t : KeptThread) (contents : WriterCo
   pub stands : AreContentsConsistentWithMapAndDisk t.map t.disk.blocks geometry contents
 
 -- the contents are in that form, with these bytes
-pub record HasContentsInStorageFormOnThread (t : KeptThread) (contents : WriterContents) (bytes : List ℕ) (shape : ContentsStorageForm) : Type 0 where
+pub record AreConsistentContentsWithBytesAndFormOnThread (t : KeptThread) (contents : WriterContents) (bytes : List ℕ) (shape : ContentsStorageForm) : Type 0 where
   pub geometry : Geometry
   pub divided : DiskHasGeometry geometry t.disk
-  pub has : HasContentsInStorageForm t.map t.disk.blocks geometry contents bytes shape
+  pub has : AreConsistentContentsWithBytesAndForm t.map t.disk.blocks geometry contents bytes shape
 
 -- bytes may be written there
 pub record CanWriteContentsOnThread (t : KeptThread) (contents : WriterContents) (limit place count : ℕ) : Type 0 where

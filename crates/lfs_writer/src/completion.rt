@@ -4,7 +4,7 @@ ghost use Rattle.std.specs.Prelude.{ℕ, IfOk};
 ghost use Rattle.lfs_model.specs.BlockSets.{IsBlockInFlight};
 ghost use Rattle.lfs_ctz.specs.Calls.{ReportsIoOrNoMemory};
 ghost use Rattle.lfs_writer.specs.Calls.{CallKeepsUsedBlocks};
-ghost use Rattle.lfs_writer.specs.Contents.{CanFinishContents, HasContentsInStorageForm, writer_contents_bytes_in_memory_or_blocks, storage_form_after_finish, storage_form_of_contents};
+ghost use Rattle.lfs_writer.specs.Contents.{CanFinishContents, AreConsistentContentsWithBytesAndForm, writer_contents_bytes_in_memory_or_blocks, storage_form_after_finish, storage_form_of_contents};
 ghost use Rattle.lfs_writer.specs.Hand.{KeepsUsedBlocksInMap};
 ghost use Rattle.lfs_writer.specs.BlockOwners.{AreUsedBlocksOfListAmongOwnBlocks, blocks_of_contents};
 
@@ -29,7 +29,7 @@ pub fn finish_contents<D: BlockDevice>(
     contents: WriterContents,
 ) -> Result<WriterContents, Error>
     requires { CanFinishContents map.old (D.blocks dev.old) (D.geometry dev.old) contents }
-    ensures finished { IfOk result (λ c. HasContentsInStorageForm map.new (D.blocks dev.new) (D.geometry dev.old) c
+    ensures finished { IfOk result (λ c. AreConsistentContentsWithBytesAndForm map.new (D.blocks dev.new) (D.geometry dev.old) c
         (writer_contents_bytes_in_memory_or_blocks (D.blocks dev.old) (D.geometry dev.old).block_size contents) (storage_form_after_finish (storage_form_of_contents contents))) }
     ensures owned { IfOk result (λ c. AreUsedBlocksOfListAmongOwnBlocks map.new (blocks_of_contents (D.blocks dev.old) (D.geometry dev.old).block_size contents) (blocks_of_contents (D.blocks dev.new) (D.geometry dev.old).block_size c)) }
     ensures map { KeepsUsedBlocksInMap map.old map.new }

@@ -7,7 +7,7 @@ ghost use Rattle.lfs_model.specs.SkipLists.{list_block_count_for_size};
 ghost use Rattle.lfs_model.specs.Writers.{contents_after_write};
 ghost use Rattle.lfs_ctz.specs.Calls.{ReportsIoOrNoMemory};
 ghost use Rattle.lfs_writer.specs.Calls.{CallKeepsUsedBlocks};
-ghost use Rattle.lfs_writer.specs.Contents.{CanWriteContents, HasContentsInStorageForm, HasNoBlockInFlight, IsInMemoryWithNoBlockInFlight, writer_contents_bytes_in_memory_or_blocks, storage_form_of_contents, bytes_in_buffer, block_room_for_write};
+ghost use Rattle.lfs_writer.specs.Contents.{CanWriteContents, AreConsistentContentsWithBytesAndForm, HasNoBlockInFlight, IsInMemoryWithNoBlockInFlight, writer_contents_bytes_in_memory_or_blocks, storage_form_of_contents, bytes_in_buffer, block_room_for_write};
 ghost use Rattle.lfs_writer.specs.Form as form;
 ghost use Rattle.lfs_writer.specs.Form.{storage_form_after_write};
 ghost use Rattle.lfs_writer.specs.Hand.{IsFinishedListConsistentWithMapAndDisk, KeepsUsedBlocksInMap, bytes_of_stored_list};
@@ -48,7 +48,7 @@ pub fn make_contents_in_memory(
     bytes: &[u8],
 ) -> Result<WriterContents, Error>
     requires { length bytes.now < geometry.block_size }
-    ensures holds { IfOk result (λ c. (map : BlockStateList) (disk : Blocks) → HasNoBlockInFlight map disk → HasContentsInStorageForm map disk geometry c bytes.now (form.InMemory (length bytes.now))) }
+    ensures holds { IfOk result (λ c. (map : BlockStateList) (disk : Blocks) → HasNoBlockInFlight map disk → AreConsistentContentsWithBytesAndForm map disk geometry c bytes.now (form.InMemory (length bytes.now))) }
     ensures errors { IfErr result (λ e. e ≡ Error.NoMemory) }
 {
     let mut list = Extender::start_with_empty_list(alloc, geometry)?;
@@ -72,7 +72,7 @@ fn write_contents_in_memory<D: BlockDevice>(
     requires some { 1 ≤ length bytes.now }
     requires small { place + length bytes.now < 2 ^ 31 }
     requires room { limit < max (length (bytes_in_buffer list)) (place + length bytes.now) → used_count map.old + list_block_count_for_size (D.geometry dev.old).block_size (place + length bytes.now) ≤ length map.old }
-    ensures written { IfOk result (λ c. HasContentsInStorageForm map.new (D.blocks dev.new) (D.geometry dev.old) c
+    ensures written { IfOk result (λ c. AreConsistentContentsWithBytesAndForm map.new (D.blocks dev.new) (D.geometry dev.old) c
         (contents_after_write (bytes_in_buffer list) place bytes.now) (storage_form_after_write limit place (length bytes.now) (form.InMemory (length (bytes_in_buffer list))))) }
     ensures owned { IfOk result (λ c. AreUsedBlocksOfListAmongOwnBlocks map.new (blocks_of_contents (D.blocks dev.old) (D.geometry dev.old).block_size (WriterContents.InMemory list)) (blocks_of_contents (D.blocks dev.new) (D.geometry dev.old).block_size c)) }
     ensures map { KeepsUsedBlocksInMap map.old map.new }
@@ -131,7 +131,7 @@ fn write_over_finished_list<D: BlockDevice>(
     requires some { 1 ≤ length bytes.now }
     requires small { place + length bytes.now < 2 ^ 31 }
     requires room { limit < max stored.size (place + length bytes.now) → used_count map.old + list_block_count_for_size (D.geometry dev.old).block_size (place + length bytes.now) + in_flight_block_limit_of_stored_list (D.geometry dev.old).block_size stored ≤ length map.old }
-    ensures written { IfOk result (λ c. HasContentsInStorageForm map.new (D.blocks dev.new) (D.geometry dev.old) c
+    ensures written { IfOk result (λ c. AreConsistentContentsWithBytesAndForm map.new (D.blocks dev.new) (D.geometry dev.old) c
         (contents_after_write (bytes_of_stored_list (D.blocks dev.old) (D.geometry dev.old).block_size stored) place bytes.now) (storage_form_after_write limit place (length bytes.now) (form.Finished stored.size stored.in_flight))) }
     ensures owned { IfOk result (λ c. AreUsedBlocksOfListAmongOwnBlocks map.new (blocks_of_contents (D.blocks dev.old) (D.geometry dev.old).block_size (WriterContents.Finished stored)) (blocks_of_contents (D.blocks dev.new) (D.geometry dev.old).block_size c)) }
     ensures map { KeepsUsedBlocksInMap map.old map.new }
@@ -163,7 +163,7 @@ fn write_to_unfinished_list<D: BlockDevice>(
     requires some { 1 ≤ length bytes.now }
     requires small { place + length bytes.now < 2 ^ 31 }
     requires room { used_count map.old + block_room_for_write (D.geometry dev.old).block_size place (length bytes.now) (storage_form_of_contents (WriterContents.InHand hand)) ≤ length map.old }
-    ensures written { IfOk result (λ c. HasContentsInStorageForm map.new (D.blocks dev.new) (D.geometry dev.old) c
+    ensures written { IfOk result (λ c. AreConsistentContentsWithBytesAndForm map.new (D.blocks dev.new) (D.geometry dev.old) c
         (contents_after_write (contents_bytes_of_unfinished_list (D.blocks dev.old) hand) place bytes.now) (storage_form_after_write limit place (length bytes.now) (storage_form_of_contents (WriterContents.InHand hand)))) }
     ensures owned { IfOk result (λ c. AreUsedBlocksOfListAmongOwnBlocks map.new (blocks_of_contents (D.blocks dev.old) (D.geometry dev.old).block_size (WriterContents.InHand hand)) (blocks_of_contents (D.blocks dev.new) (D.geometry dev.old).block_size c)) }
     ensures map { KeepsUsedBlocksInMap map.old map.new }
@@ -191,7 +191,7 @@ pub fn write_contents<D: BlockDevice>(
     bytes: &[u8],
 ) -> Result<WriterContents, Error>
     requires { CanWriteContents map.old (D.blocks dev.old) (D.geometry dev.old) contents limit place (length bytes.now) }
-    ensures written { IfOk result (λ c. HasContentsInStorageForm map.new (D.blocks dev.new) (D.geometry dev.old) c
+    ensures written { IfOk result (λ c. AreConsistentContentsWithBytesAndForm map.new (D.blocks dev.new) (D.geometry dev.old) c
         (contents_after_write (writer_contents_bytes_in_memory_or_blocks (D.blocks dev.old) (D.geometry dev.old).block_size contents) place bytes.now) (storage_form_after_write limit place (length bytes.now) (storage_form_of_contents contents))) }
     ensures owned { IfOk result (λ c. AreUsedBlocksOfListAmongOwnBlocks map.new (blocks_of_contents (D.blocks dev.old) (D.geometry dev.old).block_size contents) (blocks_of_contents (D.blocks dev.new) (D.geometry dev.old).block_size c)) }
     ensures map { KeepsUsedBlocksInMap map.old map.new }

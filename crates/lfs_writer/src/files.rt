@@ -3,7 +3,7 @@
 ghost use Rattle.std.specs.Prelude.{◌≡◌, false, is_err, length, take, IfErr, IfOk, OnOk};
 ghost use Rattle.lfs_model.specs.Writers.{contents_after_write, bytes_padded_with_zeros};
 ghost use Rattle.lfs_writer.specs.SettledFiles.{CanMarkStoredListUsedAndOldFree, ChangesOnlyBlockMap, IsStoredListUsedAndOldListFree};
-ghost use Rattle.lfs_writer.specs.ThreadContents.{CanFinishContentsOnThread, CanTruncateContentsOnThread, CanWriteContentsOnThread, HasContentsInStorageFormOnThread, LeavesPairsAndUsedBlocksUnchanged, ReportsFaultOrNoMemory, list_blocks_of_contents};
+ghost use Rattle.lfs_writer.specs.ThreadContents.{CanFinishContentsOnThread, CanTruncateContentsOnThread, CanWriteContentsOnThread, AreConsistentContentsWithBytesAndFormOnThread, LeavesPairsAndUsedBlocksUnchanged, ReportsFaultOrNoMemory, list_blocks_of_contents};
 ghost use Rattle.lfs_writer.specs.Contents.{writer_contents_bytes_in_memory_or_blocks, storage_form_after_finish, storage_form_of_contents};
 ghost use Rattle.lfs_writer.specs.Form.{storage_form_after_truncate, storage_form_after_write};
 ghost use Rattle.lfs_writer.specs.BlockOwners.{AreUsedBlocksOfListAmongOwnBlocks};
@@ -32,7 +32,7 @@ pub fn write_file<D: BlockDevice>(
 ) -> Result<WriterContents, Error>
     requires works { thread.old.failed ≡ false }
     requires can { CanWriteContentsOnThread thread.old.kept contents limit place (length bytes.now) }
-    ensures written { IfOk result (λ c. HasContentsInStorageFormOnThread thread.new.kept c (contents_after_write (writer_contents_bytes_in_memory_or_blocks thread.old.kept.disk.blocks thread.old.kept.disk.block_size contents) place bytes.now)
+    ensures written { IfOk result (λ c. AreConsistentContentsWithBytesAndFormOnThread thread.new.kept c (contents_after_write (writer_contents_bytes_in_memory_or_blocks thread.old.kept.disk.blocks thread.old.kept.disk.block_size contents) place bytes.now)
         (storage_form_after_write limit place (length bytes.now) (storage_form_of_contents contents))) }
     ensures owned { IfOk result (λ c. AreUsedBlocksOfListAmongOwnBlocks thread.new.kept.map (list_blocks_of_contents thread.old.kept contents) (list_blocks_of_contents thread.new.kept c)) }
     ensures works { thread.new.failed ≡ false }
@@ -60,7 +60,7 @@ pub fn truncate_file<D: BlockDevice>(
 ) -> Result<WriterContents, Error>
     requires works { thread.old.failed ≡ false }
     requires can { CanTruncateContentsOnThread thread.old.kept contents limit size }
-    ensures truncated { IfOk result (λ c. HasContentsInStorageFormOnThread thread.new.kept c (take size (bytes_padded_with_zeros size (writer_contents_bytes_in_memory_or_blocks thread.old.kept.disk.blocks thread.old.kept.disk.block_size contents)))
+    ensures truncated { IfOk result (λ c. AreConsistentContentsWithBytesAndFormOnThread thread.new.kept c (take size (bytes_padded_with_zeros size (writer_contents_bytes_in_memory_or_blocks thread.old.kept.disk.blocks thread.old.kept.disk.block_size contents)))
         (storage_form_after_truncate limit size (storage_form_of_contents contents))) }
     ensures owned { IfOk result (λ c. AreUsedBlocksOfListAmongOwnBlocks thread.new.kept.map (list_blocks_of_contents thread.old.kept contents) (list_blocks_of_contents thread.new.kept c)) }
     ensures works { thread.new.failed ≡ false }
@@ -84,7 +84,7 @@ pub fn finish_file<D: BlockDevice>(
 ) -> Result<WriterContents, Error>
     requires works { thread.old.failed ≡ false }
     requires can { CanFinishContentsOnThread thread.old.kept contents }
-    ensures finished { IfOk result (λ c. HasContentsInStorageFormOnThread thread.new.kept c (writer_contents_bytes_in_memory_or_blocks thread.old.kept.disk.blocks thread.old.kept.disk.block_size contents) (storage_form_after_finish (storage_form_of_contents contents))) }
+    ensures finished { IfOk result (λ c. AreConsistentContentsWithBytesAndFormOnThread thread.new.kept c (writer_contents_bytes_in_memory_or_blocks thread.old.kept.disk.blocks thread.old.kept.disk.block_size contents) (storage_form_after_finish (storage_form_of_contents contents))) }
     ensures owned { IfOk result (λ c. AreUsedBlocksOfListAmongOwnBlocks thread.new.kept.map (list_blocks_of_contents thread.old.kept contents) (list_blocks_of_contents thread.new.kept c)) }
     ensures works { thread.new.failed ≡ false }
     ensures leaves { LeavesPairsAndUsedBlocksUnchanged thread.old.kept thread.new.kept }

@@ -8,7 +8,7 @@ ghost use Rattle.lfs_model.specs.Writers.{bytes_padded_with_zeros};
 ghost use Rattle.lfs_ctz.specs.Calls.{ReportsIoOrNoMemory};
 ghost use Rattle.lfs_ctz.specs.Growing.{size_of_growing_list};
 ghost use Rattle.lfs_writer.specs.Calls.{CallKeepsUsedBlocks};
-ghost use Rattle.lfs_writer.specs.Contents.{CanTruncateContents, HasContentsInStorageForm, IsInMemoryWithNoBlockInFlight, writer_contents_bytes_in_memory_or_blocks, storage_form_of_contents, bytes_in_buffer, block_room_for_truncation};
+ghost use Rattle.lfs_writer.specs.Contents.{CanTruncateContents, AreConsistentContentsWithBytesAndForm, IsInMemoryWithNoBlockInFlight, writer_contents_bytes_in_memory_or_blocks, storage_form_of_contents, bytes_in_buffer, block_room_for_truncation};
 ghost use Rattle.lfs_writer.specs.Form as form;
 ghost use Rattle.lfs_writer.specs.Form.{storage_form_after_truncate};
 ghost use Rattle.lfs_writer.specs.Hand.{IsFinishedListConsistentWithMapAndDisk, KeepsUsedBlocksInMap, bytes_of_stored_list};
@@ -69,7 +69,7 @@ fn truncate_in_memory<D: BlockDevice>(
     requires short { limit < (D.geometry dev.old).block_size }
     requires small { size < 2 ^ 31 }
     requires room { limit < size → used_count map.old + list_block_count_for_size (D.geometry dev.old).block_size size ≤ length map.old }
-    ensures truncated { IfOk result (λ c. HasContentsInStorageForm map.new (D.blocks dev.new) (D.geometry dev.old) c
+    ensures truncated { IfOk result (λ c. AreConsistentContentsWithBytesAndForm map.new (D.blocks dev.new) (D.geometry dev.old) c
         (take size (bytes_padded_with_zeros size (bytes_in_buffer list))) (storage_form_after_truncate limit size (form.InMemory (length (bytes_in_buffer list))))) }
     ensures owned { IfOk result (λ c. AreUsedBlocksOfListAmongOwnBlocks map.new (blocks_of_contents (D.blocks dev.old) (D.geometry dev.old).block_size (WriterContents.InMemory list)) (blocks_of_contents (D.blocks dev.new) (D.geometry dev.old).block_size c)) }
     ensures map { KeepsUsedBlocksInMap map.old map.new }
@@ -147,7 +147,7 @@ fn truncate_finished_list<D: BlockDevice>(
     requires short { limit < (D.geometry dev.old).block_size }
     requires small { size < 2 ^ 31 }
     requires room { limit < size → stored.size < size → used_count map.old + list_block_count_for_size (D.geometry dev.old).block_size size + in_flight_block_limit_of_stored_list (D.geometry dev.old).block_size stored ≤ length map.old }
-    ensures truncated { IfOk result (λ c. HasContentsInStorageForm map.new (D.blocks dev.new) (D.geometry dev.old) c
+    ensures truncated { IfOk result (λ c. AreConsistentContentsWithBytesAndForm map.new (D.blocks dev.new) (D.geometry dev.old) c
         (take size (bytes_padded_with_zeros size (bytes_of_stored_list (D.blocks dev.old) (D.geometry dev.old).block_size stored))) (storage_form_after_truncate limit size (form.Finished stored.size stored.in_flight))) }
     ensures owned { IfOk result (λ c. AreUsedBlocksOfListAmongOwnBlocks map.new (blocks_of_contents (D.blocks dev.old) (D.geometry dev.old).block_size (WriterContents.Finished stored)) (blocks_of_contents (D.blocks dev.new) (D.geometry dev.old).block_size c)) }
     ensures map { KeepsUsedBlocksInMap map.old map.new }
@@ -212,7 +212,7 @@ fn shorten_unfinished_list<D: BlockDevice>(
     requires short { limit < (D.geometry dev.old).block_size }
     requires small { size < 2 ^ 31 }
     requires room { used_count map.old + in_flight_block_limit_of_stored_list (D.geometry dev.old).block_size hand.base + list_block_count_for_size (D.geometry dev.old).block_size hand.base.size ≤ length map.old }
-    ensures truncated { IfOk result (λ c. HasContentsInStorageForm map.new (D.blocks dev.new) (D.geometry dev.old) c
+    ensures truncated { IfOk result (λ c. AreConsistentContentsWithBytesAndForm map.new (D.blocks dev.new) (D.geometry dev.old) c
         (take size (bytes_padded_with_zeros size (contents_bytes_of_unfinished_list (D.blocks dev.old) hand))) (storage_form_after_truncate limit size (form.Finished (contents_length_of_unfinished_list hand) true))) }
     ensures owned { IfOk result (λ c. AreUsedBlocksOfListAmongOwnBlocks map.new (blocks_of_contents (D.blocks dev.old) (D.geometry dev.old).block_size (WriterContents.InHand hand)) (blocks_of_contents (D.blocks dev.new) (D.geometry dev.old).block_size c)) }
     ensures map { KeepsUsedBlocksInMap map.old map.new }
@@ -238,7 +238,7 @@ fn truncate_unfinished_list<D: BlockDevice>(
     requires short { limit < (D.geometry dev.old).block_size }
     requires small { size < 2 ^ 31 }
     requires room { size ≢ contents_length_of_unfinished_list hand → used_count map.old + block_room_for_truncation (D.geometry dev.old).block_size size (storage_form_of_contents (WriterContents.InHand hand)) ≤ length map.old }
-    ensures truncated { IfOk result (λ c. HasContentsInStorageForm map.new (D.blocks dev.new) (D.geometry dev.old) c
+    ensures truncated { IfOk result (λ c. AreConsistentContentsWithBytesAndForm map.new (D.blocks dev.new) (D.geometry dev.old) c
         (take size (bytes_padded_with_zeros size (contents_bytes_of_unfinished_list (D.blocks dev.old) hand))) (storage_form_after_truncate limit size (storage_form_of_contents (WriterContents.InHand hand)))) }
     ensures owned { IfOk result (λ c. AreUsedBlocksOfListAmongOwnBlocks map.new (blocks_of_contents (D.blocks dev.old) (D.geometry dev.old).block_size (WriterContents.InHand hand)) (blocks_of_contents (D.blocks dev.new) (D.geometry dev.old).block_size c)) }
     ensures map { KeepsUsedBlocksInMap map.old map.new }
@@ -273,7 +273,7 @@ pub fn truncate_contents<D: BlockDevice>(
     size: u32,
 ) -> Result<WriterContents, Error>
     requires { CanTruncateContents map.old (D.blocks dev.old) (D.geometry dev.old) contents limit size }
-    ensures truncated { IfOk result (λ c. HasContentsInStorageForm map.new (D.blocks dev.new) (D.geometry dev.old) c
+    ensures truncated { IfOk result (λ c. AreConsistentContentsWithBytesAndForm map.new (D.blocks dev.new) (D.geometry dev.old) c
         (take size (bytes_padded_with_zeros size (writer_contents_bytes_in_memory_or_blocks (D.blocks dev.old) (D.geometry dev.old).block_size contents))) (storage_form_after_truncate limit size (storage_form_of_contents contents))) }
     ensures owned { IfOk result (λ c. AreUsedBlocksOfListAmongOwnBlocks map.new (blocks_of_contents (D.blocks dev.old) (D.geometry dev.old).block_size contents) (blocks_of_contents (D.blocks dev.new) (D.geometry dev.old).block_size c)) }
     ensures map { KeepsUsedBlocksInMap map.old map.new }

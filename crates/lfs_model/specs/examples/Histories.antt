@@ -3,23 +3,23 @@ use Rattle.std.specs.Prelude.{true, false, List, [], ◌∷◌, replicate}
 use Rattle.lfs_model.specs.Blocks.{Blocks}
 use Rattle.lfs_model.specs.History.{DeviceCallEvent, Read, Program, Erase, device_call_event_with_blocks}
 
-abbrev pub two_blocks_before_erase : Blocks
-two_blocks_before_erase = (1 ∷ 2 ∷ 3 ∷ 4 ∷ []) ∷ (5 ∷ 6 ∷ 7 ∷ 8 ∷ []) ∷ []
+abbrev pub example_blocks_before_erase : Blocks
+example_blocks_before_erase = (1 ∷ 2 ∷ 3 ∷ 4 ∷ []) ∷ (5 ∷ 6 ∷ 7 ∷ 8 ∷ []) ∷ []
 
-abbrev pub two_blocks_after_erase : Blocks
-two_blocks_after_erase = replicate 4 0xff ∷ (5 ∷ 6 ∷ 7 ∷ 8 ∷ []) ∷ []
+abbrev pub example_blocks_after_erase : Blocks
+example_blocks_after_erase = replicate 4 0xff ∷ (5 ∷ 6 ∷ 7 ∷ 8 ∷ []) ∷ []
 
-abbrev pub two_blocks_after_program : Blocks
-two_blocks_after_program = (9 ∷ 9 ∷ 0xff ∷ 0xff ∷ []) ∷ (5 ∷ 6 ∷ 7 ∷ 8 ∷ []) ∷ []
+abbrev pub example_blocks_after_program : Blocks
+example_blocks_after_program = (9 ∷ 9 ∷ 0xff ∷ 0xff ∷ []) ∷ (5 ∷ 6 ∷ 7 ∷ 8 ∷ []) ∷ []
 
 abbrev pub erase_event : DeviceCallEvent
-erase_event = device_call_event_with_blocks (Erase 0) two_blocks_before_erase two_blocks_after_erase false
+erase_event = device_call_event_with_blocks (Erase 0) example_blocks_before_erase example_blocks_after_erase false
 
 abbrev pub program_event : DeviceCallEvent
-program_event = device_call_event_with_blocks (Program 0 0 (9 ∷ 9 ∷ [])) two_blocks_after_erase two_blocks_after_program false
+program_event = device_call_event_with_blocks (Program 0 0 (9 ∷ 9 ∷ [])) example_blocks_after_erase example_blocks_after_program false
 
 abbrev pub failed_read_event : DeviceCallEvent
-failed_read_event = device_call_event_with_blocks (Read 1 0 2) two_blocks_after_program two_blocks_after_program true
+failed_read_event = device_call_event_with_blocks (Read 1 0 2) example_blocks_after_program example_blocks_after_program true
 
 -- after the erase, after the program, and after the read
 abbrev pub history_after_erase : List DeviceCallEvent
@@ -33,7 +33,7 @@ history_after_read = failed_read_event ∷ program_event ∷ erase_event ∷ []
 
 -- calls that don't conform: a program that left nothing, and an erase of another block
 abbrev pub program_event_without_effect : DeviceCallEvent
-program_event_without_effect = device_call_event_with_blocks (Program 0 0 (9 ∷ 9 ∷ [])) two_blocks_after_erase two_blocks_after_erase false
+program_event_without_effect = device_call_event_with_blocks (Program 0 0 (9 ∷ 9 ∷ [])) example_blocks_after_erase example_blocks_after_erase false
 
 abbrev pub erase_event_of_other_block : DeviceCallEvent
-erase_event_of_other_block = device_call_event_with_blocks (Erase 1) two_blocks_before_erase two_blocks_after_erase false
+erase_event_of_other_block = device_call_event_with_blocks (Erase 1) example_blocks_before_erase example_blocks_after_erase false

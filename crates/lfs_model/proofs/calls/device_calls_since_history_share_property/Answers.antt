@@ -1,6 +1,6 @@
 use Rattle.std.proofs.Common.{◌≡◌, false, [], ◌∷◌, refl, sym, ◌∙◌, subst, append-nil}
 use Rattle.lfs_model.specs.History.{IsTrueOfEachCall, IsReadThatKeepsBlocks}
-use Rattle.lfs_model.specs.examples.Histories.{two_blocks_after_program, program_event, failed_read_event, history_after_erase, history_after_program}
+use Rattle.lfs_model.specs.examples.Histories.{example_blocks_after_program, program_event, failed_read_event, history_after_erase, history_after_program}
 use Rattle.std.proofs.lemmas.List.{append_cancel_right}
 use Rattle.lfs_model.proofs.calls.device_calls_since_history_share_property.Goals as goal
 
@@ -15,6 +15,6 @@ returns-clause-only_read c = record { events = failed_read_event ∷ []; extends
 
 pub returns-clause-not_only : goal.returns-clause-not_only
 returns-clause-not_only c = λ h. absurd (
-    let k = subst (IsTrueOfEachCall (IsReadThatKeepsBlocks two_blocks_after_program)) (append_cancel_right h.events (failed_read_event ∷ program_event ∷ []) history_after_erase (sym h.extends)) h.each in
+    let k = subst (IsTrueOfEachCall (IsReadThatKeepsBlocks example_blocks_after_program)) (append_cancel_right h.events (failed_read_event ∷ program_event ∷ []) history_after_erase (sym h.extends)) h.each in
     let e = k.1.0.reads in
     cc)

@@ -3,7 +3,7 @@ use Rattle.lfs_model.specs.Blocks.{Blocks, block_bytes_by_number}
 use Rattle.lfs_model.specs.History.{Erase, device_call_event_with_blocks}
 use Rattle.lfs_model.specs.Crc.{crc_of, next_bits}
 use Rattle.lfs_model.specs.Log.{BlockLog, chain_of, chain_within, commit_within, entry_at, closes}
-use Rattle.lfs_model.specs.Stops.{AreBlocksLeftByPowerLossInCall, IsBlockLeftByStoppedEraseCall}
+use Rattle.lfs_model.specs.Stops.{AreBlocksLeftByPowerLossInCall, MayStoppedEraseLeaveBlock}
 use Rattle.lfs_model.specs.BlockBytes.{unwritten_storage_bytes, bytes_padded_to_block_size}
 use Rattle.lfs_model.specs.examples.Images.{fresh_block_of_small_image, fresh_commit_of_small_image, commit_that_appends_file}
 use Rattle.lfs_model.proofs.stops.stopped_erase_leaves_no_other_log.Goals as goal
@@ -12,7 +12,7 @@ abbrev commits_in : Option BlockLog → ℕ
 commits_in None = 0
 commits_in (Some log) = length log.commits
 
-never : IsBlockLeftByStoppedEraseCall fresh_block_of_small_image (bytes_padded_to_block_size 1024 (fresh_commit_of_small_image ++ commit_that_appends_file)) → ⊥
+never : MayStoppedEraseLeaveBlock fresh_block_of_small_image (bytes_padded_to_block_size 1024 (fresh_commit_of_small_image ++ commit_that_appends_file)) → ⊥
 unfolding chain_of chain_within commit_within entry_at closes crc_of next_bits
 never (inl same) = let counts : 2 + 0 ≡ 1 + 0 = ap commits_in same in omega arith
 never (inr none) = let counts : 2 + 0 ≡ 0 + 0 = ap commits_in none in omega arith

@@ -6,7 +6,7 @@ use Rattle.lfs_model.specs.Thread.{gstate_of_pairs}
 use Rattle.lfs_thread.specs.Kept.{disk_of_device}
 use Rattle.lfs_mount.specs.DirectoryView.{directory_graph_view}
 use Rattle.lfs_mount.specs.Directories.{IsGraphOfThreadDirectories}
-use Rattle.lfs_mount.specs.declared.pass.DirectoryPair.{DirectoryPair}
+use Rattle.lfs_mount.specs.declared.pass.PairBeforeSlotsAreRead.{PairBeforeSlotsAreRead}
 use Rattle.lfs_mount.specs.declared.reachability.Directory.{Directory}
 use Rattle.lfs_mount.proofs.Called.{same_error}
 use Rattle.lfs_mount.proofs.Ending.{known_drawn, checked_accepted, checked_blocks, checked_moved, accepted_right}
@@ -23,7 +23,7 @@ returns-in_err-directories-clause-corrupt g c = λ is order chain p rest known a
 
 pub scan_pairs_and_mark_lists-requires : goal.scan_pairs_and_mark_lists-requires
 scan_pairs_and_mark_lists-requires g c =
-    subst (λ n. All (λ (m : DirectoryPair). m.active < n) c.args.members.now) (g.met.D.BlockDevice.shape c.args.device.now).count
+    subst (λ n. All (λ (m : PairBeforeSlotsAreRead). m.active < n) c.args.members.now) (g.met.D.BlockDevice.shape c.args.device.now).count
     (members_within (disk_of_device g.D.BlockDevice c.args.device.now) (gstate_of_pairs (c.requires.0 ++ c.requires.1 ∷ c.requires.2)) true (c.requires.1 ∷ c.requires.2) c.args.members.now c.requires.3.described)
 
 pub name_orders_that_make_directories_a_tree-requires-clause-some : goal.name_orders_that_make_directories_a_tree-requires-clause-some

@@ -21,12 +21,12 @@ use Rattle.lfs_mount.specs.Marking.{MarksFreeBlocksOfLists, file_lists_of_raw_sl
 use Rattle.lfs_mount.specs.Scanned.{directory_scan_after_slots}
 use Rattle.lfs_mount.specs.Taken.{AddsPairToDirectoryScan, slots_after_superblock, entries_of_described_pair}
 use Rattle.lfs_mount.specs.Reaching.{DirectoryVertexWithSoundnessAndBranches}
-use Rattle.lfs_mount.specs.declared.pass.DirectoryPair.{DirectoryPair}
+use Rattle.lfs_mount.specs.declared.pass.PairBeforeSlotsAreRead.{PairBeforeSlotsAreRead}
 use Rattle.lfs_mount.proofs.Called.{read_on, same_error}
 use Rattle.lfs_mount.proofs.pass.scan_pair_and_mark_lists.Goals as goal
 
 -- the lists are those of the slots that are kept
-lists_taken : (disk : Disk) (firsts : List (ℕ × ℕ)) (member : DirectoryPair) (known new : Name × DirectoryVertexWithSoundnessAndBranches) (sets marked : BlockStateList) (held : RawPairContent) (entries : List RawSlot)
+lists_taken : (disk : Disk) (firsts : List (ℕ × ℕ)) (member : PairBeforeSlotsAreRead) (known new : Name × DirectoryVertexWithSoundnessAndBranches) (sets marked : BlockStateList) (held : RawPairContent) (entries : List RawSlot)
     → content_after_log_entries empty_raw_pair_content (log_entries_of_block (block_bytes_on_disk disk member.active)) ≡ Some held → entries_of_described_pair member held.slots ≡ Some entries → AddsPairToDirectoryScan disk firsts member known sets new marked
     → MarksFreeBlocksOfLists disk sets (file_lists_of_raw_slots entries) marked
 lists_taken disk firsts member known new sets marked held entries content kept t =

@@ -12,7 +12,7 @@ use Rattle.lfs_mount.specs.DirectoryView.{directory_vertex_view, directory_graph
 use Rattle.lfs_mount.specs.KnownView.{directory_scan_view}
 use Rattle.lfs_mount.specs.Reaching.{DirectoryVertexWithSoundnessAndBranches, DirectoryGraph}
 use Rattle.lfs_mount.specs.Taken.{AddsPairToDirectoryScan}
-use Rattle.lfs_mount.specs.declared.pass.DirectoryPair.{DirectoryPair}
+use Rattle.lfs_mount.specs.declared.pass.PairBeforeSlotsAreRead.{PairBeforeSlotsAreRead}
 use Rattle.lfs_mount.proofs.Called.{same_error, not_read, read_on, quiet, passed_on}
 use Rattle.lfs_mount.proofs.ReadCounts.{pairs_more}
 use Rattle.lfs_mount.proofs.Passing.{IsUnderWay, begun, all_taken, taken_hard, taken_soft, not_taken_at}
@@ -20,7 +20,7 @@ use Rattle.lfs_mount.proofs.pass.scan_pairs_and_mark_lists.Goals as goal
 use Rattle.lfs_mount.proofs.pass.scan_pairs_and_mark_lists.Goals.{then-not-member+in_ok-push, else-not-member}
 
 -- what stands past the end of a list of members
-abbrev none : DirectoryPair
+abbrev none : PairBeforeSlotsAreRead
 none = record { active = 0; is_hard = false; has_superblock = false; moved = None }
 
 pub loop-member-init : goal.loop-member-init

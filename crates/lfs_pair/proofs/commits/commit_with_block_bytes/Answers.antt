@@ -14,7 +14,7 @@ use Rattle.lfs_tag.specs.ContentView.{content_view}
 use Rattle.lfs_pair.specs.Pair.{pair_address_in_header}
 use Rattle.lfs_pair.specs.ChangeView.{changes_view}
 use Rattle.lfs_pair.specs.Writing.{ChangesOnlyBlocksWithinReadLimit}
-use Rattle.lfs_pair.specs.Commit.{KeepsFirstEntryOfPairLog, IsCompacted, PairHasContent, PowerLossLeavesOldOrNewContent}
+use Rattle.lfs_pair.specs.Commit.{KeepsFirstEntryOfPairLog, IsPairRewrittenInOtherBlock, PairHasContent, PowerLossLeavesOldOrNewContent}
 use Rattle.lfs_pair.proofs.Changed.{ends_here, left_by_change, made_here}
 use Rattle.lfs_pair.proofs.commits.commit_with_block_bytes.Goals as goal
 use Rattle.lfs_model.specs.Thread.{blocks_of_pair_address}
@@ -81,9 +81,9 @@ returns-clause-done g c done =
     (c.in_ok-append_changes_to_log.ensures.no_room (ap Ok c.if-branch.false)).pair c.in_ok-compact.ensures.done.first in
     let first = subst (λ d. KeepsFirstEntryOfPairLog (disk_of_geometry_and_blocks (g.D.BlockDevice.geometry d) (g.D.BlockDevice.blocks d)) (pair_address_in_header c.args.pair.now) (Some (content_view c.in_ok-content.content)) (disk_of_geometry_and_blocks (g.D.BlockDevice.geometry c.compact.new.dev) (g.D.BlockDevice.blocks c.compact.new.dev)))
     (c.in_ok-append_changes_to_log.ensures.no_room (ap Ok c.if-branch.false)).device moved in
-    let anew = subst (λ p. IsCompacted (g.D.BlockDevice.geometry c.append_changes_to_log.new.dev).page p (content_view c.in_ok-content.content) (g.D.BlockDevice.blocks c.append_changes_to_log.new.dev) (g.D.BlockDevice.blocks c.compact.new.dev)
+    let anew = subst (λ p. IsPairRewrittenInOtherBlock (g.D.BlockDevice.geometry c.append_changes_to_log.new.dev).page p (content_view c.in_ok-content.content) (g.D.BlockDevice.blocks c.append_changes_to_log.new.dev) (g.D.BlockDevice.blocks c.compact.new.dev)
     (g.D.BlockDevice.history c.append_changes_to_log.new.dev) (g.D.BlockDevice.history c.compact.new.dev) c.compact.new.pair) (c.in_ok-append_changes_to_log.ensures.no_room (ap Ok c.if-branch.false)).pair c.in_ok-compact.ensures.done.compacted in
-    let back = subst (λ d. IsCompacted (g.D.BlockDevice.geometry d).page c.args.pair.now (content_view c.in_ok-content.content) (g.D.BlockDevice.blocks d) (g.D.BlockDevice.blocks c.compact.new.dev)
+    let back = subst (λ d. IsPairRewrittenInOtherBlock (g.D.BlockDevice.geometry d).page c.args.pair.now (content_view c.in_ok-content.content) (g.D.BlockDevice.blocks d) (g.D.BlockDevice.blocks c.compact.new.dev)
     (g.D.BlockDevice.history d) (g.D.BlockDevice.history c.compact.new.dev) c.compact.new.pair) (c.in_ok-append_changes_to_log.ensures.no_room (ap Ok c.if-branch.false)).device anew in
     record {
       new = content_view c.in_ok-content.content;

@@ -1,11 +1,11 @@
 use Rattle.std.proofs.Common.{refl, subst}
 use Rattle.std.specs.Prelude.{IfSome}
 use Rattle.lfs_lookup.proofs.Reading.{answers, begun}
-use Rattle.lfs_tree.specs.RenamePaths.{AreRenameTargets}
+use Rattle.lfs_tree.specs.RenamePaths.{AreLookupResultsAtBothRenamePaths}
 use Rattle.lfs_tree.proofs.rename_paths.given_or_looked_up_rename_targets.Goals as goal
 
 pub returns-in-Some-clause-targets : goal.returns-in-Some-clause-targets
-returns-in-Some-clause-targets g c = subst (λ o. IfSome o (AreRenameTargets c.args.thread.now.kept c.args.from.now c.args.to.now)) c.in-Some.is c.requires.known
+returns-in-Some-clause-targets g c = subst (λ o. IfSome o (AreLookupResultsAtBothRenamePaths c.args.thread.now.kept c.args.from.now c.args.to.now)) c.in-Some.is c.requires.known
 
 pub returns-in-Some-clause-reading : goal.returns-in-Some-clause-reading
 returns-in-Some-clause-reading g c = answers _ _ _ _ refl (begun c.args.thread.now c.requires.rests.held.works)

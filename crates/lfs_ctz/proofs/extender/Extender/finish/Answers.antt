@@ -7,7 +7,7 @@ use Rattle.lfs_model.specs.SkipLists.{list_blocks_from_head, AreListBlocks, data
 use Rattle.lfs_ctz.specs.declared.extender.Extender.TheInside.{Inside}
 use Rattle.lfs_ctz.specs.declared.rest.RestLocation.TheVariants.{Closed, Shared, Handed, Held}
 use Rattle.lfs_ctz.specs.Fields.{growing_list_view}
-use Rattle.lfs_ctz.specs.Growing.{GrowingList, bytes_of_growing_list, blocks_of_growing_list, size_of_growing_list, unwritten_block_of_list, block_after_full_blocks, unwritten_block_after_full_blocks, are_last_bytes_only_in_buffer, HasGrowingListOnDisk}
+use Rattle.lfs_ctz.specs.Growing.{GrowingList, bytes_of_growing_list, blocks_of_growing_list, size_of_growing_list, unwritten_block_of_list, block_after_full_blocks, unwritten_block_after_full_blocks, have_last_bytes_no_block, HasGrowingListOnDisk}
 use Rattle.lfs_ctz.proofs.Geometries.{shaped}
 use Rattle.lfs_ctz.proofs.Rests.{IsCounted, counted}
 use Rattle.lfs_ctz.specs.Counts.{AddsOneEraseAndProgramPerBlock}
@@ -69,8 +69,8 @@ pub returns-clause-size : goal.returns-clause-size
 returns-clause-size g c = (counted c.self.inside c.args.self c.self.invariant c.self.view_is).sum
 
 -- contents that are in memory alone aren't ended
-never_held : (t : RestLocation) → are_last_bytes_only_in_buffer t ≡ false → t ≡ Held → ⊥
-never_held t listed is = let other : true ≡ false = subst (λ k. are_last_bytes_only_in_buffer k ≡ false) is listed in absurd (cc)
+never_held : (t : RestLocation) → have_last_bytes_no_block t ≡ false → t ≡ Held → ⊥
+never_held t listed is = let other : true ≡ false = subst (λ k. have_last_bytes_no_block k ≡ false) is listed in absurd (cc)
 
 pub returns-in-Held-clause-finished : goal.returns-in-Held-clause-finished
 returns-in-Held-clause-finished g c = absurd (never_held c.args.self.stand c.requires.listed (stood c.self.inside c.args.self Held c.self.view_is c.in-Held.is))

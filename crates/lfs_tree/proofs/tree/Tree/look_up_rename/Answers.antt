@@ -5,7 +5,7 @@ use Rattle.lfs_model.specs.History.{read_count_of_history}
 use Rattle.lfs_model.specs.Thread.{gstate_of_pairs}
 use Rattle.lfs_thread.specs.Kept.{ThreadView}
 use Rattle.lfs_tree.specs.RootedThreads.{IsSoundThreadWithRootAtPairNumber}
-use Rattle.lfs_tree.specs.RenamePaths.{AreRenameTargets, directories_searched_for_rename}
+use Rattle.lfs_tree.specs.RenamePaths.{AreLookupResultsAtBothRenamePaths, directories_searched_for_rename}
 use Rattle.lfs_tree.specs.TreeState.{TreeState}
 use Rattle.lfs_tree.proofs.Asking.{asking, held, rooted_held}
 use Rattle.lfs_tree.proofs.RenamePaths.{found_since}
@@ -26,7 +26,7 @@ returns-clause-asks g c =
 
 pub returns-clause-targets : goal.returns-clause-targets
 returns-clause-targets g c =
-    subst (λ (t : ThreadView). IfOk c.look_up_both_rename_paths-found.result (λ found. IfSome found.targets (AreRenameTargets t.kept c.args.from.now c.args.to.now))) (sym c.mark_thread_failed_on_error.ensures)
+    subst (λ (t : ThreadView). IfOk c.look_up_both_rename_paths-found.result (λ found. IfSome found.targets (AreLookupResultsAtBothRenamePaths t.kept c.args.from.now c.args.to.now))) (sym c.mark_thread_failed_on_error.ensures)
     (found_since c.self.inside.thread.kept c.look_up_both_rename_paths-found.new.thread.kept c.args.from.now c.args.to.now c.look_up_both_rename_paths-found.result c.look_up_both_rename_paths-found.ensures.reading.only c.look_up_both_rename_paths-found.ensures.targets)
 
 pub returns-clause-handed_on : goal.returns-clause-handed_on

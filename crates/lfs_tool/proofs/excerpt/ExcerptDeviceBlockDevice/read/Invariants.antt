@@ -2,7 +2,7 @@ use Rattle.std.proofs.Common.{◌∷◌, false}
 use Rattle.lfs_model.specs.History.{device_call_event_with_blocks}
 use Rattle.lfs_model.specs.History.DeviceCall.{Read}
 use Rattle.lfs_tool.specs.ExcerptView.{excerpt_blocks}
-use Rattle.lfs_tool.proofs.excerpt.ExcerptBlockDevice.read.Given as goal
+use Rattle.lfs_tool.proofs.excerpt.ExcerptDeviceBlockDevice.read.Given as goal
 
 abbrev pub ghost-with_history_chosen_by_proof : goal.ghost-with_history_chosen_by_proof
 ghost-with_history_chosen_by_proof a =

@@ -1,7 +1,7 @@
 use Rattle.std.proofs.Common.{Bool, ◌≡◌, ◌++◌, drop, subst, true}
 use Rattle.lfs_mount.specs.Members.{directory_addresses_in_headers}
 use Rattle.lfs_mount.proofs.Begins.{next_apart}
-use Rattle.lfs_mount.proofs.members.directory_addresses_of_pairs.Goals as goal
+use Rattle.lfs_mount.proofs.members.first_pair_addresses_of_all_directories.Goals as goal
 
 pub add-requires : goal.add-requires
 add-requires c =

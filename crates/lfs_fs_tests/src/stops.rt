@@ -184,7 +184,12 @@ fn count_survived_in_recovery(
 fn count_survived_in_rename(alloc: Global, device: &RamDevice) -> Result<Option<u64>, Error> {
     let calls = count_survived_calls(alloc, device, Erased::Fill(0xff), &RENAMING)?;
     for nth in 1..calls.unwrap_or(0) {
-        for copy in device_copies_with_stop_planned_at_call(alloc, device, Erased::Fill(0xff), nth)? {
+        for copy in device_copies_with_stop_planned_at_call(
+            alloc,
+            device,
+            Erased::Fill(0xff),
+            nth,
+        )? {
             let (done, left) = run_operations_until_stop(alloc, copy, RENAMING.rows)?;
             if count_survived_in_recovery(alloc, &left, &RENAMING, done)?.is_none() {
                 return Ok(None);

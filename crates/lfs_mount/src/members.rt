@@ -27,7 +27,11 @@ fn moved_slot_id_at(state: &MoveState, at: [u32; 2]) -> Option<u32>
     }
 }
 
-fn make_directory_pair_from_header(state: &MoveState, is_first: bool, pair: &Pair) -> PairBeforeSlotsAreRead
+fn make_directory_pair_from_header(
+    state: &MoveState,
+    is_first: bool,
+    pair: &Pair,
+) -> PairBeforeSlotsAreRead
     ensures { result ≡ pair_description_of_header (move_view state.now) is_first pair.now }
 {
     PairBeforeSlotsAreRead {

@@ -167,7 +167,10 @@ fn arg_of_explain_option<'a>(alloc: Global) -> Arg<'a>
         .help("Say why behind the line of an error")
 }
 
-fn add_explain_option_to_command<'a>(alloc: Global, command: Command<'a>) -> Result<Command<'a>, AllocError>
+fn add_explain_option_to_command<'a>(
+    alloc: Global,
+    command: Command<'a>,
+) -> Result<Command<'a>, AllocError>
     ensures { IfOk result (λ c. app_of c ≡ with_rule (app_of command.entry) rule_of_explain_option) }
 {
     command.arg(arg_of_explain_option(alloc))
@@ -184,7 +187,10 @@ fn image_arg<'a>(alloc: Global) -> Arg<'a>
         .help("The file with the image, or - for standard input or output")
 }
 
-fn add_image_argument_to_command<'a>(alloc: Global, command: Command<'a>) -> Result<Command<'a>, AllocError>
+fn add_image_argument_to_command<'a>(
+    alloc: Global,
+    command: Command<'a>,
+) -> Result<Command<'a>, AllocError>
     ensures { IfOk result (λ c. app_of c ≡ with_rule (app_of command.entry) rule_of_image_argument) }
 {
     command.arg(image_arg(alloc))

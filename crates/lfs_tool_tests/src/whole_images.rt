@@ -1,6 +1,6 @@
 // Images that are written whole or not at all.
 
-use crate::disk::{MemoryFileSystem, DiskFiles, DiskHabit, PathKind};
+use crate::disk::{DiskFiles, DiskHabit, MemoryFileSystem, PathKind};
 use lfs_tool_folders::NewImage;
 use std::alloc::Global;
 use std::io;

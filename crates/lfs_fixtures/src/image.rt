@@ -68,7 +68,7 @@ fn block_with_superblock_commit(
 }
 
 /// Makes a block with the superblock in its first commit, and these commits after it.
-pub fn block_with_superblock_and_commits(
+pub fn beginning_of_block_with_superblock_and_commits(
     alloc: Global,
     revision: u32,
     commits: &[FixtureEntries<'_>],

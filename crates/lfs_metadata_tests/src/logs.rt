@@ -79,7 +79,7 @@ fn commit_chains_are_read(rt: HostRuntime) -> Result<(), Fail> {
     Ok(())
 }
 
-fn next_tag_from_either_end(entries: &mut Entries<'_>, is_last: bool) -> u32 {
+fn tag_of_next_or_last_entry(entries: &mut Entries<'_>, is_last: bool) -> u32 {
     let entry = if is_last {
         entries.next_back()
     } else {
@@ -107,7 +107,7 @@ fn log_entries_are_same_from_either_end(rt: HostRuntime) -> Result<(), Fail> {
         (false, 0x2010_0018),
         (true, 0x4ff0_0400),
     ] {
-        assert_eq!(rt; next_tag_from_either_end(&mut entries, is_last), tag);
+        assert_eq!(rt; tag_of_next_or_last_entry(&mut entries, is_last), tag);
     }
     let mut left = 0u32;
     for _ in entries {

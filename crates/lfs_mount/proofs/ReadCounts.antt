@@ -14,7 +14,7 @@ use Rattle.lfs_mount.specs.ListsView.{file_lists_view}
 use Rattle.lfs_mount.specs.Marking.{MarksFreeBlocksUsed, file_lists_of_raw_slots}
 use Rattle.lfs_mount.specs.Reaching.{DirectoryVertexWithSoundnessAndBranches}
 use Rattle.lfs_mount.specs.Reads.{list_read_count, file_lists_of_described_pair, pair_read_count}
-use Rattle.lfs_mount.specs.Taken.{AddsPairToDirectoryScan, entries_of_described_pair}
+use Rattle.lfs_mount.specs.Taken.{AddsPairToDirectoryScan, slots_of_pair_without_superblock_and_moved}
 use Rattle.lfs_mount.specs.declared.pass.PairBeforeSlotsAreRead.{PairBeforeSlotsAreRead}
 use Rattle.lfs_mount.proofs.MarkedLists.{list_view, lists_next}
 
@@ -40,7 +40,7 @@ reads_more block_size slots i s l e f =
 pub takes_lists : (disk : Disk) (firsts : List (ℕ × ℕ)) (member : PairBeforeSlotsAreRead) (known new : Name × DirectoryVertexWithSoundnessAndBranches) (sets marked : BlockStateList) → (t : AddsPairToDirectoryScan disk firsts member known sets new marked)
     → file_lists_of_described_pair disk member ≡ file_lists_of_raw_slots t.entries
 takes_lists disk firsts member known new sets marked t =
-    ap (λ (o : Option RawPairContent). option_map_or file_lists_of_raw_slots (option_and_then (λ c. entries_of_described_pair member c.slots) o) []) t.content ∙ ap (λ o. option_map_or file_lists_of_raw_slots o []) t.kept
+    ap (λ (o : Option RawPairContent). option_map_or file_lists_of_raw_slots (option_and_then (λ c. slots_of_pair_without_superblock_and_moved member c.slots) o) []) t.content ∙ ap (λ o. option_map_or file_lists_of_raw_slots o []) t.kept
 
 pub pairs_more : (disk : Disk) (members : List PairBeforeSlotsAreRead) (i : ℕ) (d : PairBeforeSlotsAreRead) → i < length members
     → sum_by (pair_read_count disk) (take (i + 1) members) ≡ sum_by (pair_read_count disk) (take i members) + pair_read_count disk (get_or members i d)

@@ -20,7 +20,7 @@ use Rattle.lfs_mount.specs.Reaching.{DirectoryVertexWithSoundnessAndBranches, Di
 use Rattle.lfs_mount.specs.Entries.{EntryNameAndReference, name_and_reference_of_slot, directory_entry_of_raw_slot, directory_scan_with_entries, directory_scan_with_entry, empty_directory_scan}
 use Rattle.lfs_mount.specs.Scanned.{directory_scan_after_slots}
 use Rattle.lfs_mount.specs.Marking.{MarksFreeBlocksOfLists, skip_list_of_entry, file_lists_of_raw_slots}
-use Rattle.lfs_mount.specs.Taken.{AddsPairToDirectoryScan, raw_slots_not_moved, slots_after_superblock, entries_of_described_pair}
+use Rattle.lfs_mount.specs.Taken.{AddsPairToDirectoryScan, raw_slots_not_moved, slots_after_superblock, slots_of_pair_without_superblock_and_moved}
 use Rattle.lfs_mount.specs.Described.{IsDescriptionOfPairOnDisk, AreDescriptionsOfPairsOnDisk}
 use Rattle.lfs_mount.specs.Passed.{directory_scan_kept_only_after_hard_tail, graph_with_ended_directory, ScansPairsIntoDirectoryGraph}
 use Rattle.lfs_mount.specs.declared.pass.PairBeforeSlotsAreRead.{PairBeforeSlotsAreRead}
@@ -155,7 +155,7 @@ pub record IsTaken (disk : Disk) (firsts : List (ℕ × ℕ)) (g : Gstate) (firs
   pub lists : MarksFreeBlocksOfLists disk sets (lists_of (entries_not_moved g p)) marked
   pub moved : IsMovedEntry (id_of_moved_slot_in_pair g p) p.content.slots
 
-pub kept_parts : (m : PairBeforeSlotsAreRead) (raws kept : List RawSlot) → entries_of_described_pair m raws ≡ Some kept → (mid : List RawSlot) × ((raw_slots_not_moved m.moved raws ≡ Some mid) × (slots_after_superblock m.has_superblock mid ≡ Some kept))
+pub kept_parts : (m : PairBeforeSlotsAreRead) (raws kept : List RawSlot) → slots_of_pair_without_superblock_and_moved m raws ≡ Some kept → (mid : List RawSlot) × ((raw_slots_not_moved m.moved raws ≡ Some mid) × (slots_after_superblock m.has_superblock mid ≡ Some kept))
 kept_parts m raws kept e = go (raw_slots_not_moved m.moved raws) refl e
   where
     go : (o : Option (List RawSlot)) → raw_slots_not_moved m.moved raws ≡ o → option_and_then (slots_after_superblock m.has_superblock) o ≡ Some kept

@@ -10,7 +10,7 @@ use Rattle.lfs_model.specs.Thread.{Pair}
 use Rattle.lfs_model.specs.Log.{log_entries_of_block}
 use Rattle.lfs_thread.specs.Reading.{read_count_of_thread_headers}
 use Rattle.lfs_mount.specs.Marking.{file_lists_of_raw_slots}
-use Rattle.lfs_mount.specs.Taken.{entries_of_described_pair}
+use Rattle.lfs_mount.specs.Taken.{slots_of_pair_without_superblock_and_moved}
 use Rattle.lfs_mount.specs.declared.pass.PairBeforeSlotsAreRead.{PairBeforeSlotsAreRead}
 
 -- the reads of a list: one for each block
@@ -19,7 +19,7 @@ list_read_count block_size l = list_block_count_for_size block_size l.1
 
 -- the head and the size of each list in a pair
 abbrev pub file_lists_of_described_pair : Disk → PairBeforeSlotsAreRead → List (ℕ × ℕ)
-file_lists_of_described_pair disk member = option_map_or file_lists_of_raw_slots (option_and_then (λ c. entries_of_described_pair member c.slots) (content_after_log_entries empty_raw_pair_content (log_entries_of_block (block_bytes_on_disk disk member.active)))) []
+file_lists_of_described_pair disk member = option_map_or file_lists_of_raw_slots (option_and_then (λ c. slots_of_pair_without_superblock_and_moved member c.slots) (content_after_log_entries empty_raw_pair_content (log_entries_of_block (block_bytes_on_disk disk member.active)))) []
 
 -- the reads of a pair: one, and those of its lists
 abbrev pub pair_read_count : Disk → PairBeforeSlotsAreRead → ℕ

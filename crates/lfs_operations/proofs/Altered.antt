@@ -16,7 +16,7 @@ use Rattle.lfs_model.proofs.Pairs.{pair_itself}
 use Rattle.lfs_model.proofs.Searches.{avoids_behind, avoids_front}
 use Rattle.lfs_model.proofs.Splices.{slots_of_pairs_in_order}
 use Rattle.lfs_model.proofs.Sites.{IsTrueOfSomeElement, Site, among_parts, thread_at}
-use Rattle.lfs_operations.specs.Changing.{IsPairAltered}
+use Rattle.lfs_operations.specs.Changing.{IsPairNotKeptUnchanged}
 use Rattle.lfs_operations.specs.Dropping.{IsNextPairDropped, content_after_next_pair_drop}
 use Rattle.lfs_operations.proofs.DroppedTails.{TwoAt, front_is, gone_is, over_next, two_at, without_is}
 use Rattle.lfs_thread.specs.Kept.{KeptThread}
@@ -100,10 +100,10 @@ module _ (disk new : Disk) (w : Site) (p q : Pair) (fresh : List ℕ) (l olds ne
 
 -- ---- a pair takes over the tail of the one behind it
 
-pub drop_alters : (t : KeptThread) (front : ℕ) (state : Gstate) (new : KeptThread) → front + 1 < length t.pairs → IsAcceptedImage t.disk t.pairs → IsNextPairDropped t front state new → IsPairAltered t front new
+pub drop_alters : (t : KeptThread) (front : ℕ) (state : Gstate) (new : KeptThread) → front + 1 < length t.pairs → IsAcceptedImage t.disk t.pairs → IsNextPairDropped t front state new → IsPairNotKeptUnchanged t front new
 drop_alters t front state new low ok d = go (two_at t.pairs front low)
   where
-    go : TwoAt t.pairs front → IsPairAltered t front new
+    go : TwoAt t.pairs front → IsPairNotKeptUnchanged t front new
     go two has =
         let p = two.one in
         let o = two.other in

@@ -20,7 +20,7 @@ use Rattle.lfs_model.proofs.TwoPlaces.{two}
 use Rattle.lfs_thread.specs.Kept.{KeptThread}
 use Rattle.lfs_thread.specs.Steps.{thread_pair_at_index}
 use Rattle.lfs_operations.specs.Altering.{IsBlockOfAlteredPair}
-use Rattle.lfs_operations.specs.Changing.{IsPairAltered}
+use Rattle.lfs_operations.specs.Changing.{IsPairNotKeptUnchanged}
 use Rattle.lfs_operations.specs.MoveEnds.{HasEndedMoveAt, pair_written_at_move_end, gstate_naming_moved_slot}
 use Rattle.lfs_operations.specs.MovingSteps.{CanEndMoveAfterFirstCommit, pair_written_by_second_move_commit, pair_number_after_insertion}
 use Rattle.lfs_operations.specs.Removing.{is_pair_dropped_with_slot}
@@ -70,7 +70,7 @@ module _ (t : KeptThread) (sync : Bool) (old_pair : ℕ) (goes : Bool) (new_pair
   there = subst (IsTrueOfSomeElement (λ y. y ≡ p)) (sym k.turn.there) (among_right (λ y. y ≡ p) w.chain (dirs_at w (p ∷ [])) (among_right (λ y. y ≡ p) (w.before ++ w.left) (p ∷ (w.right ++ w.after)) (inl refl)))
 
   -- it has one slot more, or is cut
-  pub moved_alters : IsPairAltered t new_pair last
+  pub moved_alters : IsPairNotKeptUnchanged t new_pair last
   moved_alters has = entered_alters t last t.disk p (pair_with_slots (l ++ v ∷ r) p) x.q x.more place.before place.behind l r v k.ready.accepted
       (last_taken t sync old_pair goes new_pair changes wo o lo u ro w p l None v r old_path new_path name k mid x last e).follows.accepted
       (subst (λ z. ArePairsWithSameAddressesAndSlots z last.pairs) (ap (λ z. w.chain ++ z) (sym (a.cut left.os)) ∙ place.is) left.alike)
@@ -81,7 +81,7 @@ module _ (t : KeptThread) (sync : Bool) (old_pair : ℕ) (goes : Bool) (new_pair
 
 -- the old one is gone
 pub ended_alters : (t mid m new : KeptThread) (old_pair old_id new_pair : ℕ) → 0 < old_pair → old_pair < length t.pairs → IsAcceptedImage t.disk t.pairs → CanEndMoveAfterFirstCommit t old_pair old_id true new_pair mid
-    → HasEndedMoveAt mid (pair_number_after_insertion old_pair new_pair (length mid.pairs - length t.pairs)) old_id true m → IsAcceptedImage new.disk new.pairs → ((b : ℕ) → occurrence_count_of_number b (used_blocks new.disk new.pairs) ≤ occurrence_count_of_number b (used_blocks m.disk m.pairs)) → IsPairAltered t (old_pair - 1) new
+    → HasEndedMoveAt mid (pair_number_after_insertion old_pair new_pair (length mid.pairs - length t.pairs)) old_id true m → IsAcceptedImage new.disk new.pairs → ((b : ℕ) → occurrence_count_of_number b (used_blocks new.disk new.pairs) ≤ occurrence_count_of_number b (used_blocks m.disk m.pairs)) → IsPairNotKeptUnchanged t (old_pair - 1) new
 ended_alters t mid m new old_pair old_id new_pair some low ok ends ended now fewer =
     let b = (thread_pair_at_index t old_pair).at.0 in
     let e = ended.blocks b in
@@ -97,7 +97,7 @@ ended_alters t mid m new old_pair old_id new_pair some low ok ends ended now few
 abbrev pub IsKnown : KeptThread → KeptThread → List ℕ → ℕ → Type 0
 IsKnown t new bs b = Contains bs b ⊎ (IsBlockOfAlteredPair t new b ⊎ IsBlockFree t.map b)
 
-pub front_altered : (t new : KeptThread) (old_pair first : ℕ) → old_pair < length t.pairs → (is_pair_dropped_with_slot t old_pair first ≡ true → IsPairAltered t (old_pair - 1) new) → (bs : List ℕ) → ((b : ℕ) → Contains (blocks_of_pair_address (thread_pair_at_index t old_pair).at) b → Contains bs b)
+pub front_altered : (t new : KeptThread) (old_pair first : ℕ) → old_pair < length t.pairs → (is_pair_dropped_with_slot t old_pair first ≡ true → IsPairNotKeptUnchanged t (old_pair - 1) new) → (bs : List ℕ) → ((b : ℕ) → Contains (blocks_of_pair_address (thread_pair_at_index t old_pair).at) b → Contains bs b)
     → (b : ℕ) → Contains (blocks_of_pair_address (thread_pair_at_index t (pair_written_by_second_move_commit t old_pair first)).at) b → IsKnown t new bs b
 front_altered t new old_pair first low alters bs within b = go (is_pair_dropped_with_slot t old_pair first) refl
   where
@@ -111,7 +111,7 @@ each_known t new bs at rest own behind = (own at.0 (Contains-head at.0 (at.1 ∷
 pub free_known : (t new : KeptThread) (bs fresh : List ℕ) → AllByRecursion (IsBlockFree t.map) fresh → Each (IsKnown t new bs) fresh
 free_known t new bs fresh free = each_weaker (IsBlockFree t.map) (IsKnown t new bs) (λ b f. inr (inr f)) fresh free
 
-pub two_altered : (t new : KeptThread) (bs : List ℕ) (old_pair first new_pair : ℕ) → old_pair < length t.pairs → (is_pair_dropped_with_slot t old_pair first ≡ true → IsPairAltered t (old_pair - 1) new) → ((b : ℕ) → Contains (blocks_of_pair_address (thread_pair_at_index t old_pair).at) b → Contains bs b)
+pub two_altered : (t new : KeptThread) (bs : List ℕ) (old_pair first new_pair : ℕ) → old_pair < length t.pairs → (is_pair_dropped_with_slot t old_pair first ≡ true → IsPairNotKeptUnchanged t (old_pair - 1) new) → ((b : ℕ) → Contains (blocks_of_pair_address (thread_pair_at_index t old_pair).at) b → Contains bs b)
     → ((b : ℕ) → Contains (blocks_of_pair_address (thread_pair_at_index t new_pair).at) b → IsKnown t new bs b) → (fresh : List ℕ) → AllByRecursion (IsBlockFree t.map) fresh
     → Each (IsKnown t new bs) ((thread_pair_at_index t new_pair).at.0 ∷ (thread_pair_at_index t new_pair).at.1 ∷ (thread_pair_at_index t (pair_written_by_second_move_commit t old_pair first)).at.0 ∷ (thread_pair_at_index t (pair_written_by_second_move_commit t old_pair first)).at.1 ∷ fresh)
 two_altered t new bs old_pair first new_pair low alters within entered fresh free =

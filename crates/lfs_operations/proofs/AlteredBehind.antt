@@ -12,7 +12,7 @@ use Rattle.lfs_model.proofs.Became.{Became}
 use Rattle.lfs_model.proofs.Counts.{occurrence_count_of_number, count_append, count_here}
 use Rattle.lfs_model.proofs.Sites.{IsTrueOfSomeElement}
 use Rattle.lfs_model.proofs.Splices.{slots_of_pairs_in_order}
-use Rattle.lfs_operations.specs.Changing.{IsPairAltered}
+use Rattle.lfs_operations.specs.Changing.{IsPairNotKeptUnchanged}
 use Rattle.lfs_operations.proofs.Altered.{among_contains, links_behind, only_there}
 use Rattle.lfs_operations.proofs.DroppedTails.{TwoAt, front_is, gone_is, two_at}
 use Rattle.lfs_thread.specs.Kept.{KeptThread}
@@ -72,10 +72,10 @@ same_next (y ∷ ys) x o at links once (inr h) (inr k) n =
     same_next ys x o (pair_address_named_by_tail y.content.tail) links.1 (λ b. let l = once b in let c = count_append b (y.at.0 ∷ y.at.1 ∷ []) (blocks_of_pairs ys) in omega arith) h k n
 
 -- the pair behind it is gone
-pub gone_alters : (t new : KeptThread) (index : ℕ) → 0 < index → index < length t.pairs → IsAcceptedImage t.disk t.pairs → IsAcceptedImage new.disk new.pairs → occurrence_count_of_number (thread_pair_at_index t index).at.0 (blocks_of_pairs new.pairs) ≡ 0 → IsPairAltered t (index - 1) new
+pub gone_alters : (t new : KeptThread) (index : ℕ) → 0 < index → index < length t.pairs → IsAcceptedImage t.disk t.pairs → IsAcceptedImage new.disk new.pairs → occurrence_count_of_number (thread_pair_at_index t index).at.0 (blocks_of_pairs new.pairs) ≡ 0 → IsPairNotKeptUnchanged t (index - 1) new
 gone_alters t new index some low ok now none = go (two_at t.pairs (index - 1) (omega (arith, some, low)))
   where
-    go : TwoAt t.pairs (index - 1) → IsPairAltered t (index - 1) new
+    go : TwoAt t.pairs (index - 1) → IsPairNotKeptUnchanged t (index - 1) new
     go two has =
         let here = front_is t (index - 1) two.ahead two.one two.other two.back two.is two.number in
         let next = gone_is t (index - 1) two.ahead two.one two.other two.back two.is two.number in

@@ -4,7 +4,7 @@ use Rattle.lfs_model.specs.Slots.{Gstate, zero_gstate}
 use Rattle.lfs_model.specs.Thread.{AreLinkedByTails, Pair, anchor_pair_address, blocks_of_pairs, blocks_of_pair_address}
 use Rattle.lfs_model.proofs.Counts.{occurrence_count_of_number, count_here, once_from_distinct}
 use Rattle.lfs_model.proofs.Global.{sync_bit_delta}
-use Rattle.lfs_operations.specs.Changing.{IsPairAltered}
+use Rattle.lfs_operations.specs.Changing.{IsPairNotKeptUnchanged}
 use Rattle.lfs_operations.specs.Dropping.{CanDropPairAt, IsNextPairDropped, content_after_next_pair_drop}
 use Rattle.lfs_operations.specs.Removing.{is_pair_dropped_with_slot}
 use Rattle.lfs_operations.specs.Unlinking.{ArePairsBeforeDroppedPairsAltered, CanRemoveDirectory, IsDirectoryEntryUnlinked, pair_number_after_drop}
@@ -60,7 +60,7 @@ module _ (t : KeptThread) (index id first gone : ℕ) (take : CanRemoveDirectory
       same : (thread_pair_at_index m (gone - 1 + 1)).at ≡ (thread_pair_at_index t (gone - 1 + 1)).at
       same = at_there t m index id (gone - 1 + 1) u
 
-      front : IsPairAltered t (gone - 1) new
+      front : IsPairNotKeptUnchanged t (gone - 1) new
       front =
           let above = can.above in
           let low = take.below in
@@ -84,14 +84,14 @@ module _ (t : KeptThread) (index id first gone : ℕ) (take : CanRemoveDirectory
       low_now : pair_number_after_drop index gone - 1 + 1 < length m.pairs
       low_now = let a = then.above in let b = then.below in omega arith
 
-      entry : IsPairAltered t (index - 1) new
+      entry : IsPairNotKeptUnchanged t (index - 1) new
       entry =
           let at = (thread_pair_at_index t (index - 1 + 1)).at in
           let n = none_left t (index - 1) sync_bit_delta m low h (once_from_distinct (blocks_of_pairs t.pairs) take.can.ready.accepted.thread.distinct at.0) in
           let f = fewer_blocks m (pair_number_after_drop index gone - 1) zero_gstate new low_now d at.0 in
           tail_goes t new (index - 1) at (names_next t (index - 1) low links_are) d.thread.links (omega arith)
 
-      front : IsPairAltered t (gone - 1) new
+      front : IsPairNotKeptUnchanged t (gone - 1) new
       front =
           let above = above_gone t index id first gone take s in
           let below = take.below in

@@ -11,7 +11,7 @@ use Rattle.lfs_model.proofs.Counts.{occurrence_count_of_number, count_append}
 use Rattle.lfs_thread.specs.Kept.{KeptThread}
 use Rattle.lfs_thread.specs.Steps.{IsThreadOnlyRead, thread_pair_at_index}
 use Rattle.lfs_operations.specs.Altering.{ChangesOnlyGivenAlteredOrFreeBlocks}
-use Rattle.lfs_operations.specs.Changing.{IsPairAltered}
+use Rattle.lfs_operations.specs.Changing.{IsPairNotKeptUnchanged}
 use Rattle.lfs_operations.specs.MoveEnds.{HasEndedMoveAt}
 use Rattle.lfs_operations.specs.MovingSteps.{CanEndMoveAfterFirstCommit, IsSlotPutAndMoveEnded, WritesTwoPairsAndTwoFreeBlocks, pair_written_by_second_move_commit, pair_number_after_insertion}
 use Rattle.lfs_operations.specs.MovingAcross.{CanRenameAcrossPairs, rename_across_pairs_changes}
@@ -51,7 +51,7 @@ module _ (t mid : KeptThread) (only : IsThreadOnlyRead t mid) (old_pair old_id f
   new_low : new_pair < length t.pairs
   new_low = below t rename.old.ready rename.to_first new_pair rename.belongs.pair (rename.belongs.later ++ rename.belongs.rest) rename.belongs.place
 
-  front : is_pair_dropped_with_slot t old_pair first ≡ true → IsPairAltered t (old_pair - 1) new
+  front : is_pair_dropped_with_slot t old_pair first ≡ true → IsPairNotKeptUnchanged t (old_pair - 1) new
   front whole = ended_alters later done.mid new new old_pair old_id new_pair (can_drop_file t old_pair old_id first rename.old rename.begins_old whole).above old_low rename.old.ready.accepted
       (subst (λ b. CanEndMoveAfterFirstCommit later old_pair old_id b new_pair done.mid) whole (ends_across later old_pair old_id first new_pair new_id name (there t mid only old_pair old_id first new_pair new_id name rename address) address_there done.mid done.put))
       (subst (λ b. HasEndedMoveAt done.mid (pair_number_after_insertion old_pair new_pair (length done.mid.pairs - length later.pairs)) old_id b new) whole done.ended)
@@ -88,7 +88,7 @@ module _ (sync : Bool) (t mid : KeptThread) (only : IsThreadOnlyRead t mid) (old
   below_old : old_pair < length t.pairs
   below_old = below t rename.old.ready rename.old.first old_pair rename.old.stands.pair rename.old.stands.rest rename.old.stands.place
 
-  front_onto : (new : KeptThread) → IsAcceptedImage new.disk new.pairs → ((b : ℕ) → occurrence_count_of_number b (used_blocks new.disk new.pairs) ≤ occurrence_count_of_number b (used_blocks m.disk m.pairs)) → is_pair_dropped_with_slot t old_pair first ≡ true → IsPairAltered t (old_pair - 1) new
+  front_onto : (new : KeptThread) → IsAcceptedImage new.disk new.pairs → ((b : ℕ) → occurrence_count_of_number b (used_blocks new.disk new.pairs) ≤ occurrence_count_of_number b (used_blocks m.disk m.pairs)) → is_pair_dropped_with_slot t old_pair first ≡ true → IsPairNotKeptUnchanged t (old_pair - 1) new
   front_onto new now fewer whole = ended_alters later_u done_u.mid m new old_pair old_id new_pair (can_drop_file t old_pair old_id first rename.old rename.begins_old whole).above below_old rename.old.ready.accepted
       (subst (λ b. CanEndMoveAfterFirstCommit later_u old_pair old_id b new_pair done_u.mid) whole (ends_onto sync later_u old_pair old_id first new_pair new_id name (onto_there sync t mid only old_pair old_id first new_pair new_id name rename address) address_here done_u.mid done_u.put))
       (subst (λ b. HasEndedMoveAt done_u.mid (pair_number_after_insertion old_pair new_pair (length done_u.mid.pairs - length later_u.pairs)) old_id b m) whole done_u.ended) now fewer

@@ -15,7 +15,7 @@ use Rattle.lfs_model.proofs.Splices.{file_blocks_of_slots}
 use Rattle.lfs_thread.specs.Kept.{KeptThread}
 use Rattle.lfs_thread.specs.Steps.{ThreadChangesOnlyTheseBlocks, empty_pair_at_anchor, thread_pair_at_index}
 use Rattle.lfs_operations.specs.Altering.{ChangesOnlyGivenAlteredOrFreeBlocks}
-use Rattle.lfs_operations.specs.Changing.{IsPairAltered}
+use Rattle.lfs_operations.specs.Changing.{IsPairNotKeptUnchanged}
 use Rattle.lfs_operations.specs.Dropping.{IsNextPairDropped}
 use Rattle.lfs_operations.proofs.Altered.{among_contains}
 use Rattle.lfs_operations.proofs.AlteredAcross.{IsKnown, each_known}
@@ -54,7 +54,7 @@ module _ (t m : KeptThread) (from to : Path) (d : ℕ × ℕ) (gone n : ℕ) (so
   not_there = end_gone t m from to d (thread_pair_at_index t gone) n k new g
 
   -- the pair in front of it
-  pub replaced_alters : IsPairAltered t (gone - 1) new
+  pub replaced_alters : IsPairNotKeptUnchanged t (gone - 1) new
   replaced_alters = gone_alters t new gone some low k.ready.accepted accepted not_there
 
   -- the pair that the step writes, which is written then
@@ -69,7 +69,7 @@ module _ (t m : KeptThread) (from to : Path) (d : ℕ × ℕ) (gone n : ℕ) (so
   names_same = over_next (thread_pair_at_index m (n - 1)).content.tail (thread_pair_at_index m (n - 1 + 1)).content.tail ∙ ap (λ (z : Pair). pair_address_named_by_tail z.content.tail) (o_there t m from to d (thread_pair_at_index t gone) n k)
 
   -- a pair of before doesn't stay that has one of its blocks: else its tail named what that of the pair does that is gone
-  owner_alters : (b index : ℕ) → 1 ≤ occurrence_count_of_number b (blocks_of_pair_address (thread_pair_at_index m (n - 1)).at) → index < length t.pairs → 1 ≤ occurrence_count_of_number b (blocks_of_pair_address (thread_pair_at_index t index).at) → IsPairAltered t index new
+  owner_alters : (b index : ℕ) → 1 ≤ occurrence_count_of_number b (blocks_of_pair_address (thread_pair_at_index m (n - 1)).at) → index < length t.pairs → 1 ≤ occurrence_count_of_number b (blocks_of_pair_address (thread_pair_at_index t index).at) → IsPairNotKeptUnchanged t index new
   owner_alters b index own below there has =
       let p = thread_pair_at_index t index in
       let o = thread_pair_at_index t gone in

@@ -9,7 +9,7 @@ use Rattle.lfs_model.specs.Thread.{AreLinkedByTails, Pair, anchor_pair_address, 
 use Rattle.lfs_model.proofs.Counts.{occurrence_count_of_number, count_append, count_here}
 use Rattle.lfs_model.proofs.Sites.{IsTrueOfSomeElement}
 use Rattle.lfs_model.proofs.Splices.{file_blocks_of_slots}
-use Rattle.lfs_operations.specs.Changing.{IsPairAltered}
+use Rattle.lfs_operations.specs.Changing.{IsPairNotKeptUnchanged}
 use Rattle.lfs_operations.specs.Ready.{IsImageReadyForChange}
 use Rattle.lfs_operations.proofs.Altered.{among_contains, links_behind, only_there}
 use Rattle.lfs_operations.proofs.DroppedTails.{front_is, gone_is, two_at}
@@ -69,7 +69,7 @@ other_tail t z p fresh ready free was soft now distinct there at tail has = go t
     go (inr hard) = absurd (let e = sym soft ∙ ap (λ (y : Pair). is_hard_tail y.content.tail) (sym same) ∙ hard in cc)
 
 -- a pair, where the thread hasn't the one that it named any more
-pub tail_goes : (t new : KeptThread) (index : ℕ) (to : ℕ × ℕ) → pair_address_named_by_tail (thread_pair_at_index t index).content.tail ≡ Some to → AreLinkedByTails (Some anchor_pair_address) new.pairs → occurrence_count_of_number to.0 (blocks_of_pairs new.pairs) ≡ 0 → IsPairAltered t index new
+pub tail_goes : (t new : KeptThread) (index : ℕ) (to : ℕ × ℕ) → pair_address_named_by_tail (thread_pair_at_index t index).content.tail ≡ Some to → AreLinkedByTails (Some anchor_pair_address) new.pairs → occurrence_count_of_number to.0 (blocks_of_pairs new.pairs) ≡ 0 → IsPairNotKeptUnchanged t index new
 tail_goes t new index to names links none has = let k = names_there (Some anchor_pair_address) new.pairs (thread_pair_at_index t index) to links (among_contains (thread_pair_at_index t index) new.pairs has) names in absurd (omega arith)
 
 pub names_next : (t : KeptThread) (front : ℕ) → front + 1 < length t.pairs → AreLinkedByTails (Some anchor_pair_address) t.pairs → pair_address_named_by_tail (thread_pair_at_index t front).content.tail ≡ Some (thread_pair_at_index t (front + 1)).at

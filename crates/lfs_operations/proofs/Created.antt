@@ -41,7 +41,7 @@ use Rattle.lfs_pair.specs.Commit.{pair_content_after_changes}
 use Rattle.lfs_thread.specs.Device.{PowerLossLeavesSuchBlocksAfterCleanErases}
 use Rattle.lfs_thread.specs.Kept.{KeptThread}
 use Rattle.lfs_thread.specs.Steps.{thread_pair_at_index, complete_content_after_changes}
-use Rattle.lfs_operations.specs.Changing.{IsPairAltered, CanChangeOrSplitPair, IsLeftByStoppedChangeOrSplit, IsPairChangedOrSplit}
+use Rattle.lfs_operations.specs.Changing.{IsPairNotKeptUnchanged, CanChangeOrSplitPair, IsLeftByStoppedChangeOrSplit, IsPairChangedOrSplit}
 use Rattle.lfs_operations.specs.Creating.{CanCreateFileInPair, IsFileCreated, file_creation_changes, tree_with_new_file}
 use Rattle.lfs_operations.proofs.Altered.{commit_alters}
 use Rattle.lfs_operations.proofs.Held.{CompletesTo, below, fits_there, here, raw_there}
@@ -195,7 +195,7 @@ module _ (t : KeptThread) (index id : ℕ) (name : Name) (can : CanCreateFileInP
           }
 
   -- the pair has one slot more, or is cut
-  pub alters : (new : KeptThread) → IsPairChangedOrSplit t index (file_creation_changes id name) new → IsPairAltered t index new
+  pub alters : (new : KeptThread) → IsPairChangedOrSplit t index (file_creation_changes id name) new → IsPairNotKeptUnchanged t index new
   alters new is has = go (put_step t index (file_creation_changes id name) w p b.left [] (u ∷ []) b.right [] [] splicing new is)
     where
       go : HasStep t w p b.left [] (u ∷ []) b.right [] [] new → ⊥

@@ -39,7 +39,7 @@ use Rattle.lfs_model.proofs.StepsTaken as taken
 use Rattle.lfs_model.proofs.Superblocks.{IsChain}
 use Rattle.lfs_thread.specs.Kept.{KeptThread}
 use Rattle.lfs_thread.specs.Steps.{CanThreadInFreshPair, IsFreshPairThreadedIn, PowerLossLeavesPairOldOrThreadedIn, ThreadChangesOnlyTheseBlocks, thread_pair_at_index, complete_content_after_changes}
-use Rattle.lfs_operations.specs.Changing.{IsPairAltered, AreTwoFreeBlocks, CanChangeOrSplitPair, HasTwoFreeBlocks, IsLeftByStoppedChangeOrSplit, IsPairChangedOrSplit, map_with_two_blocks_in_flight}
+use Rattle.lfs_operations.specs.Changing.{IsPairNotKeptUnchanged, AreTwoFreeBlocks, CanChangeOrSplitPair, HasTwoFreeBlocks, IsLeftByStoppedChangeOrSplit, IsPairChangedOrSplit, map_with_two_blocks_in_flight}
 use Rattle.lfs_operations.specs.Making.{ArePairAndLastPairOfDirectoryAltered, CanMakeDirectoryAt, FitsPairWithTailToNewPair, HasSoManyFreeBlocks, IsLastPairOfHardTailRun, IsDirectoryMade, changes_adding_entry_for_directory_pair, changes_threading_new_pair, tree_with_new_directory}
 use Rattle.lfs_operations.proofs.Altered.{put_alters}
 use Rattle.lfs_operations.proofs.AlteredTails.{other_tail}
@@ -351,14 +351,14 @@ module _ (t : KeptThread) (index id : ℕ) (name : Name) (can : CanMakeDirectory
             end_goes z h at tail has =
                 other_tail t z x fresh can.ready two.first x_was (run_right way.left x [] way.end.site.run) (thread_at v (e.q ∷ e.more)) ok.thread.distinct h at tail (subst (λ ps. Contains ps x) e.pairs has)
 
-            end_alters : (Contains new.pairs x → ⊥) → (i : ℕ) → IsLastPairOfHardTailRun t.pairs index i → IsPairAltered t i new
+            end_alters : (Contains new.pairs x → ⊥) → (i : ℕ) → IsLastPairOfHardTailRun t.pairs index i → IsPairNotKeptUnchanged t i new
             end_alters gone i is_i =
                 let a = is_i.is in
                 let b = is_last.is in
                 let number : last ≡ i = omega arith in
-                subst (λ (j : ℕ). IsPairAltered t j new) number (subst (λ z. Contains new.pairs z → ⊥) (sym (pair_is t last here x way.end.there way.end.place)) gone)
+                subst (λ (j : ℕ). IsPairNotKeptUnchanged t j new) number (subst (λ z. Contains new.pairs z → ⊥) (sym (pair_is t last here x way.end.there way.end.place)) gone)
 
-            entry_alters : (Contains new.pairs p → ⊥) → IsPairAltered t index new
+            entry_alters : (Contains new.pairs p → ⊥) → IsPairNotKeptUnchanged t index new
             entry_alters = subst (λ z. Contains new.pairs z → ⊥) (sym (pair_is t index w p there placed))
 
             at_now : e.q.at ≡ p.at

@@ -39,7 +39,7 @@ use Rattle.lfs_pair.specs.Commit.{pair_content_after_changes}
 use Rattle.lfs_thread.specs.Device.{PowerLossLeavesSuchBlocksAfterCleanErases}
 use Rattle.lfs_thread.specs.Kept.{KeptThread}
 use Rattle.lfs_thread.specs.Steps.{SlotsBeginWithSuperblock, complete_content_after_changes, thread_pair_at_index}
-use Rattle.lfs_operations.specs.Changing.{IsPairAltered, CanChangeOrSplitPair, IsLeftByStoppedChangeOrSplit, IsPairChangedOrSplit}
+use Rattle.lfs_operations.specs.Changing.{IsPairNotKeptUnchanged, CanChangeOrSplitPair, IsLeftByStoppedChangeOrSplit, IsPairChangedOrSplit}
 use Rattle.lfs_operations.specs.Editing.{CanEditEntryOfPair}
 use Rattle.lfs_operations.specs.MoveEnds.{CanEndMoveAt, HasEndedMoveAt, gstate_naming_moved_slot}
 use Rattle.lfs_operations.specs.MovingSteps.{CanEndMoveAfterFirstCommit, IsSlotPutAndMoveEnded, pair_number_after_insertion}
@@ -370,7 +370,7 @@ module _ (t : KeptThread) (old_pair old_id first new_pair new_id : ℕ) (name : 
 
   -- ---- what stays
 
-  pub across_alters : (new : KeptThread) → IsSlotPutAndMoveEnded t old_pair old_id goes new_pair (rename_across_pairs_changes t old_pair old_id new_pair new_id name) new → IsPairAltered t new_pair new
+  pub across_alters : (new : KeptThread) → IsSlotPutAndMoveEnded t old_pair old_id goes new_pair (rename_across_pairs_changes t old_pair old_id new_pair new_id name) new → IsPairNotKeptUnchanged t new_pair new
   across_alters new is = moved_alters t false old_pair goes new_pair (rename_across_pairs_changes t old_pair old_id new_pair new_id name) wo q lo s ro w p b.left v b.right from to name is_first is.mid
       (first_turned t false old_pair goes new_pair (rename_across_pairs_changes t old_pair old_id new_pair new_id name) wo q lo s ro w p b.left None v b.right from to name is_first is.mid is.put) new
       (subst (λ i. HasEndedMoveAt is.mid (pair_number_after_insertion old_pair new_pair (length is.mid.pairs - length t.pairs)) i goes new) (sym can.stands.stands.number) is.ended)

@@ -122,5 +122,5 @@ pub record ReportsErrorsOfChangeOrSplit {X : Type 0} (old new : ThreadView) (ind
   pub too_large : result ≡ Err NoSpace → IsChangedContentTooLarge old.kept index changes
 
 -- the pair doesn't stay with what it held
-abbrev pub IsPairAltered : KeptThread → ℕ → KeptThread → Type 0
-IsPairAltered old index new = Contains new.pairs (thread_pair_at_index old index) → ⊥
+abbrev pub IsPairNotKeptUnchanged : KeptThread → ℕ → KeptThread → Type 0
+IsPairNotKeptUnchanged old index new = Contains new.pairs (thread_pair_at_index old index) → ⊥

@@ -22,7 +22,7 @@ use Rattle.lfs_model.specs.WrittenContent.{bytes_of_pair_address}
 use Rattle.lfs_model.specs.Steps.{IsImageAfterCompletedOperation, gstate_with_inverted_sync_bit}
 use Rattle.lfs_thread.specs.Kept.{KeptThread, ThreadView}
 use Rattle.lfs_thread.specs.Steps.{ThreadChangesOnlyTheseBlocks, complete_content_after_changes, thread_pair_at_index}
-use Rattle.lfs_operations.specs.Changing.{IsPairAltered}
+use Rattle.lfs_operations.specs.Changing.{IsPairNotKeptUnchanged}
 use Rattle.lfs_operations.specs.Ready.{ShowsTreeReadyForChange, IsImageReadyForChange}
 
 -- ---- the last pair
@@ -84,8 +84,8 @@ pub record IsDirectoryMade (old new : KeptThread) (path : Path) (name : Name) : 
 
 -- Neither the pair nor the directory's last pair stays with what it held.
 pub record ArePairAndLastPairOfDirectoryAltered (old : KeptThread) (pair : ℕ) (new : KeptThread) : Type 0 where
-  pub entry : IsPairAltered old pair new
-  pub end : (last : ℕ) → IsLastPairOfHardTailRun old.pairs pair last → IsPairAltered old last new
+  pub entry : IsPairNotKeptUnchanged old pair new
+  pub end : (last : ℕ) → IsLastPairOfHardTailRun old.pairs pair last → IsPairNotKeptUnchanged old last new
 
 -- `Io` comes with a fault of the device, and any other result with none. After an error the thread has failed.
 pub record ReportsErrorsOfMakingDirectory {X : Type 0} (old new : ThreadView) (result : Result X Error) : Type 0 where

@@ -19,7 +19,7 @@ use Rattle.lfs_model.specs.Shown.{tree_on_disk}
 use Rattle.lfs_model.specs.Steps.{IsImageAfterCompletedOperation, sync_bit_delta}
 use Rattle.lfs_thread.specs.Kept.{KeptThread, ThreadView}
 use Rattle.lfs_thread.specs.Steps.{IsPairWrittenOnDisk, thread_pair_at_index, thread_pairs_with_content_replaced_at_index}
-use Rattle.lfs_operations.specs.Changing.{IsPairAltered}
+use Rattle.lfs_operations.specs.Changing.{IsPairNotKeptUnchanged}
 use Rattle.lfs_operations.specs.Dropping.{ShowsTreeAfterPairDrops}
 use Rattle.lfs_operations.specs.Editing.{CanEditEntryOfPair, slot_of_editable_entry}
 use Rattle.lfs_operations.specs.Removing.{is_pair_dropped_with_slot, tree_without_named_entry}
@@ -78,8 +78,8 @@ pub record IsDirectoryRemoved (old new : KeptThread) (path : Path) (name : Name)
 -- The pair before the directory's own one doesn't stay with what it held. Nor does the one before the entry's pair, where that is
 -- dropped too.
 pub record ArePairsBeforeDroppedPairsAltered (old : KeptThread) (pair first gone : ℕ) (new : KeptThread) : Type 0 where
-  pub front : IsPairAltered old (gone - 1) new
-  pub entry : is_pair_dropped_with_slot old pair first ≡ true → IsPairAltered old (pair - 1) new
+  pub front : IsPairNotKeptUnchanged old (gone - 1) new
+  pub entry : is_pair_dropped_with_slot old pair first ≡ true → IsPairNotKeptUnchanged old (pair - 1) new
 
 -- What several steps report that take no block: `Io` comes with a fault of the device, and any other result with none. After an
 -- error the thread has failed.

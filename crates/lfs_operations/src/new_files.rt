@@ -4,7 +4,7 @@ ghost use Rattle.std.specs.Prelude.{◌≡◌, ◌≤◌, ◌+◌, false, OnOk};
 ghost use Rattle.lfs_model.specs.History.{read_count_of_history};
 ghost use Rattle.lfs_model.specs.PowerLoss.{SurvivesPowerLossInCallsSince};
 ghost use Rattle.lfs_model.specs.Shown.{tree_on_disk};
-ghost use Rattle.lfs_operations.specs.Changing.{IsPairAltered, ReportsErrorsOfChangeOrSplit, WritesPairAndTwoFreeBlocks};
+ghost use Rattle.lfs_operations.specs.Changing.{IsPairNotKeptUnchanged, ReportsErrorsOfChangeOrSplit, WritesPairAndTwoFreeBlocks};
 ghost use Rattle.lfs_operations.specs.Creating.{CanCreateFileInPair, IsFileCreated, file_creation_changes, tree_with_new_file};
 
 use crate::changes::change_or_split_pair;
@@ -32,7 +32,7 @@ pub fn create_file<D: BlockDevice>(
     requires works { thread.old.failed ≡ false }
     requires can { CanCreateFileInPair thread.old.kept pair id name.now }
     ensures created { OnOk result ((can : CanCreateFileInPair thread.old.kept pair id name.now) → IsFileCreated thread.old.kept thread.new.kept can.path name.now) }
-    ensures alters { OnOk result (IsPairAltered thread.old.kept pair thread.new.kept) }
+    ensures alters { OnOk result (IsPairNotKeptUnchanged thread.old.kept pair thread.new.kept) }
     ensures errors { ReportsErrorsOfChangeOrSplit thread.old thread.new pair (file_creation_changes id name.now) result }
     ensures device { WritesPairAndTwoFreeBlocks thread.old.kept pair thread.new.kept }
     ensures few { read_count_of_history thread.new.kept.history ≤ read_count_of_history thread.old.kept.history + 6 }

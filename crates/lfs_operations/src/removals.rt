@@ -4,7 +4,7 @@ ghost use Rattle.std.specs.Prelude.{◌≡◌, ◌<◌, ◌-◌, length, false, 
 ghost use Rattle.lfs_model.specs.PowerLoss.{SurvivesPowerLossInCallsSince};
 ghost use Rattle.lfs_model.specs.Shown.{tree_on_disk};
 ghost use Rattle.lfs_thread.specs.Steps.{ThreadChangesOnlyTheseBlocks};
-ghost use Rattle.lfs_operations.specs.Changing.{IsPairAltered};
+ghost use Rattle.lfs_operations.specs.Changing.{IsPairNotKeptUnchanged};
 ghost use Rattle.lfs_operations.specs.Editing.{slot_of_editable_entry};
 ghost use Rattle.lfs_operations.specs.Removing.{CanRemoveFileInPair, IsFileRemoved, ReportsErrorsOfCommitTakingNoBlock, is_pair_dropped_with_slot, tree_without_named_entry, pair_address_written_by_removal};
 ghost use Rattle.lfs_model.specs.Thread.{blocks_of_pair_address};
@@ -47,7 +47,7 @@ pub fn remove_file<D: BlockDevice>(
     requires works { thread.old.failed ≡ false }
     requires can { CanRemoveFileInPair thread.old.kept pair id first }
     ensures is_removed { OnOk result ((take : CanRemoveFileInPair thread.old.kept pair id first) → IsFileRemoved thread.old.kept thread.new.kept take.can.path take.can.name (slot_of_editable_entry take.can).struct) }
-    ensures alters { OnOk result (is_pair_dropped_with_slot thread.old.kept pair first ≡ true → IsPairAltered thread.old.kept (pair - 1) thread.new.kept) }
+    ensures alters { OnOk result (is_pair_dropped_with_slot thread.old.kept pair first ≡ true → IsPairNotKeptUnchanged thread.old.kept (pair - 1) thread.new.kept) }
     ensures errors { ReportsErrorsOfCommitTakingNoBlock thread.old thread.new result }
     ensures device { ThreadChangesOnlyTheseBlocks (blocks_of_pair_address (pair_address_written_by_removal thread.old.kept pair first)) thread.old.kept thread.new.kept }
     ensures survives { (take : CanRemoveFileInPair thread.old.kept pair id first) → SurvivesPowerLossInCallsSince thread.old.kept.disk thread.old.kept.history thread.new.kept.history

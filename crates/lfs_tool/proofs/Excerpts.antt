@@ -7,7 +7,7 @@ use Rattle.lfs_device.specs.Shown.{disk_of_geometry_and_blocks as shown, disk_wi
 use Rattle.lfs_tool.specs.declared.block_excerpt.BlockExcerpt.{BlockExcerpt}
 use Rattle.lfs_tool.specs.declared.excerpt.ExcerptDevice.{ExcerptDevice}
 use Rattle.lfs_tool.specs.ExcerptBlocks.{AreExcerptsOfBlocksWithSize, blocks_of_excerpts}
-use Rattle.lfs_tool.specs.ExcerptView.{excerpt_blocks, geometry_of_excerpt_device}
+use Rattle.lfs_tool.specs.ExcerptView.{blocks_of_excerpt_filled_up, geometry_of_excerpt_device}
 use Rattle.lfs_tool.specs.Excerpt.{AreExcerptsKeepingSizesPointersAndLogs, IsDiskOfExcerptsKeepingSizesPointersAndLogs}
 use Rattle.lfs_tool.specs.ExcerptShape.{blocks_of_excerpts_have_size}
 use Rattle.lfs_model.specs.Blocks.{cut}
@@ -55,7 +55,7 @@ abbrev pub AreListedAlike : Type 0
 AreListedAlike = (disk excerpt : Disk) (view : DiskView) → IsDiskOfExcerptsKeepingSizesPointersAndLogs disk excerpt → HasDiskView excerpt view → (whole : DiskView) × (HasDiskView disk whole × ((text : List ℕ) → IsListingOfTree view.tree text → IsListingOfTree whole.tree text))
 
 pub lists_by_excerpt : AreListedAlike → (block_size page : ℕ) (bytes text : List ℕ) (blocks : List BlockExcerpt) (e : ExcerptDevice) → AreExcerptsOfAllBlocksOfImageBytes block_size bytes blocks → IsValidGeometry block_size page (length blocks)
-    → AreExcerptsOfBlocksWithSize block_size blocks → DeviceOfExcerptHasTheseBlocksAndSizes block_size page blocks e → (order : NameOrder) → IsListingTextOfDisk (disk_with_name_order order (shown (geometry_of_excerpt_device e) (excerpt_blocks e))) text → IsListingTextOfImage block_size page bytes text
+    → AreExcerptsOfBlocksWithSize block_size blocks → DeviceOfExcerptHasTheseBlocksAndSizes block_size page blocks e → (order : NameOrder) → IsListingTextOfDisk (disk_with_name_order order (shown (geometry_of_excerpt_device e) (blocks_of_excerpt_filled_up e))) text → IsListingTextOfImage block_size page bytes text
 lists_by_excerpt alike block_size page bytes text blocks e are geometry have is order lines =
     let found = listed_from (disk_with block_size page order blocks) text (sizes_of block_size page order blocks geometry.no_smaller have) (subst (λ d. IsListingTextOfDisk d text) (is.disk order) lines) in
     let (view, (shows, listing)) = found in
@@ -66,7 +66,7 @@ abbrev pub AreRefusedAlike : Type 0
 AreRefusedAlike = (disk excerpt : Disk) (ps : List Pair) → IsDiskOfExcerptsKeepingSizesPointersAndLogs disk excerpt → IsAcceptedImage disk ps → IsAcceptedImage excerpt ps
 
 pub refuses_by_excerpt : AreRefusedAlike → (block_size page : ℕ) (bytes : List ℕ) (blocks : List BlockExcerpt) (e : ExcerptDevice) (error : Error) → AreExcerptsOfAllBlocksOfImageBytes block_size bytes blocks → IsValidGeometry block_size page (length blocks)
-    → DeviceOfExcerptHasTheseBlocksAndSizes block_size page blocks e → IsMountErrorOfDisk (shown (geometry_of_excerpt_device e) (excerpt_blocks e)) error → RefusesToList block_size page bytes error
+    → DeviceOfExcerptHasTheseBlocksAndSizes block_size page blocks e → IsMountErrorOfDisk (shown (geometry_of_excerpt_device e) (blocks_of_excerpt_filled_up e)) error → RefusesToList block_size page bytes error
 refuses_by_excerpt alike block_size page bytes blocks e Corrupt are geometry is none = (
   image_of_blocks block_size page bytes blocks are geometry,
   λ view (order, (ps, (accepted, same))).

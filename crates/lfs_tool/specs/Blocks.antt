@@ -5,7 +5,7 @@ use Rattle.lfs_tool.specs.declared.block_excerpt.BlockExcerpt.{BlockExcerpt}
 use Rattle.lfs_tool.specs.ExcerptBlocks.{block_of_excerpt, blocks_of_excerpts}
 use Rattle.lfs_device.specs.Shown.{disk_of_geometry_and_blocks, disk_with_name_order}
 use Rattle.lfs_tool.specs.declared.excerpt.ExcerptDevice.{ExcerptDevice}
-use Rattle.lfs_tool.specs.ExcerptView.{excerpt_blocks, geometry_of_excerpt_device}
+use Rattle.lfs_tool.specs.ExcerptView.{blocks_of_excerpt_filled_up, geometry_of_excerpt_device}
 use Rattle.lfs_tool.specs.Excerpt.{AreExcerptsKeepingSizesPointersAndLogs, IsExcerptKeepingSizePointersAndLog}
 use Rattle.lfs_model.specs.Blocks.{cut}
 use Rattle.lfs_model.specs.declared.order.NameOrder.{NameOrder}
@@ -30,4 +30,4 @@ pub record IsExcerptPushed (block : List ℕ) (old new : List BlockExcerpt) : Ty
 
 -- the device shows these blocks, of that size and in such pages, with the names in any order
 pub record DeviceOfExcerptHasTheseBlocksAndSizes (block_size page : ℕ) (blocks : List BlockExcerpt) (e : ExcerptDevice) : Type 0 where
-  pub disk : (order : NameOrder) → disk_with_name_order order (disk_of_geometry_and_blocks (geometry_of_excerpt_device e) (excerpt_blocks e)) ≡ record { block_size = block_size; page = page; order = order; blocks = blocks_of_excerpts blocks }
+  pub disk : (order : NameOrder) → disk_with_name_order order (disk_of_geometry_and_blocks (geometry_of_excerpt_device e) (blocks_of_excerpt_filled_up e)) ≡ record { block_size = block_size; page = page; order = order; blocks = blocks_of_excerpts blocks }

@@ -14,8 +14,8 @@ excerpt_maker_block_size c = length c.padded.items
 abbrev pub geometry_of_excerpt_device : ExcerptDevice → Geometry
 geometry_of_excerpt_device e = e.geometry
 
-abbrev pub excerpt_blocks : ExcerptDevice → Blocks
-excerpt_blocks e = blocks_of_excerpts e.blocks.items
+abbrev pub blocks_of_excerpt_filled_up : ExcerptDevice → Blocks
+blocks_of_excerpt_filled_up e = blocks_of_excerpts e.blocks.items
 
 abbrev pub call_history_of_excerpt_device : ExcerptDevice → List DeviceCallEvent
 call_history_of_excerpt_device e = e.trace.events

@@ -11,7 +11,7 @@ use crate::findings::Finding;
 use crate::owned_parts::OwnedPair;
 
 // Returns what is wrong with the two addresses of a pair by themselves.
-pub(crate) fn finding_on_pair_addresses(count: u32, pair: [u32; 2]) -> Option<Finding>
+pub(crate) fn finding_on_two_addresses_of_one_pair(count: u32, pair: [u32; 2]) -> Option<Finding>
     ensures fault { IfSome result (λ f. (disk : Disk) → block_count disk ≡ count → IsAddressNamedByThread disk (pair_address_of_array pair) → IsTrueFindingOfThread disk f) }
     ensures first { IfNone result ((pair_address_of_array pair).0 < count) }
     ensures second { IfNone result ((pair_address_of_array pair).1 < count) }
@@ -58,7 +58,7 @@ fn finding_on_block_in_pairs(pairs: &[OwnedPair], pair: [u32; 2], block: u32) ->
 
 // Returns what is wrong with the blocks of a pair after these pairs. `marks` has the blocks of
 // these pairs, so the others aren't searched. The pair's blocks are marked then.
-pub(crate) fn finding_on_repeated_blocks(
+pub(crate) fn finding_if_pair_repeats_block_of_earlier_pairs(
     marks: &mut Vec<bool>,
     pairs: &[OwnedPair],
     pair: [u32; 2],

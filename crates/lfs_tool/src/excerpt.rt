@@ -24,14 +24,14 @@ pub struct ExcerptDevice {
 }
 
 impl ExcerptDevice {
-    ghost use Rattle.lfs_tool.specs.ExcerptView.{excerpt_blocks, geometry_of_excerpt_device, call_history_of_excerpt_device};
+    ghost use Rattle.lfs_tool.specs.ExcerptView.{blocks_of_excerpt_filled_up, geometry_of_excerpt_device, call_history_of_excerpt_device};
 
     /// Makes the device of these blocks. There are as many as the geometry has, of its size.
     pub fn new(geometry: Geometry, blocks: Vec<BlockExcerpt>) -> ExcerptDevice
         requires count { length blocks.items ≡ geometry.block_count }
         requires sizes { AreExcerptsOfBlocksWithSize geometry.block_size blocks.items }
         ensures geometry { geometry_of_excerpt_device result ≡ geometry }
-        ensures blocks { excerpt_blocks result ≡ blocks_of_excerpts blocks.items }
+        ensures blocks { blocks_of_excerpt_filled_up result ≡ blocks_of_excerpts blocks.items }
         ensures no_call { call_history_of_excerpt_device result ≡ [] }
     {
         ExcerptDevice {
@@ -43,12 +43,12 @@ impl ExcerptDevice {
 }
 
 impl BlockDevice for ExcerptDevice {
-    ghost use Rattle.lfs_tool.specs.ExcerptView.{excerpt_blocks, geometry_of_excerpt_device, call_history_of_excerpt_device};
+    ghost use Rattle.lfs_tool.specs.ExcerptView.{blocks_of_excerpt_filled_up, geometry_of_excerpt_device, call_history_of_excerpt_device};
     ghost use Rattle.lfs_tool.specs.ExcerptShape.{values_in_excerpt_blocks_are_bytes, blocks_of_excerpts_have_size};
 
     ghost geometry = { geometry_of_excerpt_device };
 
-    ghost blocks = { excerpt_blocks };
+    ghost blocks = { blocks_of_excerpt_filled_up };
 
     ghost history = { call_history_of_excerpt_device };
 
@@ -68,10 +68,10 @@ impl BlockDevice for ExcerptDevice {
         requires in_device { block < (geometry_of_excerpt_device self.old).block_count }
         requires in_block { off + length buf.old ≤ (geometry_of_excerpt_device self.old).block_size }
         ensures ok { IsOk result }
-        ensures bytes { buf.new ≡ slice_range (block_bytes_by_number (excerpt_blocks self.old) block) off (off + length buf.old) }
-        ensures same { excerpt_blocks self.new ≡ excerpt_blocks self.old }
+        ensures bytes { buf.new ≡ slice_range (block_bytes_by_number (blocks_of_excerpt_filled_up self.old) block) off (off + length buf.old) }
+        ensures same { blocks_of_excerpt_filled_up self.new ≡ blocks_of_excerpt_filled_up self.old }
         ensures geometry { geometry_of_excerpt_device self.new ≡ geometry_of_excerpt_device self.old }
-        ensures history { call_history_of_excerpt_device self.new ≡ device_call_event_with_blocks (Read block off (length buf.old)) (excerpt_blocks self.old) (excerpt_blocks self.new) false ∷ call_history_of_excerpt_device self.old }
+        ensures history { call_history_of_excerpt_device self.new ≡ device_call_event_with_blocks (Read block off (length buf.old)) (blocks_of_excerpt_filled_up self.old) (blocks_of_excerpt_filled_up self.new) false ∷ call_history_of_excerpt_device self.old }
     {
         self.blocks[block as usize].read(off as usize, buf);
         self.trace = Trace::with_history_chosen_by_proof(self, &(block, off, buf.len()));
@@ -85,9 +85,9 @@ impl BlockDevice for ExcerptDevice {
         requires ends { (off + length bytes.now) % (geometry_of_excerpt_device self.old).page ≡ 0 }
         requires unprogrammed { AreBytesUnprogrammed (call_history_of_excerpt_device self.old) block off (off + length bytes.now) }
         ensures err { IsErrOf result Error.Io }
-        ensures same { excerpt_blocks self.new ≡ excerpt_blocks self.old }
+        ensures same { blocks_of_excerpt_filled_up self.new ≡ blocks_of_excerpt_filled_up self.old }
         ensures geometry { geometry_of_excerpt_device self.new ≡ geometry_of_excerpt_device self.old }
-        ensures history { call_history_of_excerpt_device self.new ≡ device_call_event_with_blocks (Program block off bytes.now) (excerpt_blocks self.old) (excerpt_blocks self.new) true ∷ call_history_of_excerpt_device self.old }
+        ensures history { call_history_of_excerpt_device self.new ≡ device_call_event_with_blocks (Program block off bytes.now) (blocks_of_excerpt_filled_up self.old) (blocks_of_excerpt_filled_up self.new) true ∷ call_history_of_excerpt_device self.old }
     {
         self.trace = Trace::with_history_chosen_by_proof(self, &(block, off, bytes));
         Err(Error::Io)
@@ -96,9 +96,9 @@ impl BlockDevice for ExcerptDevice {
     fn erase(&mut self, block: u32) -> Result<(), Error>
         requires { block < (geometry_of_excerpt_device self.old).block_count }
         ensures err { IsErrOf result Error.Io }
-        ensures same { excerpt_blocks self.new ≡ excerpt_blocks self.old }
+        ensures same { blocks_of_excerpt_filled_up self.new ≡ blocks_of_excerpt_filled_up self.old }
         ensures geometry { geometry_of_excerpt_device self.new ≡ geometry_of_excerpt_device self.old }
-        ensures history { call_history_of_excerpt_device self.new ≡ device_call_event_with_blocks (Erase block) (excerpt_blocks self.old) (excerpt_blocks self.new) true ∷ call_history_of_excerpt_device self.old }
+        ensures history { call_history_of_excerpt_device self.new ≡ device_call_event_with_blocks (Erase block) (blocks_of_excerpt_filled_up self.old) (blocks_of_excerpt_filled_up self.new) true ∷ call_history_of_excerpt_device self.old }
     {
         self.trace = Trace::with_history_chosen_by_proof(self, &block);
         Err(Error::Io)

@@ -6,7 +6,7 @@ ghost use Rattle.lfs_model.specs.History.{AreCallsSinceOnlyReads, fault_count_of
 ghost use Rattle.lfs_model.specs.Listing.{IsListingOfTree};
 ghost use Rattle.lfs_model.specs.Thread.{Pair};
 ghost use Rattle.lfs_model.specs.View.{HasDiskView, IsAcceptedImage, DiskView};
-ghost use Rattle.lfs_tool.specs.ExcerptView.{excerpt_blocks, call_history_of_excerpt_device};
+ghost use Rattle.lfs_tool.specs.ExcerptView.{blocks_of_excerpt_filled_up, call_history_of_excerpt_device};
 ghost use Rattle.lfs_tool.specs.Excerpt.{IsDiskOfExcerptsKeepingSizesPointersAndLogs};
 ghost use Rattle.lfs_tool.specs.declared.excerpt.ExcerptDevice.{ExcerptDevice};
 
@@ -21,5 +21,5 @@ pub fn excerpt_is_listed_like_its_disk()
 
 /// An excerpt that is only read has no fault.
 pub fn excerpt_is_read_without_fault()
-    ensures { (old new : ExcerptDevice) → AreCallsSinceOnlyReads (excerpt_blocks old) (call_history_of_excerpt_device old) (call_history_of_excerpt_device new) → fault_count_of_history (call_history_of_excerpt_device new) ≡ fault_count_of_history (call_history_of_excerpt_device old) }
+    ensures { (old new : ExcerptDevice) → AreCallsSinceOnlyReads (blocks_of_excerpt_filled_up old) (call_history_of_excerpt_device old) (call_history_of_excerpt_device new) → fault_count_of_history (call_history_of_excerpt_device new) ≡ fault_count_of_history (call_history_of_excerpt_device old) }
 {}

@@ -94,8 +94,8 @@ pub(crate) fn tree_items_of_excerpt(
     alloc: Global,
     device: ExcerptDevice,
 ) -> Result<(Thread<Ordered<ExcerptDevice>>, Vec<TreeItem>), Error>
-    ensures items { IfOk result (λ found. IsThreadWithEntriesOfTreeWalk (shown (excerpt.geometry_of_excerpt_device device) (excerpt.excerpt_blocks device)) found.0 (tree_items_view found.1.items)) }
-    ensures err { IfErr result (IsMountErrorOfDisk (shown (excerpt.geometry_of_excerpt_device device) (excerpt.excerpt_blocks device))) }
+    ensures items { IfOk result (λ found. IsThreadWithEntriesOfTreeWalk (shown (excerpt.geometry_of_excerpt_device device) (excerpt.blocks_of_excerpt_filled_up device)) found.0 (tree_items_view found.1.items)) }
+    ensures err { IfErr result (IsMountErrorOfDisk (shown (excerpt.geometry_of_excerpt_device device) (excerpt.blocks_of_excerpt_filled_up device))) }
 {
     match tree_items_of_device(alloc, device) {
         Ok(found) => Ok(found),

@@ -1,7 +1,7 @@
 ghost use Rattle.std.specs.Prelude.{◌≡◌, ◌<◌, ◌^◌, List, ℕ, IfErr, IfOk, IfSome, IsErrOf, OnOk, length};
 ghost use Rattle.std.specs.Io.KnownBytes.{Appends};
 ghost use Rattle.lfs_tool.specs.ExcerptBlocks.{AreExcerptsOfBlocksWithSize};
-ghost use Rattle.lfs_tool.specs.ExcerptView.{excerpt_blocks, geometry_of_excerpt_device};
+ghost use Rattle.lfs_tool.specs.ExcerptView.{blocks_of_excerpt_filled_up, geometry_of_excerpt_device};
 ghost use Rattle.lfs_device.specs.Shown.{disk_of_geometry_and_blocks as shown, disk_with_name_order};
 ghost use Rattle.lfs_model.specs.Disk.{IsImageOfWholeBlocks};
 ghost use Rattle.lfs_model.specs.Geometry.{IsValidGeometry};
@@ -24,8 +24,8 @@ use std::alloc::Global;
 
 // Returns the lines of an excerpt.
 fn listing_lines_of_excerpt(alloc: Global, device: ExcerptDevice) -> Result<Vec<u8>, Error>
-    ensures lines { IfOk result (λ text. (order : NameOrder) × IsListingTextOfDisk (disk_with_name_order order (shown (geometry_of_excerpt_device device) (excerpt_blocks device))) text.items) }
-    ensures err { IfErr result (IsMountErrorOfDisk (shown (geometry_of_excerpt_device device) (excerpt_blocks device))) }
+    ensures lines { IfOk result (λ text. (order : NameOrder) × IsListingTextOfDisk (disk_with_name_order order (shown (geometry_of_excerpt_device device) (blocks_of_excerpt_filled_up device))) text.items) }
+    ensures err { IfErr result (IsMountErrorOfDisk (shown (geometry_of_excerpt_device device) (blocks_of_excerpt_filled_up device))) }
 {
     let (_thread, items) = tree_items_of_excerpt(alloc, device)?;
     let text = listing_lines_of_tree_items(alloc, &items)?;

@@ -6,7 +6,9 @@ ghost use Rattle.lfs_device.specs.Shown.{disk_of_geometry_and_blocks};
 ghost use Rattle.lfs_tool.specs.Device.{OnlyReadsDevice};
 ghost use Rattle.lfs_tool.specs.PairReads.{AreOwnedFirstPairsOfThread, AreAllThreadPairsOrFinding, IsNextPairOrFinding};
 
-use crate::addresses::{finding_on_pair_addresses, finding_on_repeated_blocks};
+use crate::addresses::{
+    finding_if_pair_repeats_block_of_earlier_pairs, finding_on_two_addresses_of_one_pair,
+};
 use crate::findings::Finding;
 use crate::owned_parts::OwnedPair;
 use crate::pairs::{ReadPair, read_pair};
@@ -34,10 +36,10 @@ fn read_next_thread_pair<D: BlockDevice>(
     ensures looks { OnlyReadsDevice D.BlockDevice device.old device.new result }
 {
     let count = device.geometry().block_count;
-    if let Some(finding) = finding_on_pair_addresses(count, at) {
+    if let Some(finding) = finding_on_two_addresses_of_one_pair(count, at) {
         return Ok(ReadPair::Broken(finding));
     }
-    if let Some(finding) = finding_on_repeated_blocks(marks, pairs, at) {
+    if let Some(finding) = finding_if_pair_repeats_block_of_earlier_pairs(marks, pairs, at) {
         return Ok(ReadPair::Broken(finding));
     }
     read_pair(alloc, device, at)

@@ -2,7 +2,7 @@
 
 use crate::texts::{list_text, unpack_text};
 use lfs_fixtures::{
-    BlockFilling, FixtureEntries, block_with_superblock_and_commits,
+    BlockFilling, FixtureEntries, beginning_of_block_with_superblock_and_commits,
     block_with_superblock_and_entries, image_with_first_two_blocks, image_with_second_commit,
 };
 use lfs_tool::WatchedStream;
@@ -511,7 +511,7 @@ const SHIFTING: [FixtureEntries<'static>; 4] = [
 ];
 
 pub(crate) fn shifting_block(alloc: Global) -> Result<Vec<u8>, AllocError> {
-    block_with_superblock_and_commits(alloc, 1, &SHIFTING)
+    beginning_of_block_with_superblock_and_commits(alloc, 1, &SHIFTING)
 }
 
 // A log of a file `x` up to the middle of its checksum's entry: its first bytes, 67 zeros, and its last

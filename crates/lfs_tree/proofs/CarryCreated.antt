@@ -23,7 +23,7 @@ use Rattle.lfs_model.specs.Shown.{tree_on_disk}
 use Rattle.lfs_model.proofs.Counts.{each_weaker}
 use Rattle.lfs_model.proofs.Paths.{last_is}
 use Rattle.lfs_operations.proofs.Held.{here}
-use Rattle.lfs_operations.specs.Changing.{WritesPairAndTwoFreeBlocks, IsPairAltered}
+use Rattle.lfs_operations.specs.Changing.{WritesPairAndTwoFreeBlocks, IsPairNotKeptUnchanged}
 use Rattle.lfs_operations.specs.Creating.{CanCreateFileInPair, IsFileCreated, tree_with_new_file}
 use Rattle.lfs_operations.specs.Making.{ArePairAndLastPairOfDirectoryAltered, CanMakeDirectoryAt, IsDirectoryMade, WritesPairLastPairAndFourFreeBlocks, tree_with_new_directory}
 use Rattle.lfs_operations.specs.Ready.{IsImageReadyForChange, KeepsStatesOfTakenBlocks}
@@ -133,7 +133,7 @@ module _ (t : ThreadView) (root : ℕ) (rests : CanChangeRecoveredImage t root) 
         no_fault = quiet;
       }) refl refl
 
-  created_alone : (c : KeptThread) (op : Operation) (files : OpenFilesByNumber) → WritesPairAndTwoFreeBlocks (with_history t.kept h) spot.pair c → IsPairAltered (with_history t.kept h) spot.pair c
+  created_alone : (c : KeptThread) (op : Operation) (files : OpenFilesByNumber) → WritesPairAndTwoFreeBlocks (with_history t.kept h) spot.pair c → IsPairNotKeptUnchanged (with_history t.kept h) spot.pair c
       → LeavesUnrelatedBlocksUnchanged t.kept.disk t.kept.pairs (record { tree = tree_on_disk t.kept.disk t.kept.pairs; files = files }) op c.disk c.pairs
   created_alone c op files w alters =
       let b = place.belongs in
@@ -195,12 +195,12 @@ module _ (t : ThreadView) (root : ℕ) (rests : CanChangeRecoveredImage t root) 
   -- ---- all that is said of it
 
   pub create_does : (new : ThreadView) (r : Result (Unit {0}) Error) (given : List ℕ) → path_of_bytes_or_root given ≡ path → fault_count_of_history h ≡ fault_count_of_history t.kept.history → AreCallsSinceOnlyReads t.kept.disk.blocks t.kept.history h → WritesPairAndTwoFreeBlocks (with_history t.kept h) spot.pair new.kept
-      → OnOk r ((can : CanCreateFileInPair (with_history t.kept h) spot.pair spot.id name) → IsFileCreated (with_history t.kept h) new.kept can.path name) → OnOk r (IsPairAltered (with_history t.kept h) spot.pair new.kept) → ReportsFaultsSince h new.kept.history r → OnOk r (new.failed ≡ false)
+      → OnOk r ((can : CanCreateFileInPair (with_history t.kept h) spot.pair spot.id name) → IsFileCreated (with_history t.kept h) new.kept can.path name) → OnOk r (IsPairNotKeptUnchanged (with_history t.kept h) spot.pair new.kept) → ReportsFaultsSince h new.kept.history r → OnOk r (new.failed ≡ false)
       → ((can : CanCreateFileInPair (with_history t.kept h) spot.pair spot.id name) → SurvivesWithOldOrNewTree (with_history t.kept h) new.kept (tree_with_new_file (with_history t.kept h) can.path name)) → AppliesCallOnThreadOrFails t (call.Create path) r new
   create_does new r given named quiet reads w gives alters reported works survives =
       changed t new (HasAppliedCall t.kept (call.Create path)) (tree_after_call (call.Create path) before) h _ r quiet reads w.writes reported works (go r gives alters (quiet_reported t.kept new.kept h r quiet reported)) (created_survives new.kept reads w survives)
     where
-      go : (r : Result (Unit {0}) Error) → OnOk r ((can : CanCreateFileInPair (with_history t.kept h) spot.pair spot.id name) → IsFileCreated (with_history t.kept h) new.kept can.path name) → OnOk r (IsPairAltered (with_history t.kept h) spot.pair new.kept)
+      go : (r : Result (Unit {0}) Error) → OnOk r ((can : CanCreateFileInPair (with_history t.kept h) spot.pair spot.id name) → IsFileCreated (with_history t.kept h) new.kept can.path name) → OnOk r (IsPairNotKeptUnchanged (with_history t.kept h) spot.pair new.kept)
           → OnOk r (fault_count_of_history new.kept.history ≡ fault_count_of_history t.kept.history) → OnOk r (HasAppliedCall t.kept (call.Create path) new.kept × HasSoundImageOfTree t.kept (tree_after_call (call.Create path) before) new.kept)
       go (Err e) gives alters same = tt
       go (Ok x) gives alters same = (

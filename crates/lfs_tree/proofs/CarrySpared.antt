@@ -8,7 +8,7 @@ use Rattle.lfs_model.specs.Refusals.{path_of_bytes_or_root}
 use Rattle.lfs_model.specs.Thread.{Pair, blocks_of_pair_address, blocks_of_two_pair_addresses}
 use Rattle.lfs_model.specs.Tree.{Path}
 use Rattle.lfs_operations.proofs.Held.{here}
-use Rattle.lfs_operations.specs.Changing.{IsPairAltered}
+use Rattle.lfs_operations.specs.Changing.{IsPairNotKeptUnchanged}
 use Rattle.lfs_operations.specs.Editing.{CanEditEntryOfPair}
 use Rattle.lfs_operations.specs.Removing.{CanRemoveFileInPair, is_pair_dropped_with_slot, pair_address_written_by_removal}
 use Rattle.lfs_operations.specs.Unlinking.{ArePairsBeforeDroppedPairsAltered, CanRemoveDirectory}
@@ -46,7 +46,7 @@ module _ (old : KeptThread) (path : Path) (pair id first : ℕ) (can : CanEditEn
           (concerned_pair old (path_of_bytes_or_root given ∷ []) now pair below (inl holds))
 
 -- a file, whose list is freed behind it
-pub file_spares : (old mid new : KeptThread) (path : Path) (pair id first : ℕ) (take : CanRemoveFileInPair old pair id first) → path ≡ take.can.path ++ take.can.name ∷ [] → (is_pair_dropped_with_slot old pair first ≡ true → IsPairAltered old (pair - 1) mid)
+pub file_spares : (old mid new : KeptThread) (path : Path) (pair id first : ℕ) (take : CanRemoveFileInPair old pair id first) → path ≡ take.can.path ++ take.can.name ∷ [] → (is_pair_dropped_with_slot old pair first ≡ true → IsPairNotKeptUnchanged old (pair - 1) mid)
     → ThreadChangesOnlyTheseBlocks (blocks_of_pair_address (pair_address_written_by_removal old pair first)) old mid → ChangesOnlyBlockMap mid new → SparesOtherBlocksInRemoval old path new
 file_spares old mid new path pair id first take is alters w only s given e =
     let k = written old path pair id first take.can is given e new.pairs (λ whole. subst (λ (ps : List Pair). Contains ps (thread_pair_at_index old (pair - 1)) → ⊥) (sym only.pairs) (alters whole)) in

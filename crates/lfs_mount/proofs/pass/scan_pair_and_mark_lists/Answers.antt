@@ -19,7 +19,7 @@ use Rattle.lfs_mount.specs.KnownView.{directory_scan_view}
 use Rattle.lfs_mount.specs.ListsView.{file_lists_view}
 use Rattle.lfs_mount.specs.Marking.{MarksFreeBlocksOfLists, file_lists_of_raw_slots}
 use Rattle.lfs_mount.specs.Scanned.{directory_scan_after_slots}
-use Rattle.lfs_mount.specs.Taken.{AddsPairToDirectoryScan, slots_after_superblock, entries_of_described_pair}
+use Rattle.lfs_mount.specs.Taken.{AddsPairToDirectoryScan, slots_after_superblock, slots_of_pair_without_superblock_and_moved}
 use Rattle.lfs_mount.specs.Reaching.{DirectoryVertexWithSoundnessAndBranches}
 use Rattle.lfs_mount.specs.declared.pass.PairBeforeSlotsAreRead.{PairBeforeSlotsAreRead}
 use Rattle.lfs_mount.proofs.Called.{read_on, same_error}
@@ -27,11 +27,11 @@ use Rattle.lfs_mount.proofs.pass.scan_pair_and_mark_lists.Goals as goal
 
 -- the lists are those of the slots that are kept
 lists_taken : (disk : Disk) (firsts : List (ℕ × ℕ)) (member : PairBeforeSlotsAreRead) (known new : Name × DirectoryVertexWithSoundnessAndBranches) (sets marked : BlockStateList) (held : RawPairContent) (entries : List RawSlot)
-    → content_after_log_entries empty_raw_pair_content (log_entries_of_block (block_bytes_on_disk disk member.active)) ≡ Some held → entries_of_described_pair member held.slots ≡ Some entries → AddsPairToDirectoryScan disk firsts member known sets new marked
+    → content_after_log_entries empty_raw_pair_content (log_entries_of_block (block_bytes_on_disk disk member.active)) ≡ Some held → slots_of_pair_without_superblock_and_moved member held.slots ≡ Some entries → AddsPairToDirectoryScan disk firsts member known sets new marked
     → MarksFreeBlocksOfLists disk sets (file_lists_of_raw_slots entries) marked
 lists_taken disk firsts member known new sets marked held entries content kept t =
     subst (λ (es : List RawSlot). MarksFreeBlocksOfLists disk sets (file_lists_of_raw_slots es) marked)
-    (same_Some t.entries entries (sym t.kept ∙ ap (λ (c : RawPairContent). entries_of_described_pair member c.slots) (same_Some t.held held (sym t.content ∙ content)) ∙ kept)) t.lists
+    (same_Some t.entries entries (sym t.kept ∙ ap (λ (c : RawPairContent). slots_of_pair_without_superblock_and_moved member c.slots) (same_Some t.held held (sym t.content ∙ content)) ∙ kept)) t.lists
 
 -- whatever the order of names
 lists_in_order : (order : NameOrder) (disk : Disk) {old new : BlockStateList} {all : List (ℕ × ℕ)} → MarksFreeBlocksOfLists disk old all new → MarksFreeBlocksOfLists (disk_with_name_order order disk) old all new

@@ -1,7 +1,7 @@
 use Rattle.std.proofs.Common.{subst, sym}
 use Rattle.std.proofs.lemmas.Result.{IfErr-weaker, IfOk-weaker}
 use Rattle.lfs_device.specs.Shown.{disk_of_geometry_and_blocks as shown}
-use Rattle.lfs_tool.specs.ExcerptView.{excerpt_blocks, geometry_of_excerpt_device}
+use Rattle.lfs_tool.specs.ExcerptView.{blocks_of_excerpt_filled_up, geometry_of_excerpt_device}
 use Rattle.lfs_tool.specs.Listings.{RefusesToList}
 use Rattle.lfs_tool.proofs.Excerpts.{kind_not_mounted, lists_by_excerpt, no_image_of_blocks, refuses_by_excerpt}
 use Rattle.lfs_tool.proofs.listings.listing_lines_of_tree_in_block_excerpts.Goals as goal
@@ -28,4 +28,4 @@ returns-in-Err-clause-err c = λ bytes are.
 pub returns-in-Ok-clause-kinds : goal.returns-in-Ok-clause-kinds
 returns-in-Ok-clause-kinds c =
     let e = c.in-Ok in
-    IfErr-weaker c.listing_lines_of_excerpt.result _ _ (λ error none. kind_not_mounted (shown (geometry_of_excerpt_device e.excerpt) (excerpt_blocks e.excerpt)) error none) c.listing_lines_of_excerpt.ensures.err
+    IfErr-weaker c.listing_lines_of_excerpt.result _ _ (λ error none. kind_not_mounted (shown (geometry_of_excerpt_device e.excerpt) (blocks_of_excerpt_filled_up e.excerpt)) error none) c.listing_lines_of_excerpt.ensures.err

@@ -1,7 +1,7 @@
 use Rattle.std.proofs.Common.{arith, subst, sym}
 use Rattle.std.specs.Prelude.{OnOk}
 use Rattle.std.proofs.lemmas.Result.{err_from_is_err_and}
-use Rattle.lfs_operations.specs.Changing.{IsPairAltered, WritesPairAndTwoFreeBlocks}
+use Rattle.lfs_operations.specs.Changing.{IsPairNotKeptUnchanged, WritesPairAndTwoFreeBlocks}
 use Rattle.lfs_operations.specs.Creating.{CanCreateFileInPair, IsFileCreated, tree_with_new_file}
 use Rattle.lfs_operations.specs.Making.{HasSoManyFreeBlocks}
 use Rattle.lfs_thread.specs.Kept.{KeptThread}
@@ -52,7 +52,7 @@ returns-clause-does g c =
     let e = c.create_file.ensures in
     create_does t c.args.root c.requires.rests c.args.path.now c.show_path_names_are_valid_to_proof.ensures c.show_block_facts_to_proof.ensures.large c.show_block_facts_to_proof.ensures.bytes 2 c.requires.can name spot place mid.kept.history new c.create_file.result c.show_path_comes_from_bytes_to_proof.ensures.0 c.show_path_comes_from_bytes_to_proof.ensures.1
     read.same read.only.reads (subst (λ k. WritesPairAndTwoFreeBlocks k spot.pair new.kept) is e.device)
-    (subst (λ k. OnOk c.create_file.result ((can : CanCreateFileInPair k spot.pair spot.id name) → IsFileCreated k new.kept can.path name)) is e.created) (subst (λ k. OnOk c.create_file.result (IsPairAltered k spot.pair new.kept)) is e.alters)
+    (subst (λ k. OnOk c.create_file.result ((can : CanCreateFileInPair k spot.pair spot.id name) → IsFileCreated k new.kept can.path name)) is e.created) (subst (λ k. OnOk c.create_file.result (IsPairNotKeptUnchanged k spot.pair new.kept)) is e.alters)
     (reported_with_room mid.kept new.kept c.create_file.result (subst (λ (k : KeptThread). HasSoManyFreeBlocks 2 k.map) (sym is) (room_for t.kept 2 c.requires.rests.held.sound c.requires.can.room)) e.errors.reports.reports) (works_put new c.create_file.result e.errors.reports.failed)
     (subst (λ k. (can : CanCreateFileInPair k spot.pair spot.id name) → SurvivesWithOldOrNewTree k new.kept (tree_with_new_file k can.path name)) is e.survives)
 

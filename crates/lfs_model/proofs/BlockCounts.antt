@@ -20,16 +20,6 @@ used-taken sets b free = let e = count_by-set is_used sets b Free InFlight free 
 pub in_flight-freed : (sets : BlockStateList) (b : ℕ) → IsBlockInFlight sets b → in_flight_block_count (set sets b Free) + 1 ≡ in_flight_block_count sets
 in_flight-freed sets b flying = let e = count_by-set is_block_state_in_flight sets b InFlight Free flying in omega (arith, e)
 
-pub used-freed_in_flight : (sets : BlockStateList) (b : ℕ) → IsBlockInFlight sets b → used_count (set sets b Free) ≡ used_count sets
-used-freed_in_flight sets b flying = let e = count_by-set is_used sets b InFlight Free flying in omega (arith, e)
-
-pub used-settled : (sets : BlockStateList) (b : ℕ) → IsBlockInFlight sets b → used_count (set sets b Used) ≡ used_count sets + 1
-used-settled sets b flying = let e = count_by-set is_used sets b InFlight Used flying in omega (arith, e)
-
--- a used block is released
-pub used-freed : (sets : BlockStateList) (b : ℕ) → IsBlockMarkedUsedInMap sets b → used_count (set sets b Free) + 1 ≡ used_count sets
-used-freed sets b used = let e = count_by-set is_used sets b Used Free used in omega (arith, e)
-
 -- ---- at most so many
 
 -- whether a block is in that state

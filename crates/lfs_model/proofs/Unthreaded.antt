@@ -91,21 +91,12 @@ unthread disk new chain front p o q back r c = record { taken = taken; ready = r
     none : at.site.right ≡ []
     none = run_ends at.site.left at.pair at.site.right at.is_site.run (ap (λ (x : Pair). is_hard_tail x.content.tail) same.pair ∙ c.soft)
 
-    after_is : at.site.after ≡ o ∷ back
-    after_is = sym (ap (λ (z : List Pair). z ++ at.site.after) none) ∙ same.back
-
     site : Site
     site = last_site at.site.chain at.site.before at.site.left back
 
     -- the thread with any pairs there
     there : (xs : List Pair) → chain ++ (front ++ (xs ++ back)) ≡ thread_at (last_site at.site.chain at.site.before at.site.left back) xs
     there xs = sym (append_assoc chain front (xs ++ back)) ∙ ap (λ z. z ++ (xs ++ back)) (sym same.front) ∙ append_assoc at.site.chain (at.site.before ++ at.site.left) (xs ++ back)
-
-    Old : List Pair
-    Old = thread_at (last_site at.site.chain at.site.before at.site.left back) (p ∷ ([] ++ o ∷ []))
-
-    New : List Pair
-    New = thread_at (last_site at.site.chain at.site.before at.site.left back) (q ∷ [])
 
     old_is : chain ++ (front ++ p ∷ o ∷ back) ≡ thread_at (last_site at.site.chain at.site.before at.site.left back) (p ∷ ([] ++ o ∷ []))
     old_is = there (p ∷ o ∷ [])

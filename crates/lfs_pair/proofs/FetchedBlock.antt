@@ -1,5 +1,5 @@
 -- Which block of a pair a fetch takes, after it has read both revisions.
-use Rattle.std.proofs.Common.{ℕ, ◌≡◌, Bool, true, false, cond, ◌&&◌, ◌||◌, List, None, Some, refl, sym, ap, ◌∙◌, subst, Ok, Err}
+use Rattle.std.proofs.Common.{ℕ, ◌≡◌, Bool, true, false, cond, ◌&&◌, ◌||◌, List, Some, refl, sym, ap, ◌∙◌, subst, Ok, Err}
 use Rattle.std.specs.Prelude.{IfOk, Result}
 use Rattle.std.specs.Option.{option_and_then}
 use Rattle.lfs_device.specs.declared.error.Error.{Error}
@@ -41,15 +41,6 @@ other_holds disk at order is none has = subst (λ (o : ℕ × ℕ). HoldsAt disk
     go true cb false e f l n h = absurd (let k = sym e ∙ n in cc)
     go false cb true e f l n h = absurd (let k = sym e ∙ h in cc)
     go false false false e f l n h = absurd (let k = sym f ∙ h in cc)
-
--- where neither block has a commit there is no content
-pub none_holds : (disk : Disk) (at order : ℕ × ℕ) → order ≡ pair_blocks_later_revision_first disk at → has_commit (block_bytes_on_disk disk order.0) ≡ false → has_commit (block_bytes_on_disk disk order.1) ≡ false → raw_content_of_pair_at disk at ≡ None
-none_holds disk at order is first second = go (is_later_revision (revision_of_block (block_bytes_on_disk disk at.0)) (revision_of_block (block_bytes_on_disk disk at.1)))
-    (sym (ap (λ (o : ℕ × ℕ). has_commit (block_bytes_on_disk disk o.0)) is) ∙ first) (sym (ap (λ (o : ℕ × ℕ). has_commit (block_bytes_on_disk disk o.1)) is) ∙ second)
-  where
-    go : (later : Bool) → has_commit (block_bytes_on_disk disk (cond later (at.1, at.0) at).0) ≡ false → has_commit (block_bytes_on_disk disk (cond later (at.1, at.0) at).1) ≡ false → raw_content_of_pair_at disk at ≡ None
-    go true e f = rw (e, f) refl
-    go false e f = rw (e, f) refl
 
 -- what a pair holds, by the block that holds
 pub content_held : (disk : Disk) (at : ℕ × ℕ) (block : ℕ) → HoldsAt disk at block → raw_content_of_pair_at disk at ≡ content_after_log_entries empty_raw_pair_content (log_entries_of_block (block_bytes_on_disk disk block))

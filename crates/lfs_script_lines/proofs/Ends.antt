@@ -1,16 +1,13 @@
 -- The ends of lines.
 use Rattle.std.proofs.Common.{◌≡◌, ◌∙◌, ◌++◌, ◌∷◌, ℕ, List, [], ap, arith, cond, false, nat_eq, refl, true}
 use Rattle.std.proofs.lemmas.Bool.Decides.{nat_tests}
-use Rattle.lfs_script_lines.specs.Lines.{byte_prepended_unless_trailing_space, without_byte_at_end, without_leading_spaces, without_trailing_spaces}
+use Rattle.lfs_script_lines.specs.Lines.{byte_prepended_unless_trailing_space, without_byte_at_end, without_trailing_spaces}
 
 same_byte : (b c : ℕ) → b ≡ c → nat_eq b c ≡ true
 same_byte b c is = grind (arith, nat_tests)
 
 other_byte : (b c : ℕ) → (b ≡ c → ⊥) → nat_eq b c ≡ false
 other_byte b c other = grind (arith, nat_tests)
-
-pub without_byte_at_end-empty : (end : ℕ) → without_byte_at_end end [] ≡ []
-without_byte_at_end-empty end = refl
 
 pub without_byte_at_end-has : (end b : ℕ) (rest : List ℕ) → b ≡ end → without_byte_at_end end (rest ++ b ∷ []) ≡ rest
 without_byte_at_end-has end b [] is = ap (λ t. cond t [] (b ∷ [])) (same_byte b end is)
@@ -21,12 +18,6 @@ pub without_byte_at_end-other : (end b : ℕ) (rest : List ℕ) → (b ≡ end �
 without_byte_at_end-other end b [] other = ap (λ t. cond t [] (b ∷ [])) (other_byte b end other)
 without_byte_at_end-other end b (c ∷ []) other = ap (λ (w : List ℕ). c ∷ w) (without_byte_at_end-other end b [] other)
 without_byte_at_end-other end b (c ∷ d ∷ rest) other = ap (λ (w : List ℕ). c ∷ w) (without_byte_at_end-other end b (d ∷ rest) other)
-
-pub before-space : (b : ℕ) (rest : List ℕ) → b ≡ 0x20 → without_leading_spaces (b ∷ rest) ≡ without_leading_spaces rest
-before-space b rest is = ap (λ t. cond t (without_leading_spaces rest) (b ∷ rest)) (same_byte b 0x20 is)
-
-pub before-other : (b : ℕ) (rest : List ℕ) → (b ≡ 0x20 → ⊥) → without_leading_spaces (b ∷ rest) ≡ b ∷ rest
-before-other b rest other = ap (λ t. cond t (without_leading_spaces rest) (b ∷ rest)) (other_byte b 0x20 other)
 
 pub behind-space : (b : ℕ) (rest : List ℕ) → b ≡ 0x20 → without_trailing_spaces (rest ++ b ∷ []) ≡ without_trailing_spaces rest
 behind-space b [] is = ap (λ t. cond t [] (b ∷ [])) (same_byte b 0x20 is)

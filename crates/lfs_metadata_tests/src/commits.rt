@@ -67,7 +67,7 @@ fn build_commit<'a>(
             }
         }
     }
-    (builder.end(), builder.finish(next))
+    (builder.end_of_padded_commit(), builder.finish(next))
 }
 
 // A block of 4,096 bytes of that value, with these commits one behind the other.

@@ -140,7 +140,7 @@ fn append_changes_to_log<D: BlockDevice>(
     let mut builder = CommitBuilder::new(geometry.page, buf, pair.last, None);
     push_changes(&mut builder, changes);
     let room = geometry.block_size - pair.end as u32;
-    if pair.is_fetched || room < builder.end() {
+    if pair.is_fetched || room < builder.end_of_padded_commit() {
         return Ok(false);
     }
     let written = program_commit_at(dev, pair.active, pair.end as u32, builder)?;

@@ -70,7 +70,7 @@ pub(crate) fn program_commit_at<D: BlockDevice>(
     ensures programs { OnOk result (program_count_of_history (D.history dev.new) ≡ program_count_of_history (D.history dev.old) + 1) }
     ensures stops { IsTrueAfterAnyPowerLossSince AreBlocksLeftByPowerLossInCall (D.history dev.old) (D.history dev.new) (DiffersOnlyInBlockAsPropertyAllows block (PowerLossLeavesOldLogOrCommit builder.entry at) (D.blocks dev.old)) }
 {
-    let end = at + builder.end();
+    let end = at + builder.end_of_padded_commit();
     let next = read_four_block_bytes_at_offset(dev, block, end)?;
     let last = builder.checksum_tag_as_previous_of_next_commit(next);
     let pages = builder.finish(next)?;

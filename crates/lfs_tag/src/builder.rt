@@ -179,7 +179,7 @@ impl<'a> CommitBuilder<'a> {
 
     /// Returns where the padded commit will end, in bytes from the buffer's start. The end may be
     /// past the buffer's. Returns `u32::MAX` where the end is past that.
-    pub fn end(&self) -> u32
+    pub fn end_of_padded_commit(&self) -> u32
         ensures { result ≡ min (padded_commit_end self.now) (2 ^ 32 - 1) }
     {
         u32::try_from(self.padded_end()).unwrap_or(u32::MAX)

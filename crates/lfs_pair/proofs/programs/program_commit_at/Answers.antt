@@ -42,14 +42,14 @@ returns-in_err-prog-clause-erases g c =
 
 pub returns-in_err-prog-clause-stops : goal.returns-in_err-prog-clause-stops
 returns-in_err-prog-clause-stops g c =
-    let end : c.args.at + c.end.result ≡ c.args.at + padded_commit_end c.args.builder = whole_end _ _ _ _ _ _ c.end.ensures c.requires.ends (g.D.BlockDevice.geometry c.args.dev.now).valid in
+    let end : c.args.at + c.end_of_padded_commit.result ≡ c.args.at + padded_commit_end c.args.builder = whole_end _ _ _ _ _ _ c.end_of_padded_commit.ensures c.requires.ends (g.D.BlockDevice.geometry c.args.dev.now).valid in
     let size = (g.met.D.BlockDevice.shape c.args.dev.now).sizes c.args.block c.requires.in_device in
     goes_on (IsTrueAfterAnyPowerLossSince-read_count_of_history AreBlocksLeftByPowerLossInCall-read c.read_four_block_bytes_at_offset.ensures.device.reads (AreBlocksEqualExceptOne-refl _ _, inl refl)) c.prog.ensures.history
     (λ disk left. left_in_block disk c.read_four_block_bytes_at_offset.ensures.device.same (goes_into c.in_ok-pages.ensures.commit c.in_ok-pages.ensures.size c.requires.goes size c.requires.ends end c.in_ok-next.ensures.bytes) left)
 
 pub returns-clause-adds : goal.returns-clause-adds
 returns-clause-adds g c =
-    let end : c.args.at + c.end.result ≡ c.args.at + padded_commit_end c.args.builder = whole_end _ _ _ _ _ _ c.end.ensures c.requires.ends (g.D.BlockDevice.geometry c.args.dev.now).valid in
+    let end : c.args.at + c.end_of_padded_commit.result ≡ c.args.at + padded_commit_end c.args.builder = whole_end _ _ _ _ _ _ c.end_of_padded_commit.ensures c.requires.ends (g.D.BlockDevice.geometry c.args.dev.now).valid in
     let shape = g.met.D.BlockDevice.shape c.args.dev.now in
     let size = shape.sizes c.args.block c.requires.in_device in
     let old = g.D.BlockDevice.blocks c.args.dev.now in
@@ -67,12 +67,12 @@ pub returns-clause-written : goal.returns-clause-written
 returns-clause-written g c =
     let old : AreBytesUnprogrammed (g.D.BlockDevice.history c.read_four_block_bytes_at_offset.new.dev) c.args.block c.args.at (g.D.BlockDevice.geometry c.args.dev.now).block_size =
     AreBytesUnprogrammed-read_count_of_history c.args.block c.read_four_block_bytes_at_offset.ensures.device.reads c.requires.unprogrammed in
-    let end : c.args.at + c.end.result ≡ c.args.at + padded_commit_end c.args.builder = whole_end _ _ _ _ _ _ c.end.ensures c.requires.ends (g.D.BlockDevice.geometry c.args.dev.now).valid in
+    let end : c.args.at + c.end_of_padded_commit.result ≡ c.args.at + padded_commit_end c.args.builder = whole_end _ _ _ _ _ _ c.end_of_padded_commit.ensures c.requires.ends (g.D.BlockDevice.geometry c.args.dev.now).valid in
     record {
       end_is = search rules;
       last_is = search rules;
       whole_pages = search rules;
-      unprogrammed = subst (λ (k : Geometry). AreBytesUnprogrammed (g.D.BlockDevice.history c.prog.new.self) c.args.block (c.args.at + c.end.result) k.block_size) (sym (c.prog.ensures.geometry ∙ c.read_four_block_bytes_at_offset.ensures.device.geometry))
+      unprogrammed = subst (λ (k : Geometry). AreBytesUnprogrammed (g.D.BlockDevice.history c.prog.new.self) c.args.block (c.args.at + c.end_of_padded_commit.result) k.block_size) (sym (c.prog.ensures.geometry ∙ c.read_four_block_bytes_at_offset.ensures.device.geometry))
           (is_byte_unprogrammed-program {low = c.args.at} c.prog.ensures.history old (omega arith) (at_least _ _ _ _ c.in_ok-pages.ensures.size end));
     }
 
@@ -84,7 +84,7 @@ returns-clause-erases g c =
 
 pub returns-clause-stops : goal.returns-clause-stops
 returns-clause-stops g c =
-    let end : c.args.at + c.end.result ≡ c.args.at + padded_commit_end c.args.builder = whole_end _ _ _ _ _ _ c.end.ensures c.requires.ends (g.D.BlockDevice.geometry c.args.dev.now).valid in
+    let end : c.args.at + c.end_of_padded_commit.result ≡ c.args.at + padded_commit_end c.args.builder = whole_end _ _ _ _ _ _ c.end_of_padded_commit.ensures c.requires.ends (g.D.BlockDevice.geometry c.args.dev.now).valid in
     let size = (g.met.D.BlockDevice.shape c.args.dev.now).sizes c.args.block c.requires.in_device in
     goes_on (IsTrueAfterAnyPowerLossSince-read_count_of_history AreBlocksLeftByPowerLossInCall-read c.read_four_block_bytes_at_offset.ensures.device.reads (AreBlocksEqualExceptOne-refl _ _, inl refl)) c.prog.ensures.history
     (λ disk left. left_in_block disk c.read_four_block_bytes_at_offset.ensures.device.same (goes_into c.in_ok-pages.ensures.commit c.in_ok-pages.ensures.size c.requires.goes size c.requires.ends end c.in_ok-next.ensures.bytes) left)

@@ -27,6 +27,10 @@ pub enum Lookup {
 
 const BLOCK_MAX: usize = 65536;
 
+// For how many slots there is room before the first entry is taken, so that most searches ask for memory
+// once.
+const SLOTS_AT_FIRST: usize = 64;
+
 // The order of the wanted name and each slot's own name; `None` where the slot has no name, or the
 // superblock's.
 type Ranks = Vec<Option<Ordering>>;
@@ -37,7 +41,7 @@ type Ranks = Vec<Option<Ordering>>;
 ///
 /// The result counts where the log isn't malformed and its block has at most 65,536 bytes. The
 /// log's entries are taken once, and each name is compared once. The call takes a byte of memory
-/// for each slot that the log ever has.
+/// for each slot that the log ever has, and for 64 at least.
 ///
 /// Errors: `AllocError` where that memory isn't granted.
 pub fn find(
@@ -52,7 +56,7 @@ pub fn find(
     if BLOCK_MAX < log.block().len() {
         return Ok(Lookup::Place(0));
     }
-    let mut ranks = Vec::new(alloc);
+    let mut ranks = Vec::with_capacity(alloc, SLOTS_AT_FIRST)?;
     sought_name_comparisons_of_slots(&mut ranks, log, order, name)?;
     let found = first_slot_whose_name_compares_as_wanted(&ranks, true, skip);
     if found < ranks.len() {

@@ -32,3 +32,7 @@ mod Runs
 mod Refusing
 mod ImagesMade
 mod Walking
+pub mod AmountsTold
+pub mod PaddedBytes
+pub mod NewImageCalls
+pub mod WrittenParts

@@ -36,7 +36,7 @@ erased zero i = omega arith
 erased (suc n) zero = omega arith
 erased (suc n) (suc i) = erased n i
 
-bytes_before : (xs : List ℕ) (n : ℕ) → AreAllNumbersBytes xs → AreAllNumbersBytes (xs ++ replicate n 255)
+pub bytes_before : (xs : List ℕ) (n : ℕ) → AreAllNumbersBytes xs → AreAllNumbersBytes (xs ++ replicate n 255)
 bytes_before [] n are i = erased n i
 bytes_before (x ∷ xs) n are zero = are 0
 bytes_before (x ∷ xs) n are (suc i) = bytes_before xs n (λ j. are (suc j)) i

@@ -34,3 +34,7 @@ pub mod MadeImages
 pub mod CheckResults
 pub mod CheckedLines
 pub mod ProgressLines
+pub mod AmountsTold
+pub mod NewImageBytes
+pub mod NewImageDevice
+pub mod NewImageShape

@@ -1,12 +1,16 @@
 ghost use Rattle.std.specs.Prelude.{◌≡◌, ◌≢◌, IfErr, IfOk, IsErrOf, OnOk};
 ghost use Rattle.lfs_fs.specs.SessionView.{system_state_of_session_view};
+ghost use Rattle.lfs_tool.specs.AmountsTold.{amounts_of_entries, told_of_all_done};
+ghost use Rattle.lfs_tool.specs.NewImageDevice.{bytes_of_new_image_device};
 ghost use Rattle.lfs_tool.specs.Reports.{ReportsWriterFaults};
 ghost use Rattle.lfs_tool.specs.MadeImages.{AreImageBytesOfEntries, SessionBeginsOnFreshDisk, RefusesCopyOfSource, HasWrittenBeginningOfImage, HasWrittenImageOfSource, RefusesCopyOfEntries, ReportsSourceFaults};
 ghost use Rattle.lfs_tool_folders.specs.Entries.{AreAllEntriesOfSource};
 
+use crate::new_image_device::NewImageDevice;
+use crate::output::write_padded_bytes_and_flush;
 use crate::source_entries::copy_entries_into_session;
-use crate::{FollowsProgress, ToolError, ToolOutput, write_bytes_and_flush};
-use lfs_device::{Error, Geometry, RamDevice};
+use crate::{FollowsProgress, ToolError, ToolOutput};
+use lfs_device::{Error, Geometry};
 use lfs_fs::{Session, format_ordered};
 use lfs_tool_folders::{Source, SourceEntry, SourceError, read_tree};
 use std::alloc::Global;
@@ -31,11 +35,11 @@ pub(crate) fn read_source_entries<S: Source>(
 fn begin_session_on_fresh_disk(
     alloc: Global,
     geometry: Geometry,
-) -> Result<Session<RamDevice>, Error>
+) -> Result<Session<NewImageDevice>, Error>
     ensures begins { IfOk result (λ s. SessionBeginsOnFreshDisk geometry (system_state_of_session_view s)) }
     ensures err { IfErr result (λ e. e ≡ Error.NoMemory) }
 {
-    let device = RamDevice::blank(alloc, geometry)?;
+    let device = NewImageDevice::new(alloc, geometry)?;
     match format_ordered(alloc, device, geometry.order) {
         Ok(session) => Ok(session),
         // The device had no fault, so memory ran out.
@@ -44,18 +48,19 @@ fn begin_session_on_fresh_disk(
 }
 
 // Makes the image that holds these entries.
-pub(crate) fn image_bytes_of_entries<F: FollowsProgress>(
+pub(crate) fn new_image_of_entries<F: FollowsProgress>(
     alloc: Global,
     geometry: Geometry,
     entries: &[SourceEntry],
     progress: &mut F,
-) -> Result<Vec<u8>, Error>
-    ensures ok { IfOk result (λ v. AreImageBytesOfEntries geometry entries.now v.items) }
+) -> Result<NewImageDevice, Error>
+    ensures ok { IfOk result (λ d. AreImageBytesOfEntries geometry entries.now (bytes_of_new_image_device d)) }
+    ensures told { OnOk result (F.told progress.new ≡ told_of_all_done (amounts_of_entries entries.now) (F.told progress.old)) }
     ensures err { IfErr result (λ e. e ≢ Error.NoMemory → RefusesCopyOfEntries geometry entries.now e) }
 {
     let mut session = begin_session_on_fresh_disk(alloc, geometry)?;
     copy_entries_into_session(alloc, &mut session, entries, progress)?;
-    Ok(session.unmount().to_bytes())
+    Ok(session.unmount())
 }
 
 /// Writes an image of a geometry that holds what a source has. The names in its directories have
@@ -82,6 +87,9 @@ pub fn create<S: Source, W: ToolOutput, F: FollowsProgress>(
 ) -> Result<(), ToolError>
     ensures ok { OnOk result (HasWrittenImageOfSource geometry (S.shown source.old) (W.contents out.old) (W.contents out.new)) }
 
+    // The follower is told of the whole, and of each entry.
+    ensures told { OnOk result ((entries : _) × (AreAllEntriesOfSource (S.shown source.old) entries × (F.told progress.new ≡ told_of_all_done (amounts_of_entries entries) (F.told progress.old)))) }
+
     // The writer isn't called, unless it fails: then a beginning of the image may be written.
     ensures writer { ReportsWriterFaults W.ToolOutput out.old out.new result }
     ensures beginning { IsErrOf result ToolError.Output
@@ -92,8 +100,8 @@ pub fn create<S: Source, W: ToolOutput, F: FollowsProgress>(
     ensures source { ReportsSourceFaults (S.faults source.old) (S.faults source.new) (S.shown source.old) result }
 {
     let entries = read_source_entries(alloc, source)?;
-    match image_bytes_of_entries(alloc, geometry, entries.as_slice(), progress) {
-        Ok(image) => write_bytes_and_flush(out, image.as_slice()),
+    match new_image_of_entries(alloc, geometry, entries.as_slice(), progress) {
+        Ok(image) => write_padded_bytes_and_flush(out, image.bytes_in_memory(), image.size()),
         Err(error) => Err(ToolError::Fs(error)),
     }
 }

@@ -29,6 +29,7 @@ mod lines;
 mod listings;
 mod modes;
 mod needed_blocks;
+mod new_image_device;
 mod noted_files;
 mod old_image;
 mod output;

@@ -4,7 +4,7 @@ ghost use Rattle.std.specs.Prelude.{◌≡◌, ◌<◌, ◌≤◌, IfOk, IfSome,
 ghost use Rattle.lfs_tool.specs.Needed.{IsEnoughBlocksForEntries, IsTooFewBlocksForEntries, IsJustEnoughBlocksForEntries};
 
 use crate::Line;
-use crate::creation::image_bytes_of_entries;
+use crate::creation::new_image_of_entries;
 use crate::input::IMAGE_MAX;
 use lfs_device::{Error, Geometry};
 use lfs_tool_folders::SourceEntry;
@@ -28,7 +28,7 @@ fn has_room_for_entries(
     ensures small { IfOk result (λ has_room_for_entries. has_room_for_entries ≡ false → IsTooFewBlocksForEntries line.now entries.now count) }
 {
     let geometry = Geometry::new(line.block_size, line.page, count)?;
-    match image_bytes_of_entries(
+    match new_image_of_entries(
         alloc,
         geometry.with_name_order(line.order),
         entries,

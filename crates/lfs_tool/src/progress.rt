@@ -1,8 +1,10 @@
-ghost use Rattle.std.specs.Prelude.{◌≡◌, ◌≤◌, ◌<◌, ◌+◌, ◌++◌, ◌⊎◌, false, length, true};
+ghost use Rattle.std.specs.Prelude.{◌≡◌, ◌≤◌, ◌<◌, ◌+◌, ◌++◌, ◌⊎◌, false, length, true, None, Option, Some};
+ghost use Rattle.std.specs.Option.{option_and_then};
 ghost use Rattle.std.specs.Duration.{as_nanos};
 ghost use Rattle.std.specs.Fmt.{decimal};
 ghost use Rattle.arrayvec.specs.ArrayString.{array_string_len};
 ghost use Rattle.lfs_tool.specs.Reports.{WritesTextOrFails};
+ghost use Rattle.lfs_tool.specs.AmountsTold.{AmountsTold, amounts_told, told_with_more_done, told_with_whole};
 ghost use Rattle.lfs_tool.specs.ProgressLines.{no_amount, part_of_whole, progress_line, sum_of_amounts};
 
 use crate::{ToolOutput, write_bytes_and_flush};
@@ -44,11 +46,16 @@ impl FilesAndBytes {
 
 /// Is told how far the making or the unpacking of an image is.
 pub trait FollowsProgress {
+    // What it was told, where it keeps that.
+    ghost told: { Self → Option AmountsTold } = { λ _. None };
+
     /// So many files and bytes are to be done.
-    fn begin(&mut self, whole: FilesAndBytes);
+    fn begin(&mut self, whole: FilesAndBytes)
+        ensures told { told self.new ≡ told_with_whole whole (told self.old) };
 
     /// So many more are done.
-    fn add(&mut self, more: FilesAndBytes);
+    fn add(&mut self, more: FilesAndBytes)
+        ensures told { told self.new ≡ told_with_more_done more (told self.old) };
 }
 
 impl FollowsProgress for () {
@@ -58,6 +65,8 @@ impl FollowsProgress for () {
 }
 
 impl<F: FollowsProgress> FollowsProgress for Option<F> {
+    ghost told = { option_and_then F.told };
+
     fn begin(&mut self, whole: FilesAndBytes) {
         if let Some(follower) = self {
             follower.begin(whole);
@@ -195,6 +204,8 @@ impl<W: ToolOutput + Drop, C: Clock + Drop> Progress<W, C> {
 }
 
 impl<W: ToolOutput + Drop, C: Clock + Drop> FollowsProgress for Progress<W, C> {
+    ghost told = { λ p. Some (amounts_told p.whole p.done) };
+
     fn begin(&mut self, whole: FilesAndBytes)
         ensures amounts { (self.new.whole ≡ whole) × (self.new.done ≡ self.old.done) }
         ensures line { (self.new.out ≡ self.old.out) ⊎ WritesTextOrFails W.ToolOutput (progress_line self.new.done self.new.whole) self.old.out self.new.out }

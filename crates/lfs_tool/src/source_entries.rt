@@ -7,11 +7,14 @@ ghost use Rattle.lfs_model.specs.State.{Healthy, session_after_mount};
 ghost use Rattle.lfs_model.specs.Tree.{FileNode};
 ghost use Rattle.lfs_fs.specs.FlagsView.{flags_view};
 ghost use Rattle.lfs_fs.specs.SessionView.{system_state_of_session_view};
+ghost use Rattle.lfs_tool.specs.AmountsTold.{amount_of_entry, amounts_of_entries, sum_with_amounts, told_of_all_done};
+ghost use Rattle.lfs_tool.specs.ProgressLines.{no_amount};
 ghost use Rattle.lfs_tool.specs.AppliedOperations.{AreOperationsApplied, AppliesOperationsUntilError, IsHealthyWithoutOpenFile, IsFirstRefusalAmongOperations, copying_operations_of_entry, copying_operations_of_entries};
 
+use crate::new_image_device::NewImageDevice;
 use crate::{FilesAndBytes, FollowsProgress};
 use bitflags::Flags;
-use lfs_device::{Error, RamDevice};
+use lfs_device::Error;
 use lfs_fs::{OpenFlags, Session};
 use lfs_tool_folders::SourceEntry;
 use std::alloc::Global;
@@ -28,7 +31,7 @@ fn flags_for_new_file() -> OpenFlags
 // Makes a file with these bytes.
 fn create_file_in_session(
     alloc: Global,
-    session: &mut Session<RamDevice>,
+    session: &mut Session<NewImageDevice>,
     path: &[u8],
     bytes: &[u8],
 ) -> Result<(), Error>
@@ -43,7 +46,7 @@ fn create_file_in_session(
 // Makes a file with its bytes, or a folder without names.
 fn copy_entry_into_session(
     alloc: Global,
-    session: &mut Session<RamDevice>,
+    session: &mut Session<NewImageDevice>,
     entry: &SourceEntry,
 ) -> Result<(), Error>
     requires { IsHealthyWithoutOpenFile (system_state_of_session_view session.old) }
@@ -56,7 +59,9 @@ fn copy_entry_into_session(
 }
 
 // Returns what an entry is of the whole.
-fn file_and_byte_counts_of_entry(entry: &SourceEntry) -> FilesAndBytes {
+fn file_and_byte_counts_of_entry(entry: &SourceEntry) -> FilesAndBytes
+    ensures { result ≡ amount_of_entry entry.now }
+{
     match &entry.bytes {
         Some(bytes) => FilesAndBytes {
             files: 1,
@@ -67,7 +72,9 @@ fn file_and_byte_counts_of_entry(entry: &SourceEntry) -> FilesAndBytes {
 }
 
 // Returns the whole of all entries.
-fn file_and_byte_counts_of_entries(entries: &[SourceEntry]) -> FilesAndBytes {
+fn file_and_byte_counts_of_entries(entries: &[SourceEntry]) -> FilesAndBytes
+    ensures { result ≡ sum_with_amounts no_amount (amounts_of_entries entries.now) }
+{
     let mut whole = FilesAndBytes::none();
     for entry in entries {
         whole = whole.plus(file_and_byte_counts_of_entry(entry));
@@ -78,7 +85,7 @@ fn file_and_byte_counts_of_entries(entries: &[SourceEntry]) -> FilesAndBytes {
 // Copies the entries in order, up to the first that is refused.
 pub(crate) fn copy_entries_into_session<F: FollowsProgress>(
     alloc: Global,
-    session: &mut Session<RamDevice>,
+    session: &mut Session<NewImageDevice>,
     entries: &[SourceEntry],
     progress: &mut F,
 ) -> Result<(), Error>
@@ -86,6 +93,7 @@ pub(crate) fn copy_entries_into_session<F: FollowsProgress>(
     requires mounts { (system_state_of_session_view session.old).state ≡ Healthy (session_after_mount empty_tree) }
     ensures carried { OnOk result (AreOperationsApplied (system_state_of_session_view session.old) (copying_operations_of_entries entries.now) (system_state_of_session_view session.new)) }
     ensures refused { IfErr result (λ e. e ≢ Error.NoMemory → IsFirstRefusalAmongOperations (system_state_of_session_view session.old) (copying_operations_of_entries entries.now) e) }
+    ensures told { OnOk result (F.told progress.new ≡ told_of_all_done (amounts_of_entries entries.now) (F.told progress.old)) }
 {
     progress.begin(file_and_byte_counts_of_entries(entries));
     for entry in entries {

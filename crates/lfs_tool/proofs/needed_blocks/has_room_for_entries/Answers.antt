@@ -4,6 +4,7 @@ use Rattle.lfs_device.specs.declared.geometry.Geometry.{Geometry}
 use Rattle.lfs_model.specs.declared.order.NameOrder.TheVariants.{LongerFirst}
 use Rattle.lfs_tool_line.specs.declared.line.Line.{Line}
 use Rattle.lfs_tool.specs.MadeImages.{RefusesCopyOfEntries}
+use Rattle.lfs_tool.specs.NewImageDevice.{bytes_of_new_image_device}
 use Rattle.lfs_tool.specs.Needed.{IsGeometryOfCommandLineWithBlockCount}
 use Rattle.lfs_tool.proofs.needed_blocks.has_room_for_entries.Goals as goal
 
@@ -18,7 +19,7 @@ pub returns-in-Ok-clause-room : goal.returns-in-Ok-clause-room
 returns-in-Ok-clause-room c = λ _. record {
   geometry = c.with_name_order.result;
   sizes = sized c.args.line.now c.args.count c.in_ok-geometry.geometry c.with_name_order.result c.in_ok-geometry.ensures c.with_name_order.ensures;
-  image = c.in-Ok._image.items;
+  image = bytes_of_new_image_device c.in-Ok._image;
   left = c.in-Ok.ensures.ok;
 }
 

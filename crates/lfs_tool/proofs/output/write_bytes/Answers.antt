@@ -1,6 +1,6 @@
 use Rattle.std.proofs.Common.{rules}
 use Rattle.lfs_tool.proofs.KnownBytes.{appends_more}
-use Rattle.lfs_tool.proofs.output.write_bytes_and_flush.Goals as goal
+use Rattle.lfs_tool.proofs.output.write_bytes.Goals as goal
 
 pub loop-at-preserved : goal.loop-at-preserved
 loop-at-preserved g c = record {

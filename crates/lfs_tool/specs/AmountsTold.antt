@@ -1,0 +1,49 @@
+-- What a follower of long work was told.
+use Rattle.std.specs.Prelude.{◌≡◌, ℕ, List, [], ◌∷◌, Option, Some, None, length, map}
+use Rattle.std.specs.Option.{option_map}
+use Rattle.lfs_tool_folders.specs.MemorySources.{optional_bytes_view}
+use Rattle.lfs_tool_folders.specs.declared.entries.SourceEntry.{SourceEntry}
+use Rattle.lfs_tool.specs.ProgressLines.{no_amount, sum_of_amounts}
+use Rattle.lfs_tool.specs.declared.progress.FilesAndBytes.{FilesAndBytes}
+
+-- how much there is to do, and how much of it is done
+pub record AmountsTold : Type 0 where
+  pub whole : FilesAndBytes
+  pub done : FilesAndBytes
+
+abbrev pub amounts_told : FilesAndBytes → FilesAndBytes → AmountsTold
+amounts_told whole done = record { whole = whole; done = done }
+
+-- after it is told how much there is to do
+abbrev pub told_with_whole : FilesAndBytes → Option AmountsTold → Option AmountsTold
+told_with_whole whole told = option_map (λ t. amounts_told whole t.done) told
+
+-- after it is told how much more is done
+abbrev pub told_with_more_done : FilesAndBytes → Option AmountsTold → Option AmountsTold
+told_with_more_done more told = option_map (λ t. amounts_told t.whole (sum_of_amounts t.done more)) told
+
+-- after it is told of each of these amounts that it is done
+abbrev pub told_with_each_done : List FilesAndBytes → Option AmountsTold → Option AmountsTold
+told_with_each_done [] told = told
+told_with_each_done (a ∷ amounts) told = told_with_each_done amounts (told_with_more_done a told)
+
+-- the sum of these amounts, and of one before them
+abbrev pub sum_with_amounts : FilesAndBytes → List FilesAndBytes → FilesAndBytes
+sum_with_amounts sum [] = sum
+sum_with_amounts sum (a ∷ amounts) = sum_with_amounts (sum_of_amounts sum a) amounts
+
+-- after it is told how much these are together, and of each that it is done
+abbrev pub told_of_all_done : List FilesAndBytes → Option AmountsTold → Option AmountsTold
+told_of_all_done amounts told = told_with_each_done amounts (told_with_whole (sum_with_amounts no_amount amounts) told)
+
+-- ---- the amounts of entries
+
+abbrev pub amount_of_file_or_folder : Option (List ℕ) → FilesAndBytes
+amount_of_file_or_folder None = no_amount
+amount_of_file_or_folder (Some bytes) = record { files = 1; bytes = length bytes }
+
+abbrev pub amount_of_entry : SourceEntry → FilesAndBytes
+amount_of_entry e = amount_of_file_or_folder (optional_bytes_view e.bytes)
+
+abbrev pub amounts_of_entries : List SourceEntry → List FilesAndBytes
+amounts_of_entries es = map amount_of_entry es

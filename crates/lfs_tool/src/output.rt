@@ -8,7 +8,7 @@ ghost use Rattle.lfs_tool.specs.KnownBytes.{AppendsBeginningOfBytes};
 use crate::{ToolError, ToolOutput};
 
 // How many erased bytes are written at once.
-const ERASED_AT_ONCE: usize = 16_384;
+const ERASED_AT_ONCE: usize = 65_536;
 
 /// Writes the bytes, and flushes them. After an error a beginning of them was written.
 ///

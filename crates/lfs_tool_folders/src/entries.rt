@@ -22,6 +22,7 @@ pub struct SourceEntry {
 struct WaitingEntry {
     path: Vec<u8>,
     kind: SourceKind,
+    len: u64,
 }
 
 // Returns the path of a name in a folder.
@@ -76,7 +77,8 @@ fn push_names_as_waiting(
     for one in names {
         let path = join_path(alloc, folder, one.name.as_slice())?;
         let kind = one.kind;
-        push_waiting_entry(waiting, WaitingEntry { path, kind })?;
+        let len = one.len;
+        push_waiting_entry(waiting, WaitingEntry { path, kind, len })?;
     }
     Ok(())
 }
@@ -124,7 +126,7 @@ fn read_waiting_entry<S: Source>(
             Ok(None)
         }
         SourceKind::File => {
-            let bytes = source.read(alloc, one.path.as_slice())?;
+            let bytes = source.read(alloc, one.path.as_slice(), one.len)?;
             Ok(Some(bytes))
         }
     }

@@ -20,6 +20,8 @@ pub struct ListedName {
     pub name: Vec<u8>,
     /// Its kind.
     pub kind: SourceKind,
+    /// How many bytes a file had when it was listed, as far as the source knows.
+    pub len: u64,
 }
 
 /// The cause for which a source gave nothing.
@@ -51,12 +53,13 @@ pub trait Source {
         ensures fault { IsErrOf result SourceError.Fault → faults self.new ≡ suc (faults self.old) }
         ensures no_memory { IsErrOf result SourceError.NoMemory → faults self.new ≡ faults self.old };
 
-    /// Returns the bytes of a file.
+    /// Returns the bytes of a file. `len` is what its name was listed with. The file may have become longer
+    /// or shorter since, and all bytes that it has are returned.
     ///
     /// # Errors
     /// - `Fault` where the file couldn't be read.
     /// - `NoMemory` where memory isn't granted.
-    fn read(&mut self, alloc: Global, file: &[u8]) -> Result<Vec<u8>, SourceError>
+    fn read(&mut self, alloc: Global, file: &[u8], len: u64) -> Result<Vec<u8>, SourceError>
         ensures bytes { IfOk result (λ v. IfSome (shown self.old) (λ s. v.items ≡ s.bytes file.now)) }
         ensures shown { IsKnownSourceTreeUnchanged (shown self.old) (shown self.new) }
         ensures kept { OnOk result (faults self.new ≡ faults self.old) }

@@ -7,7 +7,7 @@ use crate::full_path::{full_path, full_path_joined_with_name_unless_empty};
 use crate::zeros::{number_of_zeros_refused_like_too_long_file, zeros};
 use crate::{FaultLog, ListedName, Source, SourceError, SourceKind, Tally};
 use std::alloc::{AllocError, Global};
-use std::fs::{File, FileType, OpenFile};
+use std::fs::{File, FileType, Metadata};
 use std::io::ErrorKind;
 use std::rt::Files;
 use std::{fs, io};
@@ -46,15 +46,17 @@ fn copy_name_if_utf8(alloc: Global, name: &[u8]) -> io::Result<Vec<u8>> {
     Ok(name)
 }
 
-// Returns an entry of a folder: its name, and what it is.
-fn listed_name_with_source_kind(
+// Returns an entry of a folder: its name, what it is, and how long.
+fn listed_name_with_kind_and_length(
     alloc: Global,
     name: &[u8],
-    kind: io::Result<FileType>,
+    metadata: io::Result<Metadata>,
 ) -> io::Result<ListedName> {
-    let kind = source_kind_of_file_type(kind?)?;
+    let metadata = metadata?;
+    let kind = source_kind_of_file_type(metadata.file_type())?;
     let name = copy_name_if_utf8(alloc, name)?;
-    Ok(ListedName { name, kind })
+    let len = metadata.len();
+    Ok(ListedName { name, kind, len })
 }
 
 impl<'a, R: Files + AllocGlobal + Clone + Drop> Folder<'a, R> {
@@ -103,7 +105,7 @@ impl<'a, R: Files + AllocGlobal + Clone + Drop> Folder<'a, R> {
         for entry in fs::read_dir(self.rt, full.as_str())? {
             let entry = entry?;
             let name = entry.file_name();
-            let listed = listed_name_with_source_kind(alloc, name.as_bytes(), entry.file_type());
+            let listed = listed_name_with_kind_and_length(alloc, name.as_bytes(), entry.metadata());
             if let Err(error) = &listed {
                 self.note_error_at_name(path, name.as_bytes(), error);
             }
@@ -124,14 +126,14 @@ impl<'a, R: Files + AllocGlobal + Clone + Drop> Folder<'a, R> {
         }
     }
 
-    fn read_file_bytes(&self, path: &[u8]) -> io::Result<Vec<u8>> {
+    // Returns the bytes of a file that was listed with so many.
+    fn read_file_bytes(&self, path: &[u8], len: u64) -> io::Result<Vec<u8>> {
         let full = full_path(self.rt.alloc(), self.root.as_str(), path)?;
         let file = File::open(self.rt, full.as_str())?;
-        let len = file.metadata()?.len();
         if let Some(count) = number_of_zeros_refused_like_too_long_file(len, self.size) {
             return Ok(zeros(self.rt.alloc(), count)?);
         }
-        // A file that has become longer meanwhile is too long, too.
+        // A file that has become longer since is too long, too.
         let most = self.size.saturating_add(1);
         read_at_most(self.rt.alloc(), file, len as usize, most)
     }
@@ -161,8 +163,8 @@ impl<'a, R: Files + AllocGlobal + Clone + Drop> Source for Folder<'a, R> {
         }
     }
 
-    fn read(&mut self, _alloc: Global, file: &[u8]) -> Result<Vec<u8>, SourceError> {
-        match self.read_file_bytes(file) {
+    fn read(&mut self, _alloc: Global, file: &[u8], len: u64) -> Result<Vec<u8>, SourceError> {
+        match self.read_file_bytes(file, len) {
             Ok(bytes) => Ok(bytes),
             Err(error) => Err(self.note_fault_and_return_source_error(file, error)),
         }

@@ -92,7 +92,7 @@ fn push_name_if_in_folder(
     let name = copy_bytes(alloc, name)?;
     let kind = source_kind_of_memory_entry(held);
     names
-        .push(ListedName { name, kind })
+        .push(ListedName { name, kind, len: 0 })
         .map_err(|_| SourceError::NoMemory)
 }
 
@@ -127,7 +127,7 @@ impl Source for MemorySource {
         Ok(names)
     }
 
-    fn read(&mut self, alloc: Global, file: &[u8]) -> Result<Vec<u8>, SourceError>
+    fn read(&mut self, alloc: Global, file: &[u8], _len: u64) -> Result<Vec<u8>, SourceError>
         ensures bytes { IfOk result (λ v. bytes_of_first_file_at_path (map path_and_bytes_of_memory_entry self.old.held.items) file.now ≡ Some v.items) }
         ensures held { self.new.held ≡ self.old.held }
         ensures kept { OnOk result (self.new.faults.count ≡ self.old.faults.count) }

@@ -9,7 +9,7 @@ returns-in_err-write_bytes-clause-beginning g c =
     let mid = g.W.ToolOutput.contents c.loop-written.out in
     let new = g.W.ToolOutput.contents c.write_bytes.new.out in
     erased_beginning _ mid new c.loop-written.written c.min-n.result c.args.count (omega (arith, c.min-n.ensures, c.loop-written.invariant.within)) c.loop-written.invariant.written
-    (subst (AppendsBeginningOfBytes mid new) (erased_part c.min-n.result 16384 (omega (arith, c.min-n.ensures))) c.in_err-write_bytes.ensures.beginning)
+    (subst (AppendsBeginningOfBytes mid new) (erased_part c.min-n.result 65536 (omega (arith, c.min-n.ensures))) c.in_err-write_bytes.ensures.beginning)
 
 pub loop-written-preserved : goal.loop-written-preserved
 loop-written-preserved g c =
@@ -18,5 +18,5 @@ loop-written-preserved g c =
     record {
       within = omega (arith, c.min-n.ensures, c.loop-written.invariant.within);
       same = search rules;
-      written = erased_more _ mid new c.loop-written.written c.min-n.result c.loop-written.invariant.written (subst (Appends mid new) (erased_part c.min-n.result 16384 (omega (arith, c.min-n.ensures))) c.in_ok-write_bytes.ensures.ok);
+      written = erased_more _ mid new c.loop-written.written c.min-n.result c.loop-written.invariant.written (subst (Appends mid new) (erased_part c.min-n.result 65536 (omega (arith, c.min-n.ensures))) c.in_ok-write_bytes.ensures.ok);
     }

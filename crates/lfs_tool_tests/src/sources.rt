@@ -117,7 +117,7 @@ fn real_folders_report_faults(rt: HostRuntime) -> Result<(), Fail> {
         let is_fault = matches!(folder.list(rt.alloc(), path), Err(SourceError::Fault));
         assert!(rt; is_fault, "{path:?}");
     }
-    assert!(rt; matches!(folder.read(rt.alloc(), b"/d"), Err(SourceError::Fault)));
+    assert!(rt; matches!(folder.read(rt.alloc(), b"/d", 0), Err(SourceError::Fault)));
     fs::remove_dir_all(&rt, "source_folder")?;
     Ok(())
 }
@@ -125,7 +125,7 @@ fn real_folders_report_faults(rt: HostRuntime) -> Result<(), Fail> {
 // Lengths of files, about those of single reads.
 const LENGTHS: [usize; 8] = [0, 1, 511, 512, 8191, 8192, 8193, 100_000];
 
-// Whether a folder gives a file of so many bytes.
+// Whether a folder gives all of a file of so many bytes, which had half of them when it was listed.
 fn is_read_whole<R: Files + AllocGlobal + Clone + Drop>(
     rt: &R,
     folder: &mut Folder<'_, R>,
@@ -136,7 +136,7 @@ fn is_read_whole<R: Files + AllocGlobal + Clone + Drop>(
         *last = b'y';
     }
     fs::write(rt, "source_files/a", bytes.as_slice())?;
-    Ok(folder.read(rt.alloc(), b"/a") == Ok(bytes))
+    Ok(folder.read(rt.alloc(), b"/a", len as u64 / 2) == Ok(bytes))
 }
 
 #[test]
@@ -158,7 +158,7 @@ fn files_of_no_stated_length_are_read(rt: HostRuntime) -> Result<(), Fail> {
     let mut folder = Folder::new(&rt, &log, "/proc/sys/kernel")?;
     if fs::exists(&rt, "/proc/sys/kernel/ostype")? {
         assert_eq!(rt;
-            folder.read(rt.alloc(), b"/ostype"),
+            folder.read(rt.alloc(), b"/ostype", 0),
             Ok(b"Linux\n".to_vec(rt.alloc())?)
         );
     }

@@ -1,10 +1,11 @@
 -- Calls of the device of an image that is made: its memory is filled through the block first.
-use Rattle.std.proofs.Common.{ℕ, ◌≡◌, ◌+◌, ◌*◌, ◌<◌, ◌≤◌, ◌∙◌, List, ap, arith, length, refl, sym}
+use Rattle.std.proofs.Common.{ℕ, ◌≡◌, ◌+◌, ◌*◌, ◌<◌, ◌≤◌, ◌∙◌, List, ap, arith, length, refl, replicate, sym}
 use Rattle.std.specs.Prelude.{slice_range}
+use Rattle.std.proofs.lemmas.List.{length-replicate}
 use Rattle.lfs_device.specs.declared.geometry.Geometry.{Geometry}
 use Rattle.lfs_model.specs.Blocks.{AreBlocksEqualExceptOne, block_bytes_by_number, bytes_after_overwrite_at, cut, programmed}
 use Rattle.lfs_model.proofs.Cuts.{HasBlocksOfCountAndSize-cut, cut-bytes_after_overwrite_at, size_fits, slice_range-block_bytes_by_number}
-use Rattle.lfs_model.proofs.Overwrites.{AreBlocksEqualExceptOne-programmed, length-overwritten}
+use Rattle.lfs_model.proofs.Overwrites.{AreBlocksEqualExceptOne-programmed, block_bytes_by_number-programmed_whole, length-overwritten}
 use Rattle.lfs_tool.specs.Excerpt.{bytes_padded_to_size}
 use Rattle.lfs_tool.specs.NewImageBytes.{bytes_of_device_with_beginning}
 use Rattle.lfs_tool.specs.ExcerptShape.{length-padded}
@@ -51,3 +52,8 @@ module _ (g : Geometry) (xs filled : List ℕ) (block end : ℕ) (within : lengt
   others off new inside =
       let shape = HasBlocksOfCountAndSize-cut g.block_size g.block_count (bytes_of_device_with_beginning g xs) size in
       AreBlocksEqualExceptOne-programmed (cut g.block_size g.block_count (bytes_of_device_with_beginning g xs)) block off new (omega (arith, shape.count)) (omega (arith, shape.sizes block below))
+
+  pub erased : block_bytes_by_number (programmed (cut g.block_size g.block_count (bytes_of_device_with_beginning g xs)) block 0 (replicate g.block_size 255)) block ≡ replicate g.block_size 255
+  erased =
+      let shape = HasBlocksOfCountAndSize-cut g.block_size g.block_count (bytes_of_device_with_beginning g xs) size in
+      block_bytes_by_number-programmed_whole (cut g.block_size g.block_count (bytes_of_device_with_beginning g xs)) block (replicate g.block_size 255) (omega (arith, shape.count)) (length-replicate g.block_size 255 ∙ sym (shape.sizes block below))

@@ -1,5 +1,5 @@
 -- What a follower of long work was told.
-use Rattle.std.specs.Prelude.{◌≡◌, ℕ, List, [], ◌∷◌, Option, Some, None, length, map}
+use Rattle.std.specs.Prelude.{ℕ, List, [], ◌∷◌, Option, Some, None, length, map}
 use Rattle.std.specs.Option.{option_map}
 use Rattle.lfs_tool_folders.specs.MemorySources.{optional_bytes_view}
 use Rattle.lfs_tool_folders.specs.declared.entries.SourceEntry.{SourceEntry}

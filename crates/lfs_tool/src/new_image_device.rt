@@ -29,7 +29,7 @@ pub(crate) struct NewImageDevice {
     ghost conforms: { DoSuccessfulCallsHaveOnlyTheirEffect trace.events },
 }
 
-// Fills memory with 0xff up to a place.
+// Adds bytes 0xff until there are `end`, for which there is room.
 fn fill_as_erased_up_to(bytes: &mut Vec<u8>, end: usize)
     requires room { end ≤ vec_capacity bytes.old }
     ensures filled { bytes.new.items ≡ bytes_padded_to_size end bytes.old.items }
@@ -68,6 +68,7 @@ impl NewImageDevice {
     /// Errors: `NoMemory` where memory for all bytes isn't granted.
     pub(crate) fn new(alloc: Global, geometry: Geometry) -> Result<NewImageDevice, Error>
         ensures geometry { IfOk result (λ d. geometry_of_new_image_device d ≡ geometry) }
+        ensures empty { IfOk result (λ d. bytes_in_memory d ≡ []) }
         ensures no_call { IfOk result (λ d. history_of_new_image_device d ≡ []) }
         ensures err { IfErr result (λ e. e ≡ Error.NoMemory) }
     {
@@ -170,6 +171,7 @@ impl BlockDevice for NewImageDevice {
     fn erase(&mut self, block: u32) -> Result<(), Error>
         requires { block < (geometry_of_new_image_device self.old).block_count }
         ensures ok { IsOk result }
+        ensures bytes { block_bytes_by_number (blocks_of_new_image_device self.new) block ≡ replicate (geometry_of_new_image_device self.old).block_size 255 }
         ensures others { AreBlocksEqualExceptOne block (blocks_of_new_image_device self.old) (blocks_of_new_image_device self.new) }
         ensures geometry { geometry_of_new_image_device self.new ≡ geometry_of_new_image_device self.old }
         ensures history { history_of_new_image_device self.new ≡ device_call_event_with_blocks (Erase block) (blocks_of_new_image_device self.old) (blocks_of_new_image_device self.new) false ∷ history_of_new_image_device self.old }

@@ -60,7 +60,7 @@ fn write_bytes<W: ToolOutput>(out: &mut W, bytes: &[u8]) -> Result<(), ToolError
     Ok(())
 }
 
-// Writes so many bytes 0xff.
+// Writes so many bytes 0xff. After an error a beginning of them was written.
 fn write_erased_bytes<W: ToolOutput>(out: &mut W, count: usize) -> Result<(), ToolError>
     ensures ok { OnOk result (Appends (W.contents out.old) (W.contents out.new) (replicate count 255)) }
     ensures beginning { AppendsBeginningOfBytes (W.contents out.old) (W.contents out.new) (replicate count 255) }

@@ -46,7 +46,7 @@ impl FilesAndBytes {
 
 /// Is told how far the making or the unpacking of an image is.
 pub trait FollowsProgress {
-    // What it was told, where it keeps that.
+    // The whole and what is done, where it keeps them.
     ghost told: { Self → Option AmountsTold } = { λ _. None };
 
     /// So many files and bytes are to be done.

@@ -10,7 +10,7 @@ use std::io::Read;
 // they have to a first read alone.
 const LEAST: usize = 512;
 
-// Returns a file's bytes, and `most` of them where it has more. `len` is how many it says that it has: where
+// Returns a file's bytes, and `most` of them where it has more. `len` is how many it was listed with: where
 // that is right, and fewer than 8192, a second read finds the end.
 pub(crate) fn read_at_most<R: Read + Drop>(
     alloc: Global,

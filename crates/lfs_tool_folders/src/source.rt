@@ -20,7 +20,7 @@ pub struct ListedName {
     pub name: Vec<u8>,
     /// Its kind.
     pub kind: SourceKind,
-    /// How many bytes a file had when it was listed, as far as the source knows.
+    /// A file's length when it was listed, which may be wrong by now. Of a folder it says nothing.
     pub len: u64,
 }
 
@@ -53,13 +53,13 @@ pub trait Source {
         ensures fault { IsErrOf result SourceError.Fault → faults self.new ≡ suc (faults self.old) }
         ensures no_memory { IsErrOf result SourceError.NoMemory → faults self.new ≡ faults self.old };
 
-    /// Returns the bytes of a file. `len` is what its name was listed with. The file may have become longer
-    /// or shorter since, and all bytes that it has are returned.
+    /// Returns the bytes of a file. `listed_len` is the length in its `ListedName`. The file may have become
+    /// longer or shorter since, and all bytes that it has are returned.
     ///
     /// # Errors
     /// - `Fault` where the file couldn't be read.
     /// - `NoMemory` where memory isn't granted.
-    fn read(&mut self, alloc: Global, file: &[u8], len: u64) -> Result<Vec<u8>, SourceError>
+    fn read(&mut self, alloc: Global, file: &[u8], listed_len: u64) -> Result<Vec<u8>, SourceError>
         ensures bytes { IfOk result (λ v. IfSome (shown self.old) (λ s. v.items ≡ s.bytes file.now)) }
         ensures shown { IsKnownSourceTreeUnchanged (shown self.old) (shown self.new) }
         ensures kept { OnOk result (faults self.new ≡ faults self.old) }

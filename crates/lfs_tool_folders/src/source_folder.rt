@@ -7,7 +7,7 @@ use crate::full_path::{full_path, full_path_joined_with_name_unless_empty};
 use crate::zeros::{number_of_zeros_refused_like_too_long_file, zeros};
 use crate::{FaultLog, ListedName, Source, SourceError, SourceKind, Tally};
 use std::alloc::{AllocError, Global};
-use std::fs::{File, FileType, Metadata};
+use std::fs::{File, FileType, Metadata, OpenFile};
 use std::io::ErrorKind;
 use std::rt::Files;
 use std::{fs, io};
@@ -46,7 +46,7 @@ fn copy_name_if_utf8(alloc: Global, name: &[u8]) -> io::Result<Vec<u8>> {
     Ok(name)
 }
 
-// Returns an entry of a folder: its name, what it is, and how long.
+// Returns an entry of a folder: its name, kind and length.
 fn listed_name_with_kind_and_length(
     alloc: Global,
     name: &[u8],
@@ -126,10 +126,16 @@ impl<'a, R: Files + AllocGlobal + Clone + Drop> Folder<'a, R> {
         }
     }
 
-    // Returns the bytes of a file that was listed with so many.
-    fn read_file_bytes(&self, path: &[u8], len: u64) -> io::Result<Vec<u8>> {
+    // Returns the bytes of a file. A listed length that is too great is asked for again, since the file may be
+    // shorter by now.
+    fn read_file_bytes(&self, path: &[u8], listed_len: u64) -> io::Result<Vec<u8>> {
         let full = full_path(self.rt.alloc(), self.root.as_str(), path)?;
         let file = File::open(self.rt, full.as_str())?;
+        let len = if listed_len > self.size {
+            file.metadata()?.len()
+        } else {
+            listed_len
+        };
         if let Some(count) = number_of_zeros_refused_like_too_long_file(len, self.size) {
             return Ok(zeros(self.rt.alloc(), count)?);
         }
@@ -163,8 +169,13 @@ impl<'a, R: Files + AllocGlobal + Clone + Drop> Source for Folder<'a, R> {
         }
     }
 
-    fn read(&mut self, _alloc: Global, file: &[u8], len: u64) -> Result<Vec<u8>, SourceError> {
-        match self.read_file_bytes(file, len) {
+    fn read(
+        &mut self,
+        _alloc: Global,
+        file: &[u8],
+        listed_len: u64,
+    ) -> Result<Vec<u8>, SourceError> {
+        match self.read_file_bytes(file, listed_len) {
             Ok(bytes) => Ok(bytes),
             Err(error) => Err(self.note_fault_and_return_source_error(file, error)),
         }

@@ -127,7 +127,7 @@ impl Source for MemorySource {
         Ok(names)
     }
 
-    fn read(&mut self, alloc: Global, file: &[u8], _len: u64) -> Result<Vec<u8>, SourceError>
+    fn read(&mut self, alloc: Global, file: &[u8], _listed_len: u64) -> Result<Vec<u8>, SourceError>
         ensures bytes { IfOk result (λ v. bytes_of_first_file_at_path (map path_and_bytes_of_memory_entry self.old.held.items) file.now ≡ Some v.items) }
         ensures held { self.new.held ≡ self.old.held }
         ensures kept { OnOk result (self.new.faults.count ≡ self.old.faults.count) }

@@ -125,18 +125,19 @@ fn real_folders_report_faults(rt: HostRuntime) -> Result<(), Fail> {
 // Lengths of files, about those of single reads.
 const LENGTHS: [usize; 8] = [0, 1, 511, 512, 8191, 8192, 8193, 100_000];
 
-// Whether a folder gives all of a file of so many bytes, which had half of them when it was listed.
+// Whether a folder gives all of a file of so many bytes, which had others when it was listed.
 fn is_read_whole<R: Files + AllocGlobal + Clone + Drop>(
     rt: &R,
     folder: &mut Folder<'_, R>,
     len: usize,
+    listed_len: u64,
 ) -> io::Result<bool> {
     let mut bytes = Vec::from_elem(rt.alloc(), b'x', len)?;
     if let Some(last) = bytes.last_mut() {
         *last = b'y';
     }
     fs::write(rt, "source_files/a", bytes.as_slice())?;
-    Ok(folder.read(rt.alloc(), b"/a", len as u64 / 2) == Ok(bytes))
+    Ok(folder.read(rt.alloc(), b"/a", listed_len) == Ok(bytes))
 }
 
 #[test]
@@ -145,7 +146,10 @@ fn real_files_are_read_whole(rt: HostRuntime) -> Result<(), Fail> {
     let log = FaultLog::new();
     let mut folder = Folder::new(&rt, &log, "source_files")?;
     for len in LENGTHS {
-        assert!(rt; is_read_whole(&rt, &mut folder, len)?, "{len}");
+        let listed = len as u64;
+        assert!(rt; is_read_whole(&rt, &mut folder, len, listed)?, "{len}");
+        assert!(rt; is_read_whole(&rt, &mut folder, len, listed / 2)?, "{len}");
+        assert!(rt; is_read_whole(&rt, &mut folder, len, listed + 1)?, "{len}");
     }
     fs::remove_dir_all(&rt, "source_files")?;
     Ok(())

@@ -2,8 +2,13 @@ use Rattle.std.proofs.Common.{ℕ, arith, replicate}
 use Rattle.std.proofs.lemmas.List.{length-replicate}
 use Rattle.lfs_device.proofs.Newest.{newest_call}
 use Rattle.lfs_model.proofs.Conformance.{conforms_erase, conforms_next}
-use Rattle.lfs_tool.proofs.NewImageCalls.{others, written, written_short}
+use Rattle.lfs_tool.proofs.NewImageCalls.{erased, others, written, written_short}
 use Rattle.lfs_tool.proofs.new_image_device.NewImageDeviceBlockDevice.erase.Goals as goal
+
+pub returns-clause-bytes : goal.returns-clause-bytes
+returns-clause-bytes c =
+    let d = c.args.self.now in
+    rw (written d.geometry d.bytes.items c.fill_as_erased_up_to.new.bytes.items c.args.block c.byte_index_of_block_offset-end.result d.within c.requires c.byte_index_of_block_offset-end.ensures c.fill_as_erased_up_to.ensures.filled 0 c.byte_index_of_block_offset-start.result (replicate d.geometry.block_size 255) c.erase_range.new.all.items (let len = length-replicate {A = ℕ} d.geometry.block_size 255 in omega (arith, len)) c.byte_index_of_block_offset-start.ensures c.erase_range.ensures.bytes) (erased d.geometry d.bytes.items c.fill_as_erased_up_to.new.bytes.items c.args.block c.byte_index_of_block_offset-end.result d.within c.requires c.byte_index_of_block_offset-end.ensures c.fill_as_erased_up_to.ensures.filled)
 
 pub returns-clause-others : goal.returns-clause-others
 returns-clause-others c =

@@ -149,7 +149,10 @@ fn real_files_are_read_whole(rt: HostRuntime) -> Result<(), Fail> {
         let listed = len as u64;
         assert!(rt; is_read_whole(&rt, &mut folder, len, listed)?, "{len}");
         assert!(rt; is_read_whole(&rt, &mut folder, len, listed / 2)?, "{len}");
-        assert!(rt; is_read_whole(&rt, &mut folder, len, listed + 1)?, "{len}");
+        assert!(rt;
+            is_read_whole(&rt, &mut folder, len, listed.saturating_add(1))?,
+            "{len}"
+        );
     }
     fs::remove_dir_all(&rt, "source_files")?;
     Ok(())

@@ -59,7 +59,9 @@ pub(crate) fn read_content_and_apply_changes<'a, 'b: 'a>(
     ensures errors { IfErr result (λ e. e ≡ Error.NoMemory) }
 {
     let log = Log::with_known_end(block, pair.end, pair.last);
-    let mut content = match Content::read(alloc, &log) {
+    // Most changes add one slot at most.
+    let slot_count = pair.slot_count.saturating_add(1);
+    let mut content = match Content::read_with_room_for_slots(alloc, &log, slot_count) {
         Ok(content) => content,
         Err(ContentError::NoMemory) => return Err(Error::NoMemory),
         Err(ContentError::Malformed) => unreachable!(),

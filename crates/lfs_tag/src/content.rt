@@ -358,8 +358,23 @@ impl<'a> Content<'a> {
         ensures content { IfOk result (λ c. content_after_log_entries empty_raw_pair_content (log_entries_of_block log.now) ≡ Some (content_view c)) }
         ensures malformed { result ≡ Err ContentError.Malformed → content_after_log_entries empty_raw_pair_content (log_entries_of_block log.now) ≡ None }
     {
+        Content::read_with_room_for_slots(alloc, log, 0)
+    }
+
+    /// Reads a log's content as [`read`](Content::read) does. Memory for so many slots is asked for first, so
+    /// that a caller who knows their number asks once.
+    ///
+    /// Errors are those of [`read`](Content::read).
+    pub fn read_with_room_for_slots(
+        alloc: Global,
+        log: &Log<'a>,
+        slot_count: usize,
+    ) -> Result<Content<'a>, ContentError>
+        ensures content { IfOk result (λ c. content_after_log_entries empty_raw_pair_content (log_entries_of_block log.now) ≡ Some (content_view c)) }
+        ensures malformed { result ≡ Err ContentError.Malformed → content_after_log_entries empty_raw_pair_content (log_entries_of_block log.now) ≡ None }
+    {
         let mut content = Content {
-            slots: Vec::new(alloc),
+            slots: Vec::with_capacity(alloc, slot_count)?,
             tail: None,
             move_state: MoveState::none(),
         };

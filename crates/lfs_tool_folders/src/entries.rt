@@ -30,7 +30,10 @@ fn join_path(alloc: Global, folder: &[u8], name: &[u8]) -> Result<Vec<u8>, Sourc
     ensures path { IfOk result (λ v. v.items ≡ source_path_in_folder folder.now name.now) }
     ensures memory { (e : _) → result ≡ Err e → e ≡ SourceError.NoMemory }
 {
-    let mut path = folder.to_vec(alloc).map_err(|_| SourceError::NoMemory)?;
+    let len = folder.len().saturating_add(1).saturating_add(name.len());
+    let mut path = Vec::with_capacity(alloc, len).map_err(|_| SourceError::NoMemory)?;
+    path.extend_from_slice(folder)
+        .map_err(|_| SourceError::NoMemory)?;
     path.push(b'/').map_err(|_| SourceError::NoMemory)?;
     path.extend_from_slice(name)
         .map_err(|_| SourceError::NoMemory)?;

@@ -11,7 +11,9 @@ pub(crate) fn full_path(alloc: Global, folder: &str, path: &[u8]) -> io::Result<
     let Ok(path) = str::from_utf8(path) else {
         return Err(io::Error::from(ErrorKind::InvalidFilename));
     };
-    let mut full = String::from_str(alloc, folder)?;
+    let len = folder.len().saturating_add(path.len());
+    let mut full = String::with_capacity(alloc, len)?;
+    full.push_str(folder)?;
     full.push_str(path)?;
     Ok(full)
 }

@@ -1,6 +1,6 @@
 -- The checks of an open for writing.
 use Rattle.std.proofs.Common.{ℕ, ◌≡◌, ◌+◌, ◌*◌, Bool, true, false, not, List, [], ◌∷◌, Option, Some, None, Result, length, nat_lt, nat_le, ◌&&◌, ◌||◌, unwrap_or, is_none, refl, sym, ap, ap₂, ◌∙◌, arith}
-use Rattle.std.specs.Prelude.{if◌then◌else◌}
+use Rattle.std.specs.Prelude.{if◌then◌else◌, IfSome, IsSome}
 use Rattle.std.proofs.lemmas.Bool.{le-leb}
 use Rattle.lfs_model.specs.Disk.{block_count, inline_limit}
 use Rattle.lfs_model.specs.SkipLists.{list_block_count_for_size}
@@ -11,11 +11,15 @@ use Rattle.lfs_model.specs.Session.{first_refusal_in_list, are_flags_allowed, ha
 use Rattle.lfs_model.specs.Writers.{writer_after_open}
 use Rattle.lfs_model.specs.Refusals.{path_of_bytes_or_root}
 use Rattle.lfs_model.specs.Effects.{file_size_of_node}
+use Rattle.lfs_model.specs.Slots.{zero_gstate}
+use Rattle.lfs_model.specs.Thread.{gstate_of_pairs}
 use Rattle.lfs_model.specs.Tree.{Node, FileNode, DirectoryNode, Path}
 use Rattle.lfs_device.specs.declared.error.Error.{Error}
 use Rattle.lfs_lookup.specs.Finds.{IsFoundNodeAtPath, is_absent_node, is_directory_node, size_of_node_if_file}
-use Rattle.lfs_tree.specs.TreeState.{TreeState, WasTreeOnlyRead, disk_summary_of_tree, tree_view}
+use Rattle.lfs_tree.specs.CreationPaths.{IsLookupResultAtCreationPath}
+use Rattle.lfs_tree.specs.TreeState.{TreeState, WasTreeOnlyRead, disk_summary_of_tree, kept_thread_of_tree_state, tree_view}
 use Rattle.lfs_lookup.specs.declared.found_entries.FoundNode.{FoundNode}
+use Rattle.lfs_lookup.specs.declared.paths.PathLookup.{PathLookup}
 use Rattle.lfs_fs.specs.SessionView.{IsResultOfOperationChecks, SessionView, IsWritableFileAtPathInTree, refusal_by_checks}
 use Rattle.lfs_fs.specs.FileView.{RuntimeOpenFilesByNumber, open_files_view, writers_among}
 use Rattle.lfs_fs.proofs.OpenFiles.{writer_count}
@@ -79,7 +83,7 @@ three true false c = refl
 three false b c = refl
 
 pub writer_checked : (h : SessionView) (bytes : List ℕ) (p : Path) (flags : FlagsOfOpen) (found : FoundNode) (tree : TreeState) (size : Option ℕ) (long other : ℕ) (absent create exclusive truncate directory busy over lack full c1 c2 c3 c4 c6 c7 c8 : Bool)
-    (r1 r2 r3 r4 r5 r6 r7 r8 : Option Refusal) (r : Result WritableFile Error) →
+    (r1 r2 r3 r4 r5 r6 r7 r8 : Option Refusal) (target : Option PathLookup) (r : Result WritableFile Error) →
     false ≡ h.tree.failed → true ≡ h.tree.writable → Some p ≡ path_of_bytes bytes → flags.write ≡ true → true ≡ are_flags_allowed flags → WasTreeOnlyRead h.tree tree → IsFoundNodeAtPath (tree_view h.tree) p found →
     absent ≡ is_absent_node found.node → size ≡ size_of_node_if_file found.node → create ≡ flags.create → exclusive ≡ flags.exclusive → truncate ≡ flags.truncate →
     long ≡ length (last_name_of_path p) → c1 ≡ (absent && create) → c2 ≡ (c1 && nat_lt 255 long) → r1 ≡ refuse_if c2 ops.NameTooLong →
@@ -88,12 +92,13 @@ pub writer_checked : (h : SessionView) (bytes : List ℕ) (p : Path) (flags : Fl
     other ≡ length (last_name_of_path p) → ((name : List ℕ) → length name ≡ other → over ≡ is_entry_over_charge_limit (disk_summary_of_tree tree) name []) → c6 ≡ (absent && over) → r6 ≡ refuse_if c6 ops.EntryFull →
     lack ≡ lacks_free_blocks (disk_summary_of_tree tree) h.files 2 → c7 ≡ (absent && lack) → r7 ≡ refuse_if c7 ops.NoSpace →
     full ≡ nat_lt (block_count tree.disk) (length (disk_summary_of_tree tree).used + (if nat_lt 0 (unwrap_or size 0) then 2 else 0)) → c8 ≡ (truncate && full) → r8 ≡ refuse_if c8 ops.NoSpace →
-    r ≡ value_unless_refused (first_refusal_in_list (found.fault ∷ r1 ∷ r2 ∷ r3 ∷ r4 ∷ r5 ∷ r6 ∷ r7 ∷ r8 ∷ [])) (record { path = p; size = size }) → IsResultOfOperationChecks h (ops.Open bytes flags) (λ found. IsWritableFileAtPathInTree (tree_view h.tree) bytes found) r tree
-writer_checked h bytes p flags found tree size long other absent create exclusive truncate directory busy over lack full c1 c2 c3 c4 c6 c7 c8 r1 r2 r3 r4 r5 r6 r7 r8 r works writable is write allowed asked f
-    absent_is size_is create_is exclusive_is truncate_is long_is c1_is c2_is r1_is c3_is r2_is c4_is r3_is directory_is r4_is busy_is r5_is other_is over_is c6_is r6_is lack_is c7_is r7_is full_is c8_is r8_is r_is =
-    decided h (ops.Open bytes flags) (λ found. IsWritableFileAtPathInTree (tree_view h.tree) bytes found) (record { path = p; size = size }) _ tree r asked (writer_late h bytes p flags works writable is write allowed)
+    IfSome target (IsLookupResultAtCreationPath (kept_thread_of_tree_state tree) p) → (gstate_of_pairs tree.pairs ≡ zero_gstate → IsSome target) →
+    r ≡ value_unless_refused (first_refusal_in_list (found.fault ∷ r1 ∷ r2 ∷ r3 ∷ r4 ∷ r5 ∷ r6 ∷ r7 ∷ r8 ∷ [])) (record { path = p; size = size; target = target }) → IsResultOfOperationChecks h (ops.Open bytes flags) (IsWritableFileAtPathInTree (tree_view h.tree) tree bytes) r tree
+writer_checked h bytes p flags found tree size long other absent create exclusive truncate directory busy over lack full c1 c2 c3 c4 c6 c7 c8 r1 r2 r3 r4 r5 r6 r7 r8 target r works writable is write allowed asked f
+    absent_is size_is create_is exclusive_is truncate_is long_is c1_is c2_is r1_is c3_is r2_is c4_is r3_is directory_is r4_is busy_is r5_is other_is over_is c6_is r6_is lack_is c7_is r7_is full_is c8_is r8_is target_is handed_on r_is =
+    decided h (ops.Open bytes flags) (IsWritableFileAtPathInTree (tree_view h.tree) tree bytes) (record { path = p; size = size; target = target }) _ tree r asked (writer_late h bytes p flags works writable is write allowed)
     (writer_refused h bytes p flags found (sym works) (sym writable) (sym is) write (sym allowed) f ∙ ap first_refusal_in_list (sym lists))
-    (λ none. record { path = ap (λ z. unwrap_or z []) is; size = f.sizes ∙ sym size_is }) r_is
+    (λ none. record { path = ap (λ z. unwrap_or z []) is; size = f.sizes ∙ sym size_is; target = target_is; handed_on = handed_on }) r_is
   where
     same : disk_summary_of_tree tree ≡ disk_summary_of_tree h.tree
     same = ap disk_summary_of_tree asked.same

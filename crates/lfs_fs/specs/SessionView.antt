@@ -1,5 +1,5 @@
 -- What contracts see of a session, and what its calls return.
-use Rattle.std.specs.Prelude.{ℕ, ◌+◌, ◌≤◌, nat_le, length, is_none, is_some, ◌≡◌, ◌≢◌, ◌<◌, ◌⊎◌, Bool, true, false, if◌then◌else◌, List, [], Option, Some, None, Result, Ok, Err}
+use Rattle.std.specs.Prelude.{ℕ, ◌+◌, ◌≤◌, nat_le, length, is_none, is_some, ◌≡◌, ◌≢◌, ◌<◌, ◌⊎◌, Bool, true, false, if◌then◌else◌, List, [], Option, Some, None, IfSome, IsSome, Result, Ok, Err}
 use Rattle.lfs_device.specs.declared.error.Error.{Error}
 use Rattle.lfs_device.specs.declared.error.Error.TheVariants.{Io, NoMemory, Corrupt}
 use Rattle.lfs_model.specs.BlockSets.{in_flight_block_count}
@@ -20,6 +20,7 @@ use Rattle.std.specs.List.{AllByRecursion, list_any}
 use Rattle.lfs_model.specs.State.{HasFailed, Healthy, is_remount_operation}
 use Rattle.lfs_model.specs.Refusals.{path_of_bytes_or_root, refusal_of_operation}
 use Rattle.lfs_model.specs.Effects.{file_size_of_node}
+use Rattle.lfs_tree.specs.CreationPaths.{IsLookupResultAtCreationPath}
 use Rattle.lfs_tree.specs.OpenContents.{AreWriterContentsOverTreeFile, IsInMemoryExactlyUpToInlineLimit}
 use Rattle.lfs_writer.specs.Contents.{storage_form_of_contents}
 use Rattle.lfs_writer.specs.Form.{IsStorageFormOfWriterContents}
@@ -32,7 +33,7 @@ use Rattle.lfs_model.specs.Performed.{IsRunEndedByError}
 use Rattle.lfs_lookup.specs.FileContents.{IsInlineBytesOrSkipListOfFileAtPath}
 use Rattle.lfs_lookup.specs.Refusals.{is_refusal, refusal_of_error}
 use Rattle.lfs_lookup.specs.declared.file_contents.FileContents.{FileContents}
-use Rattle.lfs_tree.specs.TreeState.{TreeState, tree_view, disk_summary_of_tree, IsSoundTreeState, WasTreeOnlyRead, IsTreeFailedByRead, IsIoWithFaultOrNoMemory}
+use Rattle.lfs_tree.specs.TreeState.{TreeState, kept_thread_of_tree_state, tree_view, disk_summary_of_tree, IsSoundTreeState, WasTreeOnlyRead, IsTreeFailedByRead, IsIoWithFaultOrNoMemory}
 
 -- The tree and the open files.
 pub record SessionView : Type 0 where
@@ -152,10 +153,12 @@ pub record IsReadablePathWithContents (t : TreeState) (files : OpenFilesByNumber
   pub readable : IsReadablePath (tree_view t) files bytes
   pub contents : IsInlineBytesOrSkipListOfFileAtPath t.pairs (path_of_bytes_or_root bytes) kept
 
--- a file that may be opened for writing
-pub record IsWritableFileAtPathInTree (t : Tree) (bytes : List ℕ) (found : WritableFile) : Type 0 where
+-- a file that may be opened for writing, and where its path leads to, if nothing is to recover
+pub record IsWritableFileAtPathInTree (t : Tree) (now : TreeState) (bytes : List ℕ) (found : WritableFile) : Type 0 where
   pub path : found.path ≡ path_of_bytes_or_root bytes
   pub size : file_size_of_node (t found.path) ≡ found.size
+  pub target : IfSome found.target (IsLookupResultAtCreationPath (kept_thread_of_tree_state now) found.path)
+  pub handed_on : gstate_of_pairs now.pairs ≡ zero_gstate → IsSome found.target
 
 -- A session that a mount began: it works, has the tree of the disk, which was only read, and no open file.
 pub record IsSessionBegunByMount (disk : Disk) (history : List DeviceCallEvent) (h : SessionView) : Type 0 where

@@ -23,7 +23,7 @@ use crate::files::{Files, reserved_block_count_for_size};
 use crate::flags::OpenFlags;
 use bitflags::Flags;
 use lfs_device::{BlockDevice, Error};
-use lfs_lookup::{FileContents, FoundFile, ListItem, Path, Stat, refuse_if};
+use lfs_lookup::{FileContents, FoundFile, ListItem, Path, PathLookup, Stat, refuse_if};
 use lfs_tag::Superblock;
 use lfs_tree::Tree;
 use std::alloc::Global;
@@ -186,6 +186,8 @@ pub struct WritableFile<'a> {
     pub path: Path<'a>,
     /// How many bytes the file has, or None where it is to be made.
     pub size: Option<u32>,
+    /// Where the path leads to. None where something is to recover first.
+    pub target: Option<PathLookup>,
 }
 
 // Returns whether there is no room to write a file of that size anew.
@@ -197,7 +199,7 @@ fn lacks_room_to_truncate_file_on_open<D: BlockDevice>(tree: &Tree<D>, size: Opt
     (tree.geometry().block_count as u64) < tree.used_count() as u64 + need
 }
 
-/// Checks whether a file may be opened for writing.
+/// Checks whether a file may be opened for writing, and returns where its path leads to.
 pub fn check_open_writer<'a, D: BlockDevice>(
     alloc: Global,
     tree: &mut Tree<D>,
@@ -207,7 +209,7 @@ pub fn check_open_writer<'a, D: BlockDevice>(
 ) -> Result<WritableFile<'a>, Error>
     requires write { (flags_view flags).write ≡ true }
     requires ready { tree.old.failed ≡ false → IsSessionReadyForCalls tree.old files.now }
-    ensures { IsResultOfOperationChecks (session_view_of_tree_and_files tree.old files.now) (ops.Open bytes.now (flags_view flags)) (λ found. IsWritableFileAtPathInTree (tree_view tree.old) bytes.now found) result tree.new }
+    ensures { IsResultOfOperationChecks (session_view_of_tree_and_files tree.old files.now) (ops.Open bytes.now (flags_view flags)) (IsWritableFileAtPathInTree (tree_view tree.old) tree.new bytes.now) result tree.new }
 {
     if tree.has_failed() {
         return Err(Error::Failed);
@@ -221,14 +223,14 @@ pub fn check_open_writer<'a, D: BlockDevice>(
     if !flags.is_allowed() {
         return Err(Error::Invalid);
     }
-    let found = tree.look_up(alloc, &path)?;
-    let is_absent = found.node.is_nothing();
-    let size = found.node.size();
+    let found = tree.look_up_creation(alloc, &path)?;
+    let is_absent = found.entry.node.is_nothing();
+    let size = found.entry.node.size();
     let creates = flags.contains(OpenFlags::CREATE);
     let is_exclusive = flags.contains(OpenFlags::EXCLUSIVE);
     let truncates = flags.contains(OpenFlags::TRUNCATE);
     let checks = [
-        found.fault,
+        found.entry.fault,
         refuse_if(
             are_both_true(
                 are_both_true(is_absent, creates),
@@ -238,7 +240,7 @@ pub fn check_open_writer<'a, D: BlockDevice>(
         ),
         refuse_if(are_both_true(is_absent, !creates), Error::NoEnt),
         refuse_if(are_both_true(!is_absent, is_exclusive), Error::Exist),
-        refuse_if(found.node.is_directory(), Error::IsDir),
+        refuse_if(found.entry.node.is_directory(), Error::IsDir),
         refuse_if(files.prevents_new_writer_at_path(bytes), Error::Busy),
         refuse_if(
             are_both_true(is_absent, is_new_entry_too_large(tree, path.name_len())),
@@ -253,7 +255,12 @@ pub fn check_open_writer<'a, D: BlockDevice>(
             Error::NoSpace,
         ),
     ];
-    value_unless_checks_refuse(&checks, WritableFile { path, size })
+    let file = WritableFile {
+        path,
+        size,
+        target: found.target,
+    };
+    value_unless_checks_refuse(&checks, file)
 }
 
 // Returns the path of these bytes, if it is well formed and isn't the root's.

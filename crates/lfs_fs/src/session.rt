@@ -333,7 +333,13 @@ impl<D: BlockDevice> Session<D> {
                 answer?
             }
             None => {
-                let answer = create_file_and_open_writer(alloc, &mut self.tree, owned, flags);
+                let answer = create_file_and_open_writer(
+                    alloc,
+                    &mut self.tree,
+                    owned,
+                    flags,
+                    found.target,
+                );
                 show_conforming_device_calls_to_proof(&self.tree);
                 answer?
             }

@@ -1,6 +1,6 @@
 // The calls of a writer.
 
-ghost use Rattle.std.specs.Prelude.{ℕ, List, [], true, ◌≡◌, length, IfErr, IfOk, OnErr, OnOk};
+ghost use Rattle.std.specs.Prelude.{ℕ, List, [], true, ◌≡◌, length, IfErr, IfOk, IfSome, IsSome, OnErr, OnOk};
 ghost use Rattle.lfs_model.specs.Writers.{writer_after_open, writer_after_sync, writer_after_truncate, writer_after_write};
 ghost use Rattle.lfs_tree.specs.OpenContents.{AreWriterContentsOverTreeFile, StoresBytesKeepingOtherFilesAtPath, WritesOnlyUnusedBlocks, bytes_of_writer_contents, kept_thread_of_tree_state};
 ghost use Rattle.lfs_tree.specs.TreeState.{tree_view, WasTreeOnlyRead, IsFailedTree, IsOperationAppliedToTree, IsTreeFailedByRead, IsIoWithFaultOrNoMemory, IsSoundTreeState, LeavesUnconcernedBlocksAlone, SurvivesStopsInTreeCall};
@@ -14,6 +14,9 @@ ghost use Rattle.lfs_model.specs.Operations.{FlagsOfOpen};
 ghost use Rattle.lfs_model.specs.Refusals.{path_of_bytes_or_root};
 ghost use Rattle.lfs_model.specs.Effects.{node_with_bytes};
 ghost use Rattle.lfs_model.specs.Tree.{FileNode};
+ghost use Rattle.lfs_model.specs.Slots.{zero_gstate};
+ghost use Rattle.lfs_model.specs.Thread.{gstate_of_pairs};
+ghost use Rattle.lfs_tree.specs.CreationPaths.{IsLookupResultAtCreationPath};
 ghost use Rattle.lfs_tree.specs.Permissions.{CanCreateFileAtPath};
 
 use crate::files::{UnsavedContents, Writer};
@@ -21,20 +24,23 @@ use crate::flags::OpenFlags;
 use crate::owned_path::OwnedPath;
 use bitflags::Flags;
 use lfs_device::{BlockDevice, Error};
+use lfs_lookup::PathLookup;
 use lfs_tree::{Tree, operations_leave_writer_contents_alone, operations_take_few_blocks};
 use lfs_writer::{
     WriterContents, contents_forms_fit_writer_after_calls, reserved_blocks_suffice_for_calls,
 };
 use std::alloc::Global;
 
-// Returns the contents of a writer: the changed ones, or else those of the file.
+// Returns the contents of a writer of a file of that size: the changed ones, or else those of the file.
 fn contents_of_writer<D: BlockDevice>(
     alloc: Global,
     tree: &mut Tree<D>,
     path: &OwnedPath,
+    size: u32,
     unsaved: Option<UnsavedContents>,
 ) -> Result<WriterContents, Error>
-    requires { HasFileUnderUnsavedContents tree.old path.now unsaved }
+    requires file { HasFileUnderUnsavedContents tree.old path.now unsaved }
+    requires size { length (unsaved_or_tree_bytes_of_writer tree.old path.now unsaved) ≡ size }
     ensures asked { OnOk result (WasTreeOnlyRead tree.old tree.new) }
     ensures over { IfOk result (AreWriterContentsOverTreeFile tree.new path.now) }
     ensures bytes { IfOk result (λ c. bytes_of_writer_contents (kept_thread_of_tree_state tree.new) c ≡ unsaved_or_tree_bytes_of_writer tree.old path.now unsaved) }
@@ -44,6 +50,7 @@ fn contents_of_writer<D: BlockDevice>(
 {
     match unsaved {
         Some(unsaved) => Ok(unsaved.contents),
+        None if size == 0 => tree.empty_contents(alloc),
         None => tree.open_writer_contents(alloc, &path.lend()),
     }
 }
@@ -67,7 +74,8 @@ pub(crate) fn write_bytes_by_writer<D: BlockDevice>(
     let place = writer.place();
     let has_turned = writer.is_nonsequential_after_change_at(place.min(writer.size));
     let end = place + bytes.len() as u32;
-    let contents = contents_of_writer(alloc, tree, &writer.path, writer.unsaved.take())?;
+    let unsaved = writer.unsaved.take();
+    let contents = contents_of_writer(alloc, tree, &writer.path, writer.size, unsaved)?;
     let contents = tree.write(alloc, contents, place, bytes)?;
     writer.unsaved = Some(UnsavedContents {
         contents,
@@ -100,11 +108,11 @@ pub(crate) fn writer_after_truncating<D: BlockDevice>(
     let Writer {
         path,
         position,
+        size,
         appends,
         unsaved,
-        ..
     } = writer;
-    let contents = contents_of_writer(alloc, tree, &path, unsaved)?;
+    let contents = contents_of_writer(alloc, tree, &path, size, unsaved)?;
     let contents = tree.truncate(alloc, contents, new_size)?;
     Ok(Writer {
         path,
@@ -196,21 +204,24 @@ pub(crate) fn writer_of_existing_file<D: BlockDevice>(
     })
 }
 
-// Opens a writer of an empty file, which is made.
+// Opens a writer of an empty file, which is made. `known` is where the path leads to, if nothing is to recover.
 pub(crate) fn create_file_and_open_writer<D: BlockDevice>(
     alloc: Global,
     tree: &mut Tree<D>,
     path: OwnedPath,
     flags: OpenFlags,
+    known: Option<PathLookup>,
 ) -> Result<Writer, Error>
-    requires { CanCreateFileAtPath tree.old path }
+    requires can { CanCreateFileAtPath tree.old path }
+    requires known { IfSome known (IsLookupResultAtCreationPath (kept_thread_of_tree_state tree.old) path) }
+    requires looked_up { gstate_of_pairs tree.old.pairs ≡ zero_gstate → IsSome known }
     ensures made { OnOk result ((bytes : List ℕ) (flags : FlagsOfOpen) → path_of_bytes_or_root bytes ≡ path → flags.write ≡ true → IsOperationAppliedToTree tree.old (ops.Open bytes flags) tree.new × LeavesUnconcernedBlocksAlone tree.old (ops.Open bytes flags) tree.new) }
     ensures begun { IfOk result (IsOpenedWriterSeenAs tree.new (writer_after_open path (flags_view flags) [])) }
     ensures broken { OnErr result (IsFailedTree tree.old tree.new) }
     ensures errors { IfErr result (IsIoWithFaultOrNoMemory tree.old tree.new) }
     ensures survives { SurvivesStopsInTreeCall tree.old tree.new (tree_after_creation path (FileNode [] []) (tree_view tree.old)) }
 {
-    tree.create(alloc, &path.lend())?;
+    tree.create(alloc, &path.lend(), known)?;
     Ok(Writer {
         path,
         position: 0,

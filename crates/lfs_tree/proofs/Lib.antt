@@ -1,3 +1,4 @@
+pub mod CreationPaths
 pub mod Reached
 pub mod Scanned
 pub mod Recovered

@@ -1,3 +1,4 @@
+pub mod CreationPaths
 pub mod Formats
 pub mod KeptFiles
 pub mod TreeState

@@ -1,7 +1,7 @@
 -- How often the calls of a tree read.
 use Rattle.std.specs.Prelude.{sum_by, ◌≡◌, ◌≤◌, ◌+◌, List}
 use Rattle.lfs_model.specs.Cache.{cached_block_limit}
-use Rattle.lfs_model.specs.Frame.{pair_count_of_directory_at, ancestor_paths_of_path}
+use Rattle.lfs_model.specs.Frame.{pair_count_of_directory_at}
 use Rattle.lfs_model.specs.History.{DeviceCallEvent, read_count_of_history}
 use Rattle.lfs_model.specs.Slots.{zero_gstate}
 use Rattle.lfs_model.specs.Thread.{gstate_of_pairs}
@@ -18,6 +18,6 @@ pub record ReadsDirectoryPairsAtMostOnce (paths : List Path) (old : TreeState) (
   pub few : read_count_of_history history ≤ read_count_of_history old.history + sum_by (pair_count_of_directory_at old.pairs) paths
   pub none : HasCachedDirectories old paths → read_count_of_history history ≡ read_count_of_history old.history
 
--- Where nothing is to recover, no more reads came than the directories above the path have pairs, and six.
-abbrev pub ReadsAtMostPairsAbovePathPlusSix : Path → TreeState → List DeviceCallEvent → Type 0
-ReadsAtMostPairsAbovePathPlusSix path old history = gstate_of_pairs old.pairs ≡ zero_gstate → read_count_of_history history ≤ read_count_of_history old.history + sum_by (pair_count_of_directory_at old.pairs) (ancestor_paths_of_path path) + 6
+-- Where nothing is to recover, at most six reads came.
+abbrev pub ReadsAtMostSixTimes : TreeState → List DeviceCallEvent → Type 0
+ReadsAtMostSixTimes old history = gstate_of_pairs old.pairs ≡ zero_gstate → read_count_of_history history ≤ read_count_of_history old.history + 6

@@ -1,11 +1,12 @@
 // Operations on paths of a thread that has nothing to recover.
 
-ghost use Rattle.std.specs.Prelude.{◌≡◌, ◌≤◌, ◌+◌, map, sum_by, true, false, IfOk};
+ghost use Rattle.std.specs.Prelude.{◌≡◌, ◌≤◌, ◌+◌, map, sum_by, true, false, IfOk, IfSome, IsSome};
 ghost use Rattle.lfs_device.specs.Bytes.{AreAllBlockElementsBelow256};
 ghost use Rattle.lfs_model.specs.Frame.{pair_count_of_directory_at, ancestor_paths_of_path};
 ghost use Rattle.lfs_model.specs.History.{read_count_of_history};
 ghost use Rattle.lfs_model.specs.TreeEdits.{last_name_of_path};
 ghost use Rattle.lfs_tree.specs.Permissions.{CanCreateFileAtPath, CanMakeDirectoryAtPath};
+ghost use Rattle.lfs_tree.specs.CreationPaths.{IsLookupResultAtCreationPath};
 ghost use Rattle.lfs_tree.specs.Calls as call;
 ghost use Rattle.lfs_tree.specs.TreeChanges.{CanChangeRecoveredImage, AppliesCallOnThreadOrFails, IsSpotForNameNotFound, IsLookupResultAndLastNameOfPath, is_nothing_found};
 ghost use Rattle.lfs_tree.specs.RootedThreads.{tree_state_of_kept_thread};
@@ -73,7 +74,31 @@ pub(crate) fn find_at_path<'a, D: BlockDevice>(
     })
 }
 
-// Makes an empty file where no entry is.
+// Returns where a path leads to, what is known of it or else what a look-up finds, and its last name.
+fn find_unless_known<'a, D: BlockDevice>(
+    alloc: Global,
+    thread: &mut Thread<D>,
+    root: usize,
+    path: &Path<'a>,
+    known: Option<PathLookup>,
+) -> Result<FoundAtPath<'a>, Error>
+    requires rests { CanChangeRecoveredImage thread.old root }
+    requires known { IfSome known (IsLookupResultAtCreationPath thread.old.kept path.now) }
+    ensures target { IfOk result (λ target. IsLookupResultAndLastNameOfPath thread.old.kept path.now target.found target.name.now) }
+    ensures unread { IsSome known → read_count_of_history thread.new.kept.history ≡ read_count_of_history thread.old.kept.history }
+    ensures reading { OnlyReadsThreadAndReportsErrors thread.old thread.new result }
+{
+    let Some(found) = known else {
+        return find_at_path(alloc, thread, root, path);
+    };
+    let names = path.names(alloc)?;
+    Ok(FoundAtPath {
+        found,
+        name: last_name_or_empty(&names),
+    })
+}
+
+// Makes an empty file where no entry is. The path is looked up, unless it is known where it leads to.
 //
 // Errors: `Io` where a call of the device failed. `NoMemory` where memory isn't granted.
 pub(crate) fn create_empty_file_at<D: BlockDevice>(
@@ -81,16 +106,18 @@ pub(crate) fn create_empty_file_at<D: BlockDevice>(
     thread: &mut Thread<D>,
     root: usize,
     path: &Path<'_>,
+    known: Option<PathLookup>,
 ) -> Result<(), Error>
     requires rests { CanChangeRecoveredImage thread.old root }
     requires can { CanCreateFileAtPath (tree_state_of_kept_thread thread.old.kept true false) path.now }
+    requires known { IfSome known (IsLookupResultAtCreationPath thread.old.kept path.now) }
     ensures does { AppliesCallOnThreadOrFails thread.old (call.Create path.now) result thread.new }
-    ensures few { read_count_of_history thread.new.kept.history ≤ read_count_of_history thread.old.kept.history + sum_by (pair_count_of_directory_at thread.old.kept.pairs) (ancestor_paths_of_path path.now) + 6 }
+    ensures few { IsSome known → read_count_of_history thread.new.kept.history ≤ read_count_of_history thread.old.kept.history + 6 }
 {
     path.show_path_comes_from_bytes_to_proof();
     path.show_path_names_are_valid_to_proof();
     show_block_facts_to_proof(thread);
-    let target = find_at_path(alloc, thread, root, path)?;
+    let target = find_unless_known(alloc, thread, root, path, known)?;
     let place = spot_for_missing_name(target.found);
     create_file(alloc, thread, place.pair, place.id, target.name)
 }

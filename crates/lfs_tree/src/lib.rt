@@ -5,6 +5,7 @@
 mod answers;
 mod attributes_at;
 mod contents_at;
+mod creation_paths;
 mod entries_at;
 mod formats;
 mod laws;
@@ -22,6 +23,7 @@ mod renames_at;
 mod tree;
 mod writers;
 
+pub use creation_paths::CreationFindings;
 pub use formats::format;
 pub use laws::{operations_leave_writer_contents_alone, operations_take_few_blocks};
 pub use order_choice::mount_in_either_name_order;

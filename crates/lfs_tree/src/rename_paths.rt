@@ -49,7 +49,7 @@ pub struct RenameFindings {
 }
 
 // Returns what was found, but for where a name belongs and in which directory it is.
-fn found_without_insertion_spot_and_parent(found: PathLookup) -> VisiblePathLookup
+pub(crate) fn found_without_insertion_spot_and_parent(found: PathLookup) -> VisiblePathLookup
     ensures { result ≡ visible_lookup_without_insertion_spot_and_parent found }
 {
     match found {

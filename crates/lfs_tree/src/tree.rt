@@ -1,6 +1,6 @@
 // A mounted image, whose calls take paths.
 
-ghost use Rattle.std.specs.Prelude.{◌≡◌, ◌<◌, ◌==◌, ◌≤◌, ◌+◌, ◌^◌, ◌++◌, ◌∷◌, List, [], length, map, true, false, None, IfOk, IfErr, IfSome, OnErr, OnOk, sum_by};
+ghost use Rattle.std.specs.Prelude.{◌≡◌, ◌<◌, ◌==◌, ◌≤◌, ◌+◌, ◌^◌, ◌++◌, ◌∷◌, List, [], length, map, true, false, None, IfOk, IfErr, IfSome, IsSome, OnErr, OnOk, sum_by};
 ghost use Rattle.std.specs.List.{list_any};
 ghost use Rattle.std.specs.Option.{option_map};
 ghost use Rattle.lfs_model.specs.History.{read_count_of_history};
@@ -18,9 +18,10 @@ ghost use Rattle.lfs_thread.specs.Device.{GivesDeviceBackOnlyReadWithError};
 ghost use Rattle.lfs_thread.specs.Kept.{disk_of_device, kept_thread_of_device};
 ghost use Rattle.lfs_tree.specs.Permissions.{CanCreateFileAtPath, CanMakeDirectoryAtPath, CanRemoveEntryAtPath, CanRemoveAttrAtPath, CanSetAttrAtPath};
 ghost use Rattle.lfs_lookup.specs.CachedPairs.{AreFewDirectoriesOfOnePairEach};
+ghost use Rattle.lfs_tree.specs.CreationPaths.{IsLookupResultAtCreationPath};
 ghost use Rattle.lfs_tree.specs.Calls as call;
 ghost use Rattle.lfs_tree.specs.Calls.{AppliesCallOrFails};
-ghost use Rattle.lfs_tree.specs.Reads.{HasCachedDirectories, ReadsDirectoryPairsAtMostOnce, ReadsAtMostPairsAbovePathPlusSix};
+ghost use Rattle.lfs_tree.specs.Reads.{HasCachedDirectories, ReadsAtMostSixTimes, ReadsDirectoryPairsAtMostOnce};
 ghost use Rattle.lfs_tree.specs.Recoveries.{HasRecoveredFromPowerLoss};
 ghost use Rattle.lfs_lookup.specs.AttributeAt.{IsAttributesSize};
 ghost use Rattle.lfs_lookup.specs.Finds.{IsFoundNodeAtPath, has_entry_beneath_path, list_item_view};
@@ -38,8 +39,8 @@ use crate::removals_at::remove_at;
 use core::mem::replace_with;
 use lfs_device::{BlockDevice, Error, Geometry};
 use lfs_lookup::{
-    FoundAttribute, FoundNode, Listing, NodeAndEmptiness, Path, find_attribute_at_path,
-    find_if_path_has_entries, find_node_at_path, find_total_size_of_attributes_at_path,
+    FoundAttribute, FoundNode, Listing, NodeAndEmptiness, Path, PathLookup,
+    find_attribute_at_path, find_if_path_has_entries, find_node_at_path, find_total_size_of_attributes_at_path,
     list_directory_at_path,
 };
 use lfs_tag::MoveState;
@@ -313,20 +314,29 @@ impl<D: BlockDevice> Tree<D> {
         made
     }
 
-    /// Makes an empty file where no entry is.
+    /// Makes an empty file where no entry is. Where nothing is to recover, the call takes at most six
+    /// reads.
     ///
-    /// A recovery comes first. Where nothing is to recover, the call takes at most six reads more
-    /// than the directories above the path have pairs.
+    /// `known` is where the path leads to, as [`look_up_creation`](Tree::look_up_creation) has just found
+    /// it. It is None where something is to recover: a recovery comes first then, and the path is looked up
+    /// again after it.
     ///
     /// Errors: `Io` where a call of the device failed. `NoMemory` where memory isn't granted. The
     /// tree has failed after either.
-    pub fn create(&mut self, alloc: Global, path: &Path<'_>) -> Result<(), Error>
-        requires { CanCreateFileAtPath self.old path.now }
+    pub fn create(
+        &mut self,
+        alloc: Global,
+        path: &Path<'_>,
+        known: Option<PathLookup>,
+    ) -> Result<(), Error>
+        requires can { CanCreateFileAtPath self.old path.now }
+        requires known { IfSome known (IsLookupResultAtCreationPath (kept_thread_of_tree_state self.old) path.now) }
+        requires looked_up { gstate_of_pairs self.old.pairs ≡ zero_gstate → IsSome known }
         ensures does { AppliesCallOrFails self.old (call.Create path.now) result self.new }
-        ensures few { ReadsAtMostPairsAbovePathPlusSix path.now self.old self.new.history }
+        ensures few { ReadsAtMostSixTimes self.old self.new.history }
     {
         self.recover(alloc)?;
-        let created = create_empty_file_at(alloc, &mut self.thread, self.root, path);
+        let created = create_empty_file_at(alloc, &mut self.thread, self.root, path, known);
         mark_thread_failed_on_error(&mut self.thread, &created);
         created
     }

@@ -3,20 +3,23 @@ use Rattle.std.specs.Prelude.{IfErr}
 use Rattle.std.proofs.lemmas.Result.{err_from_is_err_and}
 use Rattle.lfs_tree.specs.TreeState.{IsIoWithFaultOrNoMemory}
 use Rattle.lfs_fs.proofs.Questions.{error_either}
-use Rattle.lfs_fs.proofs.WritersInPlace.{has_contents, same_bytes, same_form}
+use Rattle.lfs_fs.proofs.WritersInPlace.{has_contents, has_size, same_bytes, same_form}
 use Rattle.lfs_fs.proofs.Writing.{beside_later, broken_after, can_write, has_written}
 use Rattle.lfs_fs.proofs.Stopping.{nothing_yet, then_reads}
 use Rattle.lfs_fs.proofs.StoppedCalls.{beside_left}
 use Rattle.lfs_fs.proofs.writers.write_bytes_by_writer.Goals as goal
 
-pub contents_of_writer-requires : goal.contents_of_writer-requires
-contents_of_writer-requires g c = has_contents c.args.tree.now c.args.writer.now c.take.result c.requires.can c.take.ensures.value
+pub contents_of_writer-requires-clause-file : goal.contents_of_writer-requires-clause-file
+contents_of_writer-requires-clause-file g c = has_contents c.args.tree.now c.args.writer.now c.take-unsaved.result c.requires.can c.take-unsaved.ensures.value
+
+pub contents_of_writer-requires-clause-size : goal.contents_of_writer-requires-clause-size
+contents_of_writer-requires-clause-size g c = has_size c.args.tree.now c.args.writer.now c.take-unsaved.result c.requires.can c.take-unsaved.ensures.value
 
 pub write-requires : goal.write-requires
 write-requires g c =
     let k = c.in_ok-contents.ensures in
     can_write c.args.tree.now c.contents_of_writer.new.tree c.args.writer.now c.args.bytes.now c.place-place.result c.in_ok-contents.contents _ c.requires k.asked c.place-place.ensures k.over refl
-    (same_form c.args.tree.now c.args.writer.now c.take.result c.in_ok-contents.contents c.take.ensures.value k.form)
+    (same_form c.args.tree.now c.args.writer.now c.take-unsaved.result c.in_ok-contents.contents c.take-unsaved.ensures.value k.form)
     c.reserved_blocks_suffice_for_calls.ensures.large c.reserved_blocks_suffice_for_calls.ensures.write
 
 pub returns-in_err-contents-2-clause-broken : goal.returns-in_err-contents-2-clause-broken
@@ -35,8 +38,8 @@ returns-clause-written g c =
     let l = c.in_ok-contents-2.ensures in
     has_written c.args.tree.now c.contents_of_writer.new.tree c.write.new.self c.args.writer.now c.args.bytes.now c.place-place.result c.min.result _ c.is_nonsequential_after_change_at-has_turned.result c.in_ok-contents.contents c.in_ok-contents-2.contents _
     c.requires k.asked c.place-place.ensures k.over refl
-    (same_form c.args.tree.now c.args.writer.now c.take.result c.in_ok-contents.contents c.take.ensures.value k.form)
-    (same_bytes c.args.tree.now c.args.writer.now c.take.result _ c.take.ensures.value k.bytes)
+    (same_form c.args.tree.now c.args.writer.now c.take-unsaved.result c.in_ok-contents.contents c.take-unsaved.ensures.value k.form)
+    (same_bytes c.args.tree.now c.args.writer.now c.take-unsaved.result _ c.take-unsaved.ensures.value k.bytes)
     c.contents_forms_fit_writer_after_calls.ensures.written l.writes.beside l.over l.written.bytes l.written.form c.min.ensures c.is_nonsequential_after_change_at-has_turned.ensures c.max-writer.ensures
 
 pub returns-clause-beside : goal.returns-clause-beside

@@ -21,33 +21,33 @@ spot_for_missing_name-place-requires g c = place_found c.args.thread.now.kept c.
 pub create_file-requires-clause-can : goal.create_file-requires-clause-can
 create_file-requires-clause-can g c =
     let t = c.args.thread.now in
-    let mid = c.find_at_path.new.thread.kept in
+    let mid = c.find_unless_known.new.thread.kept in
     let spot = c.spot_for_missing_name-place.result in
     let name = c.in_ok-target.target.name.now in
     let target = c.in_ok-target.ensures.target in
     let place = place_for t.kept c.args.path.now c.in_ok-target.target.found name spot (vacant_to t.kept c.args.path.now 2 c.requires.can) target.leads c.spot_for_missing_name-place.ensures target.named in
-    subst (λ k. CanCreateFileInPair k spot.pair spot.id name) (sym (read_is t.kept mid c.find_at_path.ensures.reading.only))
+    subst (λ k. CanCreateFileInPair k spot.pair spot.id name) (sym (read_is t.kept mid c.find_unless_known.ensures.reading.only))
     (can_create t c.args.root c.requires.rests c.args.path.now c.show_path_names_are_valid_to_proof.ensures c.show_block_facts_to_proof.ensures.large c.show_block_facts_to_proof.ensures.bytes 2 c.requires.can name spot place mid.history)
 
 pub returns-in_err-target-clause-does : goal.returns-in_err-target-clause-does
 returns-in_err-target-clause-does g c =
     let p = err_from_is_err_and c.from_residual.result c.from_residual.ensures.1 in
-    only_read_change c.args.thread.now c.args.root c.requires.rests c.find_at_path.new.thread _ _ c.from_residual.result p.0 p.1
-    (passed _ _ c.find_at_path.result c.from_residual.result _ p.0 c.in_err-target.was p.1 p.2 c.find_at_path.ensures.reading)
+    only_read_change c.args.thread.now c.args.root c.requires.rests c.find_unless_known.new.thread _ _ c.from_residual.result p.0 p.1
+    (passed _ _ c.find_unless_known.result c.from_residual.result _ p.0 c.in_err-target.was p.1 p.2 c.find_unless_known.ensures.reading)
 
 pub returns-in_err-target-clause-few : goal.returns-in_err-target-clause-few
-returns-in_err-target-clause-few g c = let found = c.find_at_path.ensures.few in omega (arith, found)
+returns-in_err-target-clause-few g c known = let same = c.find_unless_known.ensures.unread known in omega (arith, same)
 
 pub returns-clause-does : goal.returns-clause-does
 returns-clause-does g c =
     let t = c.args.thread.now in
-    let mid = c.find_at_path.new.thread in
+    let mid = c.find_unless_known.new.thread in
     let new = c.create_file.new.thread in
     let spot = c.spot_for_missing_name-place.result in
     let name = c.in_ok-target.target.name.now in
     let target = c.in_ok-target.ensures.target in
     let place = place_for t.kept c.args.path.now c.in_ok-target.target.found name spot (vacant_to t.kept c.args.path.now 2 c.requires.can) target.leads c.spot_for_missing_name-place.ensures target.named in
-    let read = answered t mid c.find_at_path.result c.in_ok-target.target c.in_ok-target.was c.find_at_path.ensures.reading in
+    let read = answered t mid c.find_unless_known.result c.in_ok-target.target c.in_ok-target.was c.find_unless_known.ensures.reading in
     let is = read_is t.kept mid.kept read.only in
     let e = c.create_file.ensures in
     create_does t c.args.root c.requires.rests c.args.path.now c.show_path_names_are_valid_to_proof.ensures c.show_block_facts_to_proof.ensures.large c.show_block_facts_to_proof.ensures.bytes 2 c.requires.can name spot place mid.kept.history new c.create_file.result c.show_path_comes_from_bytes_to_proof.ensures.0 c.show_path_comes_from_bytes_to_proof.ensures.1
@@ -57,4 +57,4 @@ returns-clause-does g c =
     (subst (λ k. (can : CanCreateFileInPair k spot.pair spot.id name) → SurvivesWithOldOrNewTree k new.kept (tree_with_new_file k can.path name)) is e.survives)
 
 pub returns-clause-few : goal.returns-clause-few
-returns-clause-few g c = let found = c.find_at_path.ensures.few in let few = c.create_file.ensures.few in omega (arith, found, few)
+returns-clause-few g c known = let same = c.find_unless_known.ensures.unread known in let few = c.create_file.ensures.few in omega (arith, same, few)

@@ -1,7 +1,9 @@
 use Rattle.std.proofs.Common.{◌≡◌, ◌<◌, ◌∙◌, [], sym, refl, ap, subst, set, length, Some, None, Ok}
+use Rattle.std.specs.Prelude.{IfSome}
 use Rattle.lfs_model.specs.Operations as ops
 use Rattle.lfs_model.specs.Effects.{file_size_of_node}
-use Rattle.lfs_tree.specs.TreeState.{TreeState, tree_view}
+use Rattle.lfs_tree.specs.CreationPaths.{IsLookupResultAtCreationPath}
+use Rattle.lfs_tree.specs.TreeState.{TreeState, kept_thread_of_tree_state, tree_view}
 use Rattle.lfs_fs.specs.FlagsView.{flags_view}
 use Rattle.lfs_fs.specs.FileView.{open_file_at, writers_among}
 use Rattle.lfs_fs.specs.declared.files.OpenFile.TheVariants as file
@@ -39,8 +41,16 @@ writer_of_existing_file-answer-requires g c =
     let h = c.in_ok-found.ensures in
     can_begin c.self.inside.tree c.check_open_writer.new.tree c.self.inside.files c.args.path.now (flags_view c.args.flags) c.in-Ok.owned c.in-Some.size c.self.invariant.ready h.0 h.1 c.requires c.in-Ok.ensures.path (ap (λ p. file_size_of_node (tree_view c.self.inside.tree p)) (c.in-Ok.ensures.path ∙ sym h.2.path) ∙ h.2.size ∙ c.in-Some.is)
 
-pub create_file_and_open_writer-answer-requires : goal.create_file_and_open_writer-answer-requires
-create_file_and_open_writer-answer-requires g c =
+pub create_file_and_open_writer-answer-requires-clause-known : goal.create_file_and_open_writer-answer-requires-clause-known
+create_file_and_open_writer-answer-requires-clause-known g c =
+    let h = c.in_ok-found.ensures in
+    subst (λ p. IfSome c.in_ok-found.found.target (IsLookupResultAtCreationPath (kept_thread_of_tree_state c.check_open_writer.new.tree) p)) (h.2.path ∙ sym c.in-Ok.ensures.path) h.2.target
+
+pub create_file_and_open_writer-answer-requires-clause-looked_up : goal.create_file_and_open_writer-answer-requires-clause-looked_up
+create_file_and_open_writer-answer-requires-clause-looked_up g c = c.in_ok-found.ensures.2.handed_on
+
+pub create_file_and_open_writer-answer-requires-clause-can : goal.create_file_and_open_writer-answer-requires-clause-can
+create_file_and_open_writer-answer-requires-clause-can g c =
     let h = c.in_ok-found.ensures in
     can_create c.self.inside.tree c.check_open_writer.new.tree c.self.inside.files c.args.path.now (flags_view c.args.flags) c.in-Ok.owned c.self.invariant.ready h.0 h.1 c.requires c.in-Ok.ensures.path (ap (λ p. file_size_of_node (tree_view c.self.inside.tree p)) (c.in-Ok.ensures.path ∙ sym h.2.path) ∙ h.2.size ∙ c.in-None.is)
 

@@ -16,6 +16,3 @@ sum_end es i sum le = at_drop_all (λ xs. sum_with_amounts sum (amounts_of_entri
 pub told_next : (es : List SourceEntry) (i : ℕ) (x : SourceEntry) (told : Option AmountsTold) → i < length es → x ≡ get_or es i x
     → told_with_each_done (amounts_of_entries (drop (i + 1) es)) (told_with_more_done (amount_of_entry x) told) ≡ told_with_each_done (amounts_of_entries (drop i es)) told
 told_next es i x told lt is = ap (λ y. told_with_each_done (amounts_of_entries (drop (i + 1) es)) (told_with_more_done (amount_of_entry y) told)) is ∙ sym (at_drop_more (λ xs. told_with_each_done (amounts_of_entries xs) told) es i x lt)
-
-pub told_end : (es : List SourceEntry) (i : ℕ) (told : Option AmountsTold) → length es ≤ i → told_with_each_done (amounts_of_entries (drop i es)) told ≡ told
-told_end es i told le = at_drop_all (λ xs. told_with_each_done (amounts_of_entries xs) told) es i le

@@ -1,15 +1,10 @@
 -- Bytes that erased ones follow, up to a size.
 use Rattle.std.proofs.Common.{ℕ, ◌≡◌, ◌+◌, ◌-◌, ◌≤◌, ◌∙◌, List, [], ◌++◌, ap, append_assoc, arith, drop, length, length-append, replicate, sym, take}
 use Rattle.std.specs.Prelude.{slice_range}
-use Rattle.std.proofs.lemmas.List.{append-nil, drop-append-le, length-drop, length-replicate, replicate-append-replicate, take-append-le}
+use Rattle.std.proofs.lemmas.List.{drop-append-le, length-drop, length-replicate, replicate-append-replicate, take-append-le}
 use Rattle.lfs_model.specs.Blocks.{bytes_after_overwrite_at}
 use Rattle.lfs_model.proofs.Overwrites.{length-overwritten}
 use Rattle.lfs_tool.specs.Excerpt.{bytes_padded_to_size}
-
-pub padded_whole : (end : ℕ) (xs : List ℕ) → end ≤ length xs → xs ≡ bytes_padded_to_size end xs
-padded_whole end xs le =
-    let none : end - length xs ≡ 0 = omega arith in
-    sym (ap (λ n. xs ++ replicate n 255) none ∙ append-nil xs)
 
 pub padded_again : (size end : ℕ) (xs : List ℕ) → end ≤ size → bytes_padded_to_size size (bytes_padded_to_size end xs) ≡ bytes_padded_to_size size xs
 padded_again size end xs le =

@@ -7,13 +7,13 @@ use Rattle.lfs_tool_line.specs.declared.line.Line.{Line}
 use Rattle.lfs_tool.specs.Explained.{FailsToCountNeededBlocks, FailsToReadImage}
 use Rattle.lfs_tool.specs.KnownBytes.{IsErrorOfReaderFaultOrNoMemory}
 use Rattle.lfs_tool.specs.MadeImages.{ReportsSourceFaults}
-use Rattle.lfs_tool.specs.Reports.{ReportsWriterFaults}
+use Rattle.lfs_tool.specs.Reports.{IsFlushedOnce, ReportsWriterFaults}
 use Rattle.lfs_tool.specs.declared.errors.ToolError.{ToolError}
 use Rattle.lfs_tool.specs.declared.errors.ToolError.TheVariants.{Fs, Input, Output}
 use Rattle.lfs_tool.specs.declared.writer.ToolOutput.{Ghosts}
 
 -- what was written is flushed
-pub and_flushed : {W X : Type 0} (g : Ghosts W) (old new : W) (r : Result X ToolError) (P : Type 0) → OnOk r P → ReportsWriterFaults g old new r → OnOk r (P × (g.pending new ≡ 0))
+pub and_flushed : {W X : Type 0} (g : Ghosts W) (old new : W) (r : Result X ToolError) (P : Type 0) → OnOk r P → ReportsWriterFaults g old new r → OnOk r (P × IsFlushedOnce g old new)
 and_flushed g old new (Ok x) P h reports = (h, reports.1)
 and_flushed g old new (Err e) P h reports = tt
 

@@ -2,7 +2,7 @@
 use Rattle.std.proofs.Common.{ℕ, ◌≡◌, ◌+◌, ◌-◌, ◌≤◌, ◌∙◌, ◌++◌, List, Option, Some, None, ap, ap₂, append_assoc, arith, length, length-append, replicate, subst, sym, take}
 use Rattle.std.specs.Io.KnownBytes.{Appends, Keeps}
 use Rattle.std.proofs.Math.Seq.{drop-append_seam, take-add, take-append_seam}
-use Rattle.std.proofs.lemmas.List.{replicate-append-replicate, take-append-le, take-replicate, take_all}
+use Rattle.std.proofs.lemmas.List.{replicate-append-replicate, take-append-le, take_all}
 use Rattle.lfs_tool.specs.Excerpt.{bytes_padded_to_size}
 use Rattle.lfs_tool.specs.KnownBytes.{AppendsBeginningOfBytes}
 
@@ -44,10 +44,6 @@ erased_beginning old mid new a b count fits first second =
     let whole = replicate-append-replicate (a + b) (count - (a + b)) 255 in
     subst (AppendsBeginningOfBytes old new) (ap (λ s. s ++ replicate (count - (a + b)) 255) both ∙ whole ∙ ap (λ n. replicate n 255) rest)
     (beginning_of_first old new (replicate a 255 ++ replicate b 255) (replicate (count - (a + b)) 255) (beginning_of_second old mid new (replicate a 255) (replicate b 255) first second))
-
--- the first of many erased bytes
-pub erased_part : (n most : ℕ) → n ≤ most → take n (replicate most 255) ≡ replicate {A = ℕ} n 255
-erased_part n most le = take-replicate n most 255 le
 
 pub beginning_kept : (old mid new : Option (List ℕ)) (xs : List ℕ) → Appends old mid xs → Keeps mid new → AppendsBeginningOfBytes old new xs
 beginning_kept old mid new xs first kept = beginning_of_all old new xs (appends_kept old mid new xs first kept)

@@ -14,6 +14,10 @@ watched_fault_count w = w.faults.count
 abbrev pub unflushed_write_count : {T : Type 0} → WatchedStream T → ℕ
 unflushed_write_count w = w.pending.count
 
+-- how often its bytes were flushed
+abbrev pub flush_count : {T : Type 0} → WatchedStream T → ℕ
+flush_count w = w.flushes.count
+
 -- how many values it has shown
 abbrev pub written_value_count : {T : Type 0} → WatchedStream T → ℕ
 written_value_count w = w.shown.count

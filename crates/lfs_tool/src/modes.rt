@@ -1,8 +1,8 @@
 // The modes of a command line, at its places.
 
 ghost use Rattle.std.specs.Prelude.{◌≡◌, ◌≢◌, IfOk, IsErrOf, OnOk, false, suc, true};
-ghost use Rattle.lfs_tool.specs.Reports.{ReportsWriterFaults};
-ghost use Rattle.lfs_tool.specs.RunsAtPaths.{IsTrueForMode, ChecksImageAtPath, IsImageAcceptedUnlessModeIsCheck, HasFaultAtPath, FailsToReadFolder, ListsImageAtPath, MakesImageAtPath, RefusesToListAtPath, RefusesToMakeImage, UnpacksImageAtPath, is_mode_that_writes_lines};
+ghost use Rattle.lfs_tool.specs.Reports.{FailsUnflushed, IsFlushedOnce, ReportsWriterFaults};
+ghost use Rattle.lfs_tool.specs.RunsAtPaths.{IsTrueForMode, ChecksImageAtPath, FailsUnflushedAtPath, IsImageAcceptedUnlessModeIsCheck, HasFaultAtPath, FailsToReadFolder, ListsImageAtPath, MakesImageAtPath, RefusesToListAtPath, RefusesToMakeImage, UnpacksImageAtPath, is_mode_that_writes_lines};
 
 use crate::{
     Line, Mode, Places, ToolError, ToolOutput, check_for_command_line, create_for_command_line,
@@ -54,10 +54,10 @@ fn create_image_at_path<P: Places>(
     line: &Line<'_>,
     folder: &str,
 ) -> Result<(), ToolError>
-    ensures made { OnOk result (MakesImageAtPath P.folder_path P.folder_limit P.Folder.shown P.new_image_path P.NewImage.contents P.NewImage.pending line.now folder.now) }
+    ensures made { OnOk result (MakesImageAtPath P.folder_path P.folder_limit P.Folder.shown P.new_image_path P.NewImage.contents (IsFlushedOnce P.NewImage.ToolOutput) line.now folder.now) }
     ensures refused { (e : _) → IsErrOf result (ToolError.Fs e) → e ≢ Error.NoMemory → RefusesToMakeImage P.folder_path P.folder_limit P.Folder.shown line.now e folder.now }
     ensures input { IsErrOf result ToolError.Input → FailsToReadFolder P.folder_path P.Folder.faults P.Folder.shown folder.now }
-    ensures output { IsErrOf result ToolError.Output → HasFaultAtPath P.new_image_path P.NewImage.faults line.now.image.now }
+    ensures output { IsErrOf result ToolError.Output → FailsUnflushedAtPath P.new_image_path (FailsUnflushed P.NewImage.ToolOutput) line.now.image.now }
 {
     let mut source = places.folder(folder, line.size)?;
     let mut image = places.new_image(line.image)?;
@@ -100,7 +100,7 @@ pub fn run_mode_of_command_line<P: Places, W: ToolOutput>(
     ensures done { IfOk result (λ accepted. IsImageAcceptedUnlessModeIsCheck line.now.mode accepted × IsTrueForMode line.now.mode
         (ListsImageAtPath P.image_path P.Image.remaining line.now (W.contents out.old) (W.contents out.new) × (W.pending out.new ≡ 0))
         (ChecksImageAtPath P.image_path P.Image.remaining line.now accepted (W.contents out.old) (W.contents out.new) × (W.pending out.new ≡ 0))
-        (MakesImageAtPath P.folder_path P.folder_limit P.Folder.shown P.new_image_path P.NewImage.contents P.NewImage.pending line.now)
+        (MakesImageAtPath P.folder_path P.folder_limit P.Folder.shown P.new_image_path P.NewImage.contents (IsFlushedOnce P.NewImage.ToolOutput) line.now)
         (UnpacksImageAtPath P.image_path P.Image.remaining P.new_folder_path P.NewFolder.done line.now)) }
     ensures refused { (e : _) → IsErrOf result (ToolError.Fs e) → e ≢ Error.NoMemory → IsTrueForMode line.now.mode
         (RefusesToListAtPath P.image_path P.Image.remaining line.now e)
@@ -115,7 +115,7 @@ pub fn run_mode_of_command_line<P: Places, W: ToolOutput>(
     ensures output { IsErrOf result ToolError.Output → IsTrueForMode line.now.mode
         (W.faults out.new ≡ suc (W.faults out.old))
         (W.faults out.new ≡ suc (W.faults out.old))
-        (λ _. HasFaultAtPath P.new_image_path P.NewImage.faults line.now.image.now)
+        (λ _. FailsUnflushedAtPath P.new_image_path (FailsUnflushed P.NewImage.ToolOutput) line.now.image.now)
         (HasFaultAtPath P.new_folder_path P.NewFolder.faults) }
 {
     match line.mode {

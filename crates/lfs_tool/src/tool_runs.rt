@@ -4,6 +4,7 @@ ghost use Rattle.std.specs.String.{string_bytes};
 ghost use Rattle.lfs_tool_line.specs.Matches.{IsCommandLineOfParsedArguments, is_check_requested, is_list_requested, rows};
 ghost use Rattle.lfs_tool.specs.RunEnds.{AreWordsOfValidCommandLine, IsCommandLineDoneOrErrorReported, IsRequestDoneOrFailureReported, IsFailureReportedWithStatus};
 ghost use Rattle.lfs_tool.specs.Explained.{IsErrorFollowedByExplanationIfRequested};
+ghost use Rattle.lfs_tool.specs.Reports.{IsFlushedOnce};
 ghost use Rattle.lfs_tool.specs.RunsAtPaths.{IsTrueForMode, ChecksImageAtPath, IsImageAcceptedUnlessModeIsCheck, ListsImageAtPath, MakesImageAtPath, UnpacksImageAtPath, is_mode_that_writes_lines};
 
 use crate::explanations::write_explanation_if_requested;
@@ -40,14 +41,14 @@ fn run_line_and_return_exit_status<P: Places, O: ToolOutput, E: ToolOutput>(
     ensures answered { IsCommandLineDoneOrErrorReported E.ToolOutput (λ accepted. IsImageAcceptedUnlessModeIsCheck line.now.mode accepted × IsTrueForMode line.now.mode
         (ListsImageAtPath P.image_path P.Image.remaining line.now (O.contents out.old) (O.contents out.new) × (O.pending out.new ≡ 0))
         (ChecksImageAtPath P.image_path P.Image.remaining line.now accepted (O.contents out.old) (O.contents out.new) × (O.pending out.new ≡ 0))
-        (MakesImageAtPath P.folder_path P.folder_limit P.Folder.shown P.new_image_path P.NewImage.contents P.NewImage.pending line.now)
+        (MakesImageAtPath P.folder_path P.folder_limit P.Folder.shown P.new_image_path P.NewImage.contents (IsFlushedOnce P.NewImage.ToolOutput) line.now)
         (UnpacksImageAtPath P.image_path P.Image.remaining P.new_folder_path P.NewFolder.done line.now))
         (IsErrorFollowedByExplanationIfRequested P.image_path P.Image.remaining P.Image.faults P.folder_path P.folder_limit P.Folder.faults P.Folder.shown E.ToolOutput line.now) result err.old err.new }
     ensures unlisted { is_mode_that_writes_lines line.now.mode ≡ false → out.new ≡ out.old }
     ensures done { result ≡ 0 → IsTrueForMode line.now.mode
         (ListsImageAtPath P.image_path P.Image.remaining line.now (O.contents out.old) (O.contents out.new) × (O.pending out.new ≡ 0))
         (ChecksImageAtPath P.image_path P.Image.remaining line.now true (O.contents out.old) (O.contents out.new) × (O.pending out.new ≡ 0))
-        (MakesImageAtPath P.folder_path P.folder_limit P.Folder.shown P.new_image_path P.NewImage.contents P.NewImage.pending line.now)
+        (MakesImageAtPath P.folder_path P.folder_limit P.Folder.shown P.new_image_path P.NewImage.contents (IsFlushedOnce P.NewImage.ToolOutput) line.now)
         (UnpacksImageAtPath P.image_path P.Image.remaining P.new_folder_path P.NewFolder.done line.now) }
 {
     match run_mode_of_command_line(alloc, places, line, out) {
@@ -75,7 +76,7 @@ pub fn run_and_return_exit_status<P: Places, O: ToolOutput, E: ToolOutput>(
     ensures answered { IfOk words (λ all. IsRequestDoneOrFailureReported E.ToolOutput (map string_bytes all.items) (λ line accepted. IsImageAcceptedUnlessModeIsCheck line.mode accepted × IsTrueForMode line.mode
         (ListsImageAtPath P.image_path P.Image.remaining line (O.contents out.old) (O.contents out.new) × (O.pending out.new ≡ 0))
         (ChecksImageAtPath P.image_path P.Image.remaining line accepted (O.contents out.old) (O.contents out.new) × (O.pending out.new ≡ 0))
-        (MakesImageAtPath P.folder_path P.folder_limit P.Folder.shown P.new_image_path P.NewImage.contents P.NewImage.pending line)
+        (MakesImageAtPath P.folder_path P.folder_limit P.Folder.shown P.new_image_path P.NewImage.contents (IsFlushedOnce P.NewImage.ToolOutput) line)
         (UnpacksImageAtPath P.image_path P.Image.remaining P.new_folder_path P.NewFolder.done line))
         (IsErrorFollowedByExplanationIfRequested P.image_path P.Image.remaining P.Image.faults P.folder_path P.folder_limit P.Folder.faults P.Folder.shown E.ToolOutput) result err.old err.new) }
     ensures unlisted { IfOk words (λ all. AreWordsOfValidCommandLine (map string_bytes all.items) → is_list_requested (rows (map string_bytes all.items)) ≡ false → is_check_requested (rows (map string_bytes all.items)) ≡ false → out.new ≡ out.old) }
@@ -84,7 +85,7 @@ pub fn run_and_return_exit_status<P: Places, O: ToolOutput, E: ToolOutput>(
     ensures done { IfOk words (λ all. AreWordsOfValidCommandLine (map string_bytes all.items) → result ≡ 0 → (line : _) × (IsCommandLineOfParsedArguments (rows (map string_bytes all.items)) line × IsTrueForMode line.mode
         (ListsImageAtPath P.image_path P.Image.remaining line (O.contents out.old) (O.contents out.new) × (O.pending out.new ≡ 0))
         (ChecksImageAtPath P.image_path P.Image.remaining line true (O.contents out.old) (O.contents out.new) × (O.pending out.new ≡ 0))
-        (MakesImageAtPath P.folder_path P.folder_limit P.Folder.shown P.new_image_path P.NewImage.contents P.NewImage.pending line)
+        (MakesImageAtPath P.folder_path P.folder_limit P.Folder.shown P.new_image_path P.NewImage.contents (IsFlushedOnce P.NewImage.ToolOutput) line)
         (UnpacksImageAtPath P.image_path P.Image.remaining P.new_folder_path P.NewFolder.done line))) }
 
     // Without words.

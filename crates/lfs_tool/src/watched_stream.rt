@@ -16,9 +16,10 @@ use std::io::{ErrorKind, Read, Write};
 #[derive(Drop)]
 pub struct WatchedStream<T> {
     inner: T,
-    // The failed calls, the writes since the last flush, and the values that were shown.
+    // The failed calls, the writes since the last flush, the flushes, and the values that were shown.
     faults: Tally,
     pending: Tally,
+    flushes: Tally,
     shown: Tally,
 }
 
@@ -34,6 +35,7 @@ impl<T> WatchedStream<T> {
             inner,
             faults: Tally::none(),
             pending: Tally::none(),
+            flushes: Tally::none(),
             shown: Tally::none(),
         }
     }
@@ -78,13 +80,15 @@ impl<R: Read> ImageInput for WatchedStream<R> {
 }
 
 impl<W: Write> ToolOutput for WatchedStream<W> {
-    ghost use Rattle.lfs_tool.specs.WatchedStreams.{watched_fault_count, watched_inner_stream, unflushed_write_count, written_value_count};
+    ghost use Rattle.lfs_tool.specs.WatchedStreams.{watched_fault_count, flush_count, watched_inner_stream, unflushed_write_count, written_value_count};
 
     ghost contents = { λ w. W.contents (watched_inner_stream w) };
 
     ghost faults = { watched_fault_count };
 
     ghost pending = { unflushed_write_count };
+
+    ghost flushes = { flush_count };
 
     ghost shown = { written_value_count };
 
@@ -117,6 +121,7 @@ impl<W: Write> ToolOutput for WatchedStream<W> {
             match self.inner.flush() {
                 Ok(()) => {
                     self.pending = Tally::none();
+                    self.flushes = self.flushes.one_more();
                     return Ok(());
                 }
                 Err(error) if error.kind() == ErrorKind::Interrupted => {}

@@ -6,7 +6,7 @@ use std::fmt::Display;
 use std::io;
 
 /// A sink for the bytes of an image, or lines. A contract sees how many of its calls have failed,
-/// and whether its bytes were flushed.
+/// how often its bytes were flushed, and whether all were.
 pub trait ToolOutput {
     // The bytes that it has, where they are known.
     ghost contents: { Self → Option (List ℕ) } = { λ _. None };
@@ -16,6 +16,9 @@ pub trait ToolOutput {
 
     // How many writes there were since the last flush.
     ghost pending: { Self → ℕ };
+
+    // How often its bytes were flushed.
+    ghost flushes: { Self → ℕ };
 
     // How many values it has shown.
     ghost shown: { Self → ℕ };
@@ -28,15 +31,16 @@ pub trait ToolOutput {
         ensures bytes { WriteAppends (contents self.old) (contents self.new) result buf.now }
         ensures ok { IfOk result (λ n. (0 < n) × (faults self.new ≡ faults self.old)) }
         ensures pending { OnOk result (pending self.new ≡ suc (pending self.old)) }
+        ensures unflushed { flushes self.new ≡ flushes self.old }
         ensures fault { OnErr result (faults self.new ≡ suc (faults self.old)) };
 
     /// Flushes the bytes that were written. An error is a failure.
     fn flush(&mut self) -> io::Result<()>
         ensures bytes { Keeps (contents self.old) (contents self.new) }
         ensures ok { OnOk result (faults self.new ≡ faults self.old) }
-        ensures flushed { OnOk result (pending self.new ≡ 0) }
+        ensures flushed { OnOk result ((pending self.new ≡ 0) × (flushes self.new ≡ suc (flushes self.old))) }
         ensures shown { shown self.new ≡ shown self.old }
-        ensures fault { OnErr result (faults self.new ≡ suc (faults self.old)) };
+        ensures fault { OnErr result ((faults self.new ≡ suc (faults self.old)) × (flushes self.new ≡ flushes self.old)) };
 
     /// Writes the text of a value, and flushes it. An error is a failure, and a part may be written
     /// then.

@@ -1,6 +1,9 @@
 // Images that are written whole or not at all.
 
 use crate::disk::{DiskFiles, DiskHabit, MemoryFileSystem, PathKind};
+use crate::sources::memory_source_of_items;
+use lfs_device::{Error, Geometry};
+use lfs_tool::{ToolError, WatchedStream, create};
 use lfs_tool_folders::NewImage;
 use std::alloc::Global;
 use std::io;
@@ -140,6 +143,43 @@ fn images_are_whole_or_not_there(rt: HostRuntime) -> Result<(), Fail> {
             "{kind:?} {room} {habit:?}"
         );
         assert_eq!(rt; disk.count(), names, "{kind:?} {room} {habit:?}");
+    }
+    Ok(())
+}
+
+// How many bytes are free for an image of 16 blocks of 1,024 bytes, of which two are used, and whether it is made.
+const FREE_BYTES: [(usize, bool); 6] = [
+    (0, false),
+    (2047, false),
+    (2048, false),
+    (2049, false),
+    (16383, false),
+    (16384, true),
+];
+
+// Makes the image of an empty source at the path.
+fn create_new_image(files: &DiskFiles<'_>) -> Result<Result<(), ToolError>, Error> {
+    let mut source = memory_source_of_items(files.alloc, &[])?;
+    let geometry = Geometry::new(1024, 256, 16)?;
+    let mut out = WatchedStream::new(NewImage::new(files.alloc, files, PATH)?);
+    Ok(create(files.alloc, &mut source, geometry, &mut out, &mut ()))
+}
+
+// An old image stays where there is no room for all of the new one, also where only its unused blocks are left.
+#[test]
+fn images_without_room_for_their_end_are_not_there(rt: HostRuntime) -> Result<(), Fail> {
+    for (room, is_made) in FREE_BYTES {
+        let disk = disk_with_old_image(rt.alloc(), Some(PathKind::File), room, DiskHabit::Plain)?;
+        let files = DiskFiles {
+            alloc: rt.alloc(),
+            disk: &disk,
+        };
+        let result = create_new_image(&files)?;
+        assert!(rt; result == if is_made { Ok(()) } else { Err(ToolError::Output) }, "{room}");
+        let found = disk.bytes_of_named_node(rt.alloc(), PATH)?;
+        let len = found.as_ref().map(|bytes| bytes.len());
+        assert_eq!(rt; len, Some(if is_made { 16384 } else { OLD.len() }), "{room}");
+        assert_eq!(rt; disk.count(), 1, "{room}");
     }
     Ok(())
 }

@@ -361,8 +361,8 @@ impl<'a> Content<'a> {
         Content::read_with_room_for_slots(alloc, log, 0)
     }
 
-    /// Reads a log's content as [`read`](Content::read) does. Memory for so many slots is asked for first, so
-    /// that a caller who knows their number asks once.
+    /// Reads a log's content as [`read`](Content::read) does. Memory for so many slots is asked for first. For
+    /// slots no more is asked for, unless the log ever had more of them.
     ///
     /// Errors are those of [`read`](Content::read).
     pub fn read_with_room_for_slots(

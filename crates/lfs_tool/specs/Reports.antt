@@ -10,16 +10,16 @@ use Rattle.lfs_tool.specs.declared.writer.ToolOutput.{Ghosts}
 abbrev pub IsThisErrorExactlyIfOneCallFailed : {X : Type 0} → ToolError → ℕ → ℕ → Result X ToolError → Type 0
 IsThisErrorExactlyIfOneCallFailed e old new r = (IsErrOf r e → new ≡ suc old) × (¬ IsErrOf r e → new ≡ old)
 
--- all that was written is flushed, and nothing was flushed before that
+-- one flush succeeded, and nothing was written after it
 abbrev pub IsFlushedOnce : {W : Type 0} → Ghosts W → W → W → Type 0
 IsFlushedOnce g old new = (g.pending new ≡ 0) × (g.flushes new ≡ suc (g.flushes old))
 
--- one call failed, and nothing was flushed
+-- one call failed, and no flush succeeded
 abbrev pub FailsUnflushed : {W : Type 0} → Ghosts W → W → W → Type 0
 FailsUnflushed g old new = (g.faults new ≡ suc (g.faults old)) × (g.flushes new ≡ g.flushes old)
 
--- `Output` comes exactly where the writer fails, which it does once, and nothing was flushed then. After any other error the writer
--- is as it was, and else its bytes were flushed, all at once.
+-- `Output` comes exactly where the writer fails, which it does once, and no flush succeeded then. After any other error the writer
+-- is as it was, and else one flush succeeded, after all was written.
 abbrev pub ReportsWriterFaults : {W X : Type 0} → Ghosts W → W → W → Result X ToolError → Type 0
 ReportsWriterFaults g old new (Ok x) = (g.faults new ≡ g.faults old) × IsFlushedOnce g old new
 ReportsWriterFaults g old new (Err Output) = FailsUnflushed g old new

@@ -52,8 +52,8 @@ ChecksImageAtPath path_of bytes line accepted old new =
     IsTrueOfSomethingAtPath path_of line.image.now (λ i. IfSome (bytes i) (λ image.
     (checked : CheckResult) × (IsCheckResultOfBytes line.block_size line.page image checked × (accepted ≡ is_accepted_check_result checked) × Appends old new (check_result_text checked))))
 
--- the image at the line's path is made of the folder, and flushed once it is written whole: what it is known to hold grew by an image of what the
--- folder shows; no file of it is left unread that the image might hold
+-- The image at the line's path is made of the folder, and flushed once, when it is whole. What it is known to hold grew by an
+-- image of what the folder shows. No file of it is left unread that the image might hold.
 abbrev pub MakesImageAtPath : {F N : Type 0} → (F → List ℕ) → (F → ℕ) → (F → Option TreeSource) → (N → List ℕ) → (N → Option (List ℕ)) → (N → N → Type 0) → Line → List ℕ → Type 0
 MakesImageAtPath folder_of limit_of shown path_of contents is_flushed line folder =
     IsTrueOfSomethingAtPath folder_of folder (λ f. (limit_of f ≡ line.size) × IsTrueOfSomethingAtPath path_of line.image.now (λ i. (after : _)
@@ -77,7 +77,7 @@ RefusesToMakeImage folder_of limit_of shown line e folder =
 abbrev pub HasFaultAtPath : {X : Type 0} → (X → List ℕ) → (X → ℕ) → List ℕ → Type 0
 HasFaultAtPath path_of faults path = IsTrueOfSomethingAtPath path_of path (λ x. (after : _) × (faults after ≡ suc (faults x)))
 
--- the file at the path fails, and isn't flushed
+-- the file at the path fails, and no flush of it succeeds
 abbrev pub FailsUnflushedAtPath : {X : Type 0} → (X → List ℕ) → (X → X → Type 0) → List ℕ → Type 0
 FailsUnflushedAtPath path_of fails path = IsTrueOfSomethingAtPath path_of path (λ x. (after : _) × fails x after)
 

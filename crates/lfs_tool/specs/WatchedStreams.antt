@@ -14,7 +14,7 @@ watched_fault_count w = w.faults.count
 abbrev pub unflushed_write_count : {T : Type 0} → WatchedStream T → ℕ
 unflushed_write_count w = w.pending.count
 
--- how often its bytes were flushed
+-- how many of its flushes succeeded
 abbrev pub flush_count : {T : Type 0} → WatchedStream T → ℕ
 flush_count w = w.flushes.count
 

@@ -67,7 +67,7 @@ pub(crate) fn new_image_of_entries<F: FollowsProgress>(
 /// the geometry's order. All of the source is read first. Its entries are then copied into an empty
 /// file system, depth first and in name order, the shorter names first. A folder is made. A file is
 /// opened to create it, its bytes are written at once, and it is closed. Nothing is written where
-/// one of these operations is refused. The writer is flushed at the end. `progress` is told the files and
+/// one of these operations is refused. The writer is flushed once, when all is written. `progress` is told the files and
 /// bytes of the whole, and of each entry that is copied.
 ///
 /// # Errors
@@ -77,7 +77,8 @@ pub(crate) fn new_image_of_entries<F: FollowsProgress>(
 ///   are free, `Fs(NameTooLong)` where a name has more than 255 bytes, and `Fs(TooBig)` where a file has
 ///   more than 2147483647.
 /// - `Fs(NoMemory)` where memory isn't granted.
-/// - `Output` where the writer failed. What was written is then a beginning of the image.
+/// - `Output` where the writer failed. What was written is then a beginning of the image, and no flush has
+///   succeeded.
 pub fn create<S: Source, W: ToolOutput, F: FollowsProgress>(
     alloc: Global,
     source: &mut S,
@@ -90,7 +91,7 @@ pub fn create<S: Source, W: ToolOutput, F: FollowsProgress>(
     // The follower is told of the whole, and of each entry.
     ensures told { OnOk result ((entries : _) × (AreAllEntriesOfSource (S.shown source.old) entries × (F.told progress.new ≡ told_of_all_done (amounts_of_entries entries) (F.told progress.old)))) }
 
-    // The writer isn't called, unless it fails: then a beginning of the image may be written.
+    // The writer is flushed once, or fails before that: then a beginning of the image may be written.
     ensures writer { ReportsWriterFaults W.ToolOutput out.old out.new result }
     ensures beginning { IsErrOf result ToolError.Output
         → HasWrittenBeginningOfImage geometry (S.shown source.old) (W.contents out.old) (W.contents out.new) }

@@ -12,7 +12,7 @@ use crate::{ToolError, ToolOutput};
 const ERASED_AT_ONCE: usize = 65_536;
 
 /// Writes the bytes, and flushes them, once all are written. After an error a beginning of them was written,
-/// and nothing was flushed.
+/// and no flush has succeeded.
 ///
 /// # Errors
 /// `Output` where the writer failed.
@@ -28,7 +28,7 @@ pub fn write_bytes_and_flush<W: ToolOutput>(out: &mut W, bytes: &[u8]) -> Result
 }
 
 // Writes the bytes and bytes 0xff after them, up to a size, and flushes them, once all are written. After an
-// error a beginning of them was written, and nothing was flushed.
+// error a beginning of them was written, and no flush has succeeded.
 pub(crate) fn write_padded_bytes_and_flush<W: ToolOutput>(
     out: &mut W,
     bytes: &[u8],

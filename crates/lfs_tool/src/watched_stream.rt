@@ -9,9 +9,9 @@ use std::io::{ErrorKind, Read, Write};
 /// A reader or a writer of std, with counts of what its calls did. A call that a signal interrupted
 /// is made again, and is no failure.
 ///
-/// std's traits have no word for a call that failed, nor for a flush. So three facts are read in
+/// std's traits have no word for a call that failed, nor for a flush. So four facts are read in
 /// the code here, and not proved: that std's call is made, that a failure is counted only where the
-/// call failed, and that a flush is one. Callers know a `WatchedStream` by `ImageInput` and `ToolOutput`, and
+/// call failed, that a flush is one, and that std's flush is called only where one is counted. Callers know a `WatchedStream` by `ImageInput` and `ToolOutput`, and
 /// can't count anything without a call.
 #[derive(Drop)]
 pub struct WatchedStream<T> {

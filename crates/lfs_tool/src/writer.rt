@@ -6,7 +6,7 @@ use std::fmt::Display;
 use std::io;
 
 /// A sink for the bytes of an image, or lines. A contract sees how many of its calls have failed,
-/// how often its bytes were flushed, and whether all were.
+/// how many flushes succeeded, and whether anything was written since.
 pub trait ToolOutput {
     // The bytes that it has, where they are known.
     ghost contents: { Self → Option (List ℕ) } = { λ _. None };
@@ -17,7 +17,7 @@ pub trait ToolOutput {
     // How many writes there were since the last flush.
     ghost pending: { Self → ℕ };
 
-    // How often its bytes were flushed.
+    // How many flushes have succeeded.
     ghost flushes: { Self → ℕ };
 
     // How many values it has shown.

@@ -165,9 +165,9 @@ fn create_new_image(files: &DiskFiles<'_>) -> Result<Result<(), ToolError>, Erro
     Ok(create(files.alloc, &mut source, geometry, &mut out, &mut ()))
 }
 
-// An old image stays where there is no room for all of the new one, also where only its unused blocks are left.
+// An old image stays where there is no room for all of the new one, also where only its unused blocks lack it.
 #[test]
-fn images_without_room_for_their_end_are_not_there(rt: HostRuntime) -> Result<(), Fail> {
+fn images_without_room_for_their_end_leave_the_old_one(rt: HostRuntime) -> Result<(), Fail> {
     for (room, is_made) in FREE_BYTES {
         let disk = disk_with_old_image(rt.alloc(), Some(PathKind::File), room, DiskHabit::Plain)?;
         let files = DiskFiles {
@@ -175,10 +175,17 @@ fn images_without_room_for_their_end_are_not_there(rt: HostRuntime) -> Result<()
             disk: &disk,
         };
         let result = create_new_image(&files)?;
-        assert!(rt; result == if is_made { Ok(()) } else { Err(ToolError::Output) }, "{room}");
+        let wanted = if is_made {
+            Ok(())
+        } else {
+            Err(ToolError::Output)
+        };
+        assert!(rt; result == wanted, "{room}");
         let found = disk.bytes_of_named_node(rt.alloc(), PATH)?;
+        let is_old = found.as_ref().map(|bytes| bytes.as_slice()) == Some(OLD);
+        assert_eq!(rt; is_old, !is_made, "{room}");
         let len = found.as_ref().map(|bytes| bytes.len());
-        assert_eq!(rt; len, Some(if is_made { 16384 } else { OLD.len() }), "{room}");
+        assert_eq!(rt; len == Some(16384), is_made, "{room}");
         assert_eq!(rt; disk.count(), 1, "{room}");
     }
     Ok(())

@@ -39,8 +39,8 @@ use crate::removals_at::remove_at;
 use core::mem::replace_with;
 use lfs_device::{BlockDevice, Error, Geometry};
 use lfs_lookup::{
-    FoundAttribute, FoundNode, Listing, NodeAndEmptiness, Path, PathLookup,
-    find_attribute_at_path, find_if_path_has_entries, find_node_at_path, find_total_size_of_attributes_at_path,
+    FoundAttribute, FoundNode, Listing, NodeAndEmptiness, Path, PathLookup, find_attribute_at_path,
+    find_if_path_has_entries, find_node_at_path, find_total_size_of_attributes_at_path,
     list_directory_at_path,
 };
 use lfs_tag::MoveState;

@@ -44,7 +44,7 @@ impl<D: BlockDevice> Tree<D> {
         contents
     }
 
-    /// Returns contents of no bytes, for a writer that opens a file to write it anew.
+    /// Returns contents of no bytes, for a writer of an empty file, or of one that is written anew.
     ///
     /// Errors: `NoMemory` where memory isn't granted. The tree has failed then.
     pub fn empty_contents(&mut self, alloc: Global) -> Result<WriterContents, Error>

@@ -160,7 +160,7 @@ const FREE_BYTES: [(usize, bool); 6] = [
 // Makes the image of an empty source at the path.
 fn create_new_image(files: &DiskFiles<'_>) -> Result<Result<(), ToolError>, Error> {
     let mut source = memory_source_of_items(files.alloc, &[])?;
-    let geometry = Geometry::new(1024, 256, 16)?;
+    let geometry = Geometry::new(1024, 128, 16)?;
     let mut out = WatchedStream::new(NewImage::new(files.alloc, files, PATH)?);
     Ok(create(files.alloc, &mut source, geometry, &mut out, &mut ()))
 }

@@ -91,7 +91,7 @@ pub fn create<S: Source, W: ToolOutput, F: FollowsProgress>(
     // The follower is told of the whole, and of each entry.
     ensures told { OnOk result ((entries : _) × (AreAllEntriesOfSource (S.shown source.old) entries × (F.told progress.new ≡ told_of_all_done (amounts_of_entries entries) (F.told progress.old)))) }
 
-    // The writer is flushed once, or fails before that: then a beginning of the image may be written.
+    // One flush succeeds, at the end, or the writer fails: then a beginning of the image may be written.
     ensures writer { ReportsWriterFaults W.ToolOutput out.old out.new result }
     ensures beginning { IsErrOf result ToolError.Output
         → HasWrittenBeginningOfImage geometry (S.shown source.old) (W.contents out.old) (W.contents out.new) }

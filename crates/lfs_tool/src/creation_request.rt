@@ -23,7 +23,7 @@ pub fn create_for_command_line<S: Source, W: ToolOutput, F: FollowsProgress>(
 ) -> Result<(), ToolError>
     ensures ok { OnOk result ((g : _) × (HasSizesOfCommandLine line.now g × HasWrittenImageOfSource g (S.shown source.old) (W.contents out.old) (W.contents out.new))) }
 
-    // The writer is flushed once, or fails before that: then a beginning of the image may be written.
+    // One flush succeeds, at the end, or the writer fails: then a beginning of the image may be written.
     ensures writer { ReportsWriterFaults W.ToolOutput out.old out.new result }
     ensures beginning { IsErrOf result ToolError.Output
         → (g : _) × (HasSizesOfCommandLine line.now g × HasWrittenBeginningOfImage g (S.shown source.old) (W.contents out.old) (W.contents out.new)) }

@@ -115,7 +115,7 @@ pub fn list<R: ImageInput, W: ToolOutput>(
     ensures ok { OnOk result (IfSome (R.remaining image.old) (λ bytes.
         (text : _) × (IsListingTextOfImage block_size page bytes text × Appends (W.contents out.old) (W.contents out.new) text))) }
 
-    // The writer isn't called, unless it fails: then a beginning of the lines may be written.
+    // One flush succeeds, at the end, or the writer fails: then a beginning of the lines may be written.
     ensures writer { ReportsWriterFaults W.ToolOutput out.old out.new result }
     ensures beginning { IsErrOf result ToolError.Output → IfSome (R.remaining image.old) (λ bytes.
         (text : _) × (IsListingTextOfImage block_size page bytes text × AppendsBeginningOfBytes (W.contents out.old) (W.contents out.new) text)) }

@@ -27,7 +27,7 @@ pub fn list_for_command_line<R: ImageInput, W: ToolOutput>(
     ensures ok { OnOk result (IfSome (R.remaining image.old) (λ bytes.
         (text : _) × (IsListingTextOfImage line.now.block_size line.now.page bytes text × Appends (W.contents out.old) (W.contents out.new) text))) }
 
-    // The writer isn't called, unless it fails: then a beginning of the lines may be written.
+    // One flush succeeds, at the end, or the writer fails: then a beginning of the lines may be written.
     ensures writer { ReportsWriterFaults W.ToolOutput out.old out.new result }
     ensures beginning { IsErrOf result ToolError.Output → IfSome (R.remaining image.old) (λ bytes.
         (text : _) × (IsListingTextOfImage line.now.block_size line.now.page bytes text × AppendsBeginningOfBytes (W.contents out.old) (W.contents out.new) text)) }
@@ -55,7 +55,7 @@ pub fn check_for_command_line<R: ImageInput, W: ToolOutput>(
     ensures ok { IfOk result (λ accepted. IfSome (R.remaining image.old) (λ bytes.
         (checked : _) × (IsCheckResultOfBytes line.now.block_size line.now.page bytes checked × (accepted ≡ is_accepted_check_result checked) × Appends (W.contents out.old) (W.contents out.new) (check_result_text checked)))) }
 
-    // The writer isn't called, unless it fails: then a beginning of the lines may be written.
+    // One flush succeeds, at the end, or the writer fails: then a beginning of the lines may be written.
     ensures writer { ReportsWriterFaults W.ToolOutput out.old out.new result }
     ensures beginning { IsErrOf result ToolError.Output → IfSome (R.remaining image.old) (λ bytes.
         (checked : _) × (IsCheckResultOfBytes line.now.block_size line.now.page bytes checked × AppendsBeginningOfBytes (W.contents out.old) (W.contents out.new) (check_result_text checked))) }

@@ -1,7 +1,7 @@
 -- Bytes that erased ones follow, up to a size.
 use Rattle.std.proofs.Common.{ℕ, ◌≡◌, ◌+◌, ◌-◌, ◌≤◌, ◌∙◌, List, [], ◌++◌, ap, append_assoc, arith, drop, length, length-append, replicate, sym, take}
 use Rattle.std.specs.Prelude.{slice_range}
-use Rattle.std.proofs.lemmas.List.{drop-append-le, length-drop, length-replicate, replicate-append-replicate, take-append-le}
+use Rattle.std.proofs.lemmas.List.{append-nil, drop-append-le, drop_all, length-drop, length-replicate, replicate-append-replicate, take-append-le, take_all}
 use Rattle.lfs_model.specs.Blocks.{bytes_after_overwrite_at}
 use Rattle.lfs_model.proofs.Overwrites.{length-overwritten}
 use Rattle.lfs_tool.specs.Excerpt.{bytes_padded_to_size}
@@ -37,3 +37,20 @@ padded_long end xs = omega (arith, length-append xs (replicate (end - length xs)
 
 pub padded_short : (size end : ℕ) (xs : List ℕ) → length xs ≤ size → end ≤ size → length (bytes_padded_to_size end xs) ≤ size
 padded_short size end xs few le = omega (arith, length-append xs (replicate (end - length xs) 255), length-replicate {A = ℕ} (end - length xs) 255)
+
+-- what is behind the bytes is erased already
+pub erased_already : (at len end : ℕ) (xs : List ℕ) → length xs ≤ at → at + len ≡ end → bytes_padded_to_size end xs ≡ bytes_after_overwrite_at (bytes_padded_to_size end xs) at (replicate len 255)
+erased_already at len end xs before is =
+    let front = xs ++ replicate (at - length xs) 255 in
+    let erased = replicate {A = ℕ} len 255 in
+    let long : length front ≡ at = omega (arith, before, length-append xs (replicate (at - length xs) 255), length-replicate {A = ℕ} (at - length xs) 255) in
+    let size = length-replicate {A = ℕ} len 255 in
+    let whole = length-append front erased in
+    let rest : end - length xs ≡ at - length xs + len = omega (arith, before, is) in
+    let split : bytes_padded_to_size end xs ≡ front ++ erased =
+    ap (λ n. xs ++ replicate n 255) rest ∙ ap (λ ys. xs ++ ys) (sym (replicate-append-replicate (at - length xs) len 255)) ∙ sym (append_assoc xs (replicate (at - length xs) 255) erased) in
+    let over : bytes_after_overwrite_at (front ++ erased) at erased ≡ front ++ erased =
+    ap (λ t. t ++ erased ++ drop (at + length erased) (front ++ erased)) (take-append-le at front erased (omega (arith, long)) ∙ take_all at front (omega (arith, long)))
+    ∙ ap (λ d. front ++ erased ++ d) (drop_all (at + length erased) (front ++ erased) (omega (arith, long, size, whole)))
+    ∙ append-nil (front ++ erased) in
+    split ∙ sym over ∙ ap (λ ys. bytes_after_overwrite_at ys at erased) (sym split)

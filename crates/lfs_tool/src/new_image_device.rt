@@ -1,6 +1,6 @@
 // The device of an image that is made.
 
-ghost use Rattle.std.specs.Prelude.{◌≡◌, ◌≤◌, ◌<◌, ◌+◌, ◌*◌, ◌%◌, [], ◌∷◌, false, length, replicate, slice_range, vec_capacity, IfErr, IfOk, IsOk};
+ghost use Rattle.std.specs.Prelude.{◌≡◌, ◌≤◌, ◌<◌, ◌+◌, ◌*◌, ◌%◌, [], ◌∷◌, false, length, replicate, slice_range, true, vec_capacity, IfErr, IfOk, IsOk};
 ghost use Rattle.lfs_model.specs.Blocks.{AreBlocksEqualExceptOne, block_bytes_by_number, bytes_after_overwrite_at, cut, programmed};
 ghost use Rattle.lfs_model.specs.History.{device_call_event_with_blocks, fault_count_of_history, AreBytesUnprogrammed, AreBlocksLeftByNewestCall};
 ghost use Rattle.lfs_model.specs.History.DeviceCall.{Read, Program, Erase};
@@ -50,14 +50,17 @@ fn overwrite(all: &mut Vec<u8>, at: usize, bytes: &[u8])
     all[at..at + bytes.len()].copy_from_slice(bytes);
 }
 
-// Fills bytes from a place on with 0xff.
-fn erase_range(all: &mut Vec<u8>, at: usize, len: usize)
-    requires { at + len ≤ length all.old.items }
+// Fills bytes from a place on with 0xff, unless they are that already.
+fn erase_range(all: &mut Vec<u8>, at: usize, len: usize, is_erased: bool)
+    requires within { at + len ≤ length all.old.items }
+    requires erased { is_erased ≡ true → all.old.items ≡ bytes_after_overwrite_at all.old.items at (replicate len 255) }
     ensures bytes { all.new.items ≡ bytes_after_overwrite_at all.old.items at (replicate len 255) }
     ensures are_bytes { AreAllNumbersBytes all.new.items }
     ensures room { vec_capacity all.new ≡ vec_capacity all.old }
 {
-    all[at..at + len].fill(0xff);
+    if !is_erased {
+        all[at..at + len].fill(0xff);
+    }
 }
 
 impl NewImageDevice {
@@ -179,8 +182,10 @@ impl BlockDevice for NewImageDevice {
         let trace = Trace::with_history_chosen_by_proof(self, &block);
         let start = self.byte_index_of_block_offset(block, 0);
         let end = self.byte_index_of_block_offset(block, self.geometry.block_size);
+        let size = self.geometry.block_size as usize;
+        let is_unused = self.bytes.len() <= start;
         fill_as_erased_up_to(&mut self.bytes, end);
-        erase_range(&mut self.bytes, start, self.geometry.block_size as usize);
+        erase_range(&mut self.bytes, start, size, is_unused);
         self.trace = trace;
         Ok(())
     }

@@ -1,9 +1,21 @@
-use Rattle.std.proofs.Common.{ℕ, arith, replicate}
+use Rattle.std.proofs.Common.{ℕ, ◌≡◌, ◌+◌, ◌≤◌, arith, length, replicate, subst, sym}
+use Rattle.std.proofs.lemmas.Bool.{leb-true}
 use Rattle.std.proofs.lemmas.List.{length-replicate}
 use Rattle.lfs_device.proofs.Newest.{newest_call}
 use Rattle.lfs_model.proofs.Conformance.{conforms_erase, conforms_next}
+use Rattle.lfs_model.specs.Blocks.{bytes_after_overwrite_at}
+use Rattle.lfs_tool.proofs.PaddedBytes.{erased_already}
 use Rattle.lfs_tool.proofs.NewImageCalls.{erased, others, written, written_short}
 use Rattle.lfs_tool.proofs.new_image_device.NewImageDeviceBlockDevice.erase.Goals as goal
+
+pub erase_range-requires-clause-erased : goal.erase_range-requires-clause-erased
+erase_range-requires-clause-erased c = λ unused.
+    let d = c.args.self.now in
+    let start = c.byte_index_of_block_offset-start.result in
+    let end = c.byte_index_of_block_offset-end.result in
+    let before : length d.bytes.items ≤ start = let le = leb-true c.len.result start unused in omega (arith, le, c.len.ensures) in
+    let is : start + d.geometry.block_size ≡ end = omega (arith, c.byte_index_of_block_offset-start.ensures, c.byte_index_of_block_offset-end.ensures) in
+    subst (λ ys. ys ≡ bytes_after_overwrite_at ys start (replicate d.geometry.block_size 255)) (sym c.fill_as_erased_up_to.ensures.filled) (erased_already start d.geometry.block_size end d.bytes.items before is)
 
 pub returns-clause-bytes : goal.returns-clause-bytes
 returns-clause-bytes c =

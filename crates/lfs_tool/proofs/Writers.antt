@@ -1,5 +1,5 @@
 -- What an answer tells of its writer.
-use Rattle.std.proofs.Common.{◌≡◌, suc, Result, Ok, Err}
+use Rattle.std.proofs.Common.{◌≡◌, Result, Ok, Err}
 use Rattle.std.specs.Prelude.{OnErr, OnOk}
 use Rattle.lfs_tool.specs.declared.errors.ToolError.{ToolError}
 use Rattle.lfs_tool.specs.declared.errors.ToolError.TheVariants.{Output}

@@ -6,6 +6,7 @@ use lfs_device::{Error, Geometry};
 use lfs_tool::{ToolError, WatchedStream, create};
 use lfs_tool_folders::NewImage;
 use std::alloc::Global;
+use std::fs::Files;
 use std::io;
 use std::io::Write;
 use std::test::Fail;
@@ -158,11 +159,11 @@ const FREE_BYTES: [(usize, bool); 6] = [
 ];
 
 // Makes the image of an empty source at the path.
-fn create_new_image(files: &DiskFiles<'_>) -> Result<Result<(), ToolError>, Error> {
-    let mut source = memory_source_of_items(files.alloc, &[])?;
+fn create_new_image<R: Files>(alloc: Global, files: &R) -> Result<Result<(), ToolError>, Error> {
+    let mut source = memory_source_of_items(alloc, &[])?;
     let geometry = Geometry::new(1024, 128, 16)?;
-    let mut out = WatchedStream::new(NewImage::new(files.alloc, files, PATH)?);
-    Ok(create(files.alloc, &mut source, geometry, &mut out, &mut ()))
+    let mut out = WatchedStream::new(NewImage::new(alloc, files, PATH)?);
+    Ok(create(alloc, &mut source, geometry, &mut out, &mut ()))
 }
 
 // An old image stays where there is no room for all of the new one, also where only its unused blocks lack it.
@@ -174,7 +175,7 @@ fn images_without_room_for_their_end_leave_the_old_one(rt: HostRuntime) -> Resul
             alloc: rt.alloc(),
             disk: &disk,
         };
-        let result = create_new_image(&files)?;
+        let result = create_new_image(rt.alloc(), &files)?;
         let wanted = if is_made {
             Ok(())
         } else {

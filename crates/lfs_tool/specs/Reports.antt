@@ -25,9 +25,9 @@ ReportsWriterFaults g old new (Ok x) = (g.faults new ≡ g.faults old) × IsFlus
 ReportsWriterFaults g old new (Err Output) = FailsUnflushed g old new
 ReportsWriterFaults g old new (Err e) = new ≡ old
 
--- unless it failed, it has shown one value more, which was flushed
+-- unless it failed, it has shown one value more, and was flushed once
 abbrev pub HasWrittenOneValueUnlessFailed : {W : Type 0} → Ghosts W → W → W → Type 0
-HasWrittenOneValueUnlessFailed g old new = g.faults new ≡ g.faults old → (g.shown new ≡ suc (g.shown old)) × (g.pending new ≡ 0)
+HasWrittenOneValueUnlessFailed g old new = g.faults new ≡ g.faults old → (g.shown new ≡ suc (g.shown old)) × IsFlushedOnce g old new
 
 -- a text is written and flushed, or the writer fails and a beginning of it is written
 pub record WritesTextOrFails {W : Type 0} (g : Ghosts W) (text : List ℕ) (old new : W) : Type 0 where

@@ -48,6 +48,6 @@ pub trait ToolOutput {
         ensures text { OnOk result (IfSome (D.output value.now) (Appends (contents self.old) (contents self.new))) }
         ensures ok { OnOk result (faults self.new ≡ faults self.old) }
         ensures shown { OnOk result (shown self.new ≡ suc (shown self.old)) }
-        ensures flushed { OnOk result (pending self.new ≡ 0) }
-        ensures fault { OnErr result (faults self.new ≡ suc (faults self.old)) };
+        ensures flushed { OnOk result ((pending self.new ≡ 0) × (flushes self.new ≡ suc (flushes self.old))) }
+        ensures fault { OnErr result ((faults self.new ≡ suc (faults self.old)) × (flushes self.new ≡ flushes self.old)) };
 }

@@ -5,9 +5,7 @@ use Rattle.std.proofs.lemmas.List.{length-take, take_all}
 use Rattle.lfs_model.specs.Disk.{IsImageOfWholeBlocks}
 use Rattle.lfs_tool.specs.CheckResults.{IsCheckResultOfBytes, AreReportedSizesThoseGivenToCheck}
 use Rattle.lfs_tool.specs.declared.check_result.CheckResult.{CheckResult}
-use Rattle.lfs_tool.specs.declared.check_result.CheckResult.TheVariants as checked
 use Rattle.lfs_tool.specs.declared.check_result.GivenSizes.{GivenSizes}
-use Rattle.lfs_tool.specs.declared.check_result.RefusalReason.TheVariants as reason
 use Rattle.lfs_tool.proofs.Images.{image_fits, most}
 
 -- one text behind another

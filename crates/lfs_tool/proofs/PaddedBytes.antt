@@ -1,5 +1,5 @@
 -- Bytes that erased ones follow, up to a size.
-use Rattle.std.proofs.Common.{ℕ, ◌≡◌, ◌+◌, ◌-◌, ◌≤◌, ◌∙◌, List, [], ◌++◌, ap, append_assoc, arith, drop, length, length-append, replicate, sym, take}
+use Rattle.std.proofs.Common.{ℕ, ◌≡◌, ◌+◌, ◌-◌, ◌≤◌, ◌∙◌, List, ◌++◌, ap, append_assoc, arith, drop, length, length-append, replicate, sym, take}
 use Rattle.std.specs.Prelude.{slice_range}
 use Rattle.std.proofs.lemmas.List.{append-nil, drop-append-le, drop_all, length-drop, length-replicate, replicate-append-replicate, take-append-le, take_all}
 use Rattle.lfs_model.specs.Blocks.{bytes_after_overwrite_at}

@@ -1,21 +1,21 @@
 -- What is done at paths.
-use Rattle.std.proofs.Common.{◌≡◌, ◌≢◌, ◌⊎◌, ℕ, List, Option, inl, inr, Result, Ok, Err}
-use Rattle.std.specs.Prelude.{OnOk}
+use Rattle.std.proofs.Common.{◌≡◌, ◌≢◌, ◌⊎◌, ◌∙◌, ℕ, List, ◌∷◌, Option, ap, inl, inr, refl, subst, sym, Err}
+use Rattle.std.specs.Prelude.{IsErrOf}
 use Rattle.lfs_device.specs.declared.error.Error.TheVariants as fs
 use Rattle.lfs_model.specs.Source.{TreeSource}
 use Rattle.lfs_tool_line.specs.declared.line.Line.{Line}
 use Rattle.lfs_tool.specs.Explained.{FailsToCountNeededBlocks, FailsToReadImage}
 use Rattle.lfs_tool.specs.KnownBytes.{IsErrorOfReaderFaultOrNoMemory}
-use Rattle.lfs_tool.specs.MadeImages.{ReportsSourceFaults}
-use Rattle.lfs_tool.specs.Reports.{IsFlushedOnce, ReportsWriterFaults}
+use Rattle.lfs_tool.specs.MadeImages.{HasWrittenBeginningOfImage, ReportsSourceFaults}
+use Rattle.lfs_tool.specs.PlaceEvents.{ImageDiscarded, ImageNotPlaced, ImageOpened}
+use Rattle.lfs_tool.specs.Reports.{ReportsWriterFaults}
+use Rattle.lfs_tool.specs.RequestedSizes.{HasSizesOfCommandLine}
+use Rattle.lfs_tool.specs.RunsAtPaths.{LeavesNoNewImage}
 use Rattle.lfs_tool.specs.declared.errors.ToolError.{ToolError}
 use Rattle.lfs_tool.specs.declared.errors.ToolError.TheVariants.{Fs, Input, Output}
-use Rattle.lfs_tool.specs.declared.writer.ToolOutput.{Ghosts}
-
--- what was written is flushed
-pub and_flushed : {W X : Type 0} (g : Ghosts W) (old new : W) (r : Result X ToolError) (P : Type 0) → OnOk r P → ReportsWriterFaults g old new r → OnOk r (P × IsFlushedOnce g old new)
-and_flushed g old new (Ok x) P h reports = (h, reports.1)
-and_flushed g old new (Err e) P h reports = tt
+use Rattle.lfs_tool.specs.declared.places.Places.{Ghosts}
+use Rattle.lfs_tool.specs.declared.writer.ToolOutput.{Ghosts as ToolOutputGhosts}
+use Rattle.lfs_tool_folders.specs.declared.source.Source.{Ghosts as SourceGhosts}
 
 pub or_so : {P Q R : Type 0} → (Q → R) → P ⊎ Q → P ⊎ R
 or_so f (inl p) = inl p
@@ -35,3 +35,20 @@ pub folder_fails : {F : Type 0} (X : Type 0) (folder_of : F → List ℕ) (fault
 folder_fails X folder_of faults shown line folder old new Input at reports other = (old, (at, (new, reports)))
 folder_fails X folder_of faults shown line folder old new Output at reports other = let no : Output ≡ Fs fs.NoMemory = other (λ is. (cc)) in (cc)
 folder_fails X folder_of faults shown line folder old new (Fs e) at reports other = let is : Fs e ≡ Fs fs.NoMemory = other (λ is. (cc)) in inl (cc)
+
+-- ---- what an error leaves
+
+module _ {P I N F T R : Type 0} (places : Ghosts P I N F T R) (output : ToolOutputGhosts N) (source : SourceGhosts F) (line : Line) (old mid new : P) (folder : List ℕ) (opened : places.history mid ≡ ImageOpened line.image.now ∷ places.history old) where
+  -- an image that can't be put in its place
+  pub not_placed : (e : ToolError) → (e ≡ Output) × (places.history new ≡ ImageNotPlaced ∷ places.history mid) → LeavesNoNewImage places output source line old new folder e
+  not_placed e (is, ends) = subst (LeavesNoNewImage places output source line old new folder) (sym is) (inr (ends ∙ ap (λ events. ImageNotPlaced ∷ events) opened))
+
+  -- an image that is discarded
+  pub discarded : (X : Type 0) (f : F) (i after : N) (e : ToolError) → places.folder_path f ≡ folder → places.folder_limit f ≡ line.size → places.new_image_path i ≡ line.image.now
+      → places.history new ≡ ImageDiscarded (output.contents after) ∷ places.history mid → ReportsWriterFaults {X = X} output i after (Err e)
+      → (IsErrOf {T = X} (Err e) Output → (g : _) × (HasSizesOfCommandLine line g × HasWrittenBeginningOfImage g (source.shown f) (output.contents i) (output.contents after)))
+      → LeavesNoNewImage places output source line old new folder e
+  discarded X f i after Output at limit path ends reports begins =
+      inl (f, (at, (limit, (i, (path, (after, (ends ∙ ap (λ events. ImageDiscarded (output.contents after) ∷ events) opened, (begins refl, reports))))))))
+  discarded X f i after e at limit path ends reports begins =
+      inr (i, (path, ends ∙ ap (λ events. ImageDiscarded (output.contents after) ∷ events) opened ∙ ap (λ a. ImageDiscarded (output.contents a) ∷ ImageOpened line.image.now ∷ places.history old) reports))

@@ -1,5 +1,5 @@
 -- A finding says the same of a disk with its names in another order.
-use Rattle.std.proofs.Common.{ℕ, ◌⊎◌, inl, inr, List, Option, Some, None, subst, ◌≡◌}
+use Rattle.std.proofs.Common.{ℕ, inl, inr, List, Option, Some, None, subst, ◌≡◌}
 use Rattle.std.specs.Prelude.{IfSome}
 use Rattle.lfs_device.specs.Shown.{disk_with_name_order}
 use Rattle.lfs_model.specs.Disk.{Disk}

@@ -1,6 +1,6 @@
 -- What is done of an image that is unpacked.
 use Rattle.std.proofs.Common.{ℕ, ◌≡◌, ◌⊎◌, ◌∙◌, inl, inr, List, [], ◌∷◌, Option, Some, None, Result, Ok, Err, ap, ap₂, map, refl, subst, sym, take}
-use Rattle.std.specs.Prelude.{IfErr, IfSome, IsErrOf, OnErr}
+use Rattle.std.specs.Prelude.{◌≢◌, IfErr, IfSome, OnErr}
 use Rattle.lfs_model.specs.Disk.{Disk, IsImageOfWholeBlocks, disk_of_image}
 use Rattle.lfs_model.specs.Listing.{UnpackingAction, PathAndNode, unpacking_action_of_node, unpacking_action_of_entry}
 use Rattle.lfs_model.specs.Slots.{Branch, Ctz, Inline, Struct}
@@ -8,15 +8,21 @@ use Rattle.lfs_model.specs.Thread.{Pair}
 use Rattle.lfs_model.specs.Tree.{Node}
 use Rattle.lfs_model.specs.View.{HasDiskView, IsAcceptedImage, IsSkipListIfCtzStruct, view_of_disk}
 use Rattle.lfs_model.specs.declared.order.NameOrder.{NameOrder}
+use Rattle.lfs_model.proofs.ListSizes.{length-bytes_of_skip_list}
 use Rattle.lfs_device.specs.declared.error.Error.TheVariants.{Corrupt, Invalid, NoMemory}
 use Rattle.lfs_device.specs.declared.error.Error.{Error}
 use Rattle.lfs_device.specs.Shown.{disk_with_name_order}
-use Rattle.lfs_lookup.specs.Walk.{ArePathsAndStructsOfTreeEntries, ArePathsAndStructsOfWalk, PathAndStruct, IsPathAndStructOfTreeEntry, IsNodeOfStruct}
+use Rattle.lfs_lookup.specs.Items.{owned_struct_view}
+use Rattle.lfs_lookup.specs.Walk.{ArePathsAndStructsOfTreeEntries, ArePathsAndStructsOfWalk, PathAndStruct, IsPathAndStructOfTreeEntry, IsNodeOfStruct, tree_items_view}
+use Rattle.lfs_lookup.specs.declared.walks.TreeItem.{TreeItem}
+use Rattle.lfs_tool.specs.AmountsTold.{AmountsTold, amount_of_struct, amount_of_unpacking_action, amounts_of_tree_items, amounts_of_unpacking_actions, told_of_all_done}
 use Rattle.lfs_tool.specs.declared.errors.ToolError.{ToolError}
 use Rattle.lfs_tool.specs.declared.errors.ToolError.TheVariants.{Fs, Output}
+use Rattle.lfs_tool.specs.declared.progress.FilesAndBytes.{FilesAndBytes}
 use Rattle.lfs_tool.specs.Listings.{RefusesToList}
-use Rattle.lfs_tool.specs.Unpackings.{HaveWellFormedSkipLists, FailsToUnpackDisk, FailsToUnpackImage, HasDoneBeginningOfUnpackingActions, HasDoneTheseFurtherUnpackingActions, HasBegunUnpackingDisk, HasBegunUnpackingImage, HasUnpackedDisk, HasUnpackedImage, AreActionsUnpackingDisk, ReportsUnpackTargetFaults, AreActionsUnpackingImage, unpacking_action_for_tree_entry, unpacking_action_for_struct, unpacking_actions_for_tree_entries}
-use Rattle.lfs_tool.proofs.Images.{all_read, most}
+use Rattle.lfs_tool.specs.Unpackings.{HaveWellFormedSkipLists, FailsToUnpackDisk, FailsToUnpackImage, FailsToUnpackKnownImage, HasDoneBeginningOfUnpackingActions, HasDoneTheseFurtherUnpackingActions, HasBegunUnpackingDisk, HasBegunUnpackingImage, HasUnpackedDisk, HasUnpackedImage, AreActionsUnpackingDisk, ReportsUnpackTargetFaults, AreActionsUnpackingImage, unpacking_action_for_tree_entry, unpacking_action_for_struct, unpacking_actions_for_tree_entries}
+use Rattle.lfs_tool.proofs.Images.{all_read, most, refuses_read}
+use Rattle.lfs_tool.proofs.Walked.{HasSizes}
 
 -- ---- what was found of a tree unpacks it
 
@@ -47,6 +53,27 @@ actions_shown disk [] (e ∷ es) s = absurd s
 actions_shown disk (p ∷ ps) [] s = absurd s
 actions_shown disk (p ∷ ps) (e ∷ es) s = ap₂ (λ a more. a ∷ more) (action_shown disk p e s.0) (actions_shown disk ps es s.1)
 
+-- ---- what is told of it
+
+-- a follower was told of the actions that unpack the disk
+abbrev pub HasToldOfDisk : Disk → Option AmountsTold → Option AmountsTold → Type 0
+HasToldOfDisk disk old new = (actions : List UnpackingAction) × (AreActionsUnpackingDisk disk actions × (new ≡ told_of_all_done (amounts_of_unpacking_actions actions) old))
+
+-- the same of an image
+abbrev pub HasToldOfImage : ℕ → ℕ → List ℕ → Option AmountsTold → Option AmountsTold → Type 0
+HasToldOfImage block_size page image old new = (actions : List UnpackingAction) × (AreActionsUnpackingImage block_size page image actions × (new ≡ told_of_all_done (amounts_of_unpacking_actions actions) old))
+
+amount_shown : (disk : Disk) → HasSizes disk → (path : List ℕ) (struct : Struct) → IsSkipListIfCtzStruct disk struct → amount_of_unpacking_action (unpacking_action_for_struct disk path struct) ≡ amount_of_struct struct
+amount_shown disk sizes path (Inline bytes) list = refl
+amount_shown disk sizes path (Ctz head size) list = ap (λ (n : ℕ). let a : FilesAndBytes = record { files = 1; bytes = n } in a) (length-bytes_of_skip_list disk.blocks disk.block_size sizes.count head size sizes.enough sizes.divided list)
+amount_shown disk sizes path (Branch to) list = refl
+
+amounts_shown : (disk : Disk) → HasSizes disk → (items : List TreeItem) → HaveWellFormedSkipLists disk (tree_items_view items) → amounts_of_unpacking_actions (unpacking_actions_for_tree_entries disk (tree_items_view items)) ≡ amounts_of_tree_items items
+amounts_shown disk sizes [] lists = refl
+amounts_shown disk sizes (x ∷ xs) lists = ap₂ (λ a more. a ∷ more) (amount_shown disk sizes x.path.items (owned_struct_view x.structure) lists.0) (amounts_shown disk sizes xs lists.1)
+
+-- ---- of a disk
+
 module _ (disk now : Disk) (order : NameOrder) (ps : List Pair) (places : List PathAndStruct) (same : now ≡ disk_with_name_order order disk) (accepted : IsAcceptedImage (disk_with_name_order order disk) ps) (walked : ArePathsAndStructsOfWalk (disk_with_name_order order disk) ps places) where
   unpacks : AreActionsUnpackingDisk disk (unpacking_actions_for_tree_entries (disk_with_name_order order disk) places)
   unpacks =
@@ -58,6 +85,17 @@ module _ (disk now : Disk) (order : NameOrder) (ps : List Pair) (places : List P
 
   pub begun_of : (old new : Option (List UnpackingAction)) → HasDoneBeginningOfUnpackingActions old new (unpacking_actions_for_tree_entries now places) → HasBegunUnpackingDisk disk old new
   begun_of old new h = (unpacking_actions_for_tree_entries (disk_with_name_order order disk) places, (unpacks, subst (λ d. HasDoneBeginningOfUnpackingActions old new (unpacking_actions_for_tree_entries d places)) same h))
+
+-- the order of names isn't in the sizes
+sizes_in_order : (disk : Disk) (order : NameOrder) → HasSizes disk → HasSizes (disk_with_name_order order disk)
+sizes_in_order disk order sizes = record { enough = sizes.enough; count = sizes.count; divided = sizes.divided }
+
+pub told_of : (disk : Disk) (order : NameOrder) (ps : List Pair) (items : List TreeItem) → HasSizes disk → IsAcceptedImage (disk_with_name_order order disk) ps → ArePathsAndStructsOfWalk (disk_with_name_order order disk) ps (tree_items_view items)
+    → (old new : Option AmountsTold) → new ≡ told_of_all_done (amounts_of_tree_items items) old → HasToldOfDisk disk old new
+told_of disk order ps items sizes accepted walked old new told =
+    let ordered : Disk = disk_with_name_order order disk in
+    let lists : HaveWellFormedSkipLists ordered (tree_items_view items) = lists_walked ordered ordered ps (tree_items_view items) refl walked in
+    (unpacking_actions_for_tree_entries ordered (tree_items_view items), (unpacks disk ordered order ps (tree_items_view items) refl accepted walked, told ∙ ap (λ amounts. told_of_all_done amounts old) (sym (amounts_shown ordered (sizes_in_order disk order sizes) items lists))))
 
 pub fails_begun : {X : Type 0} (disk : Disk) (old new : Option (List UnpackingAction)) (was now : ℕ) (r : Result X ToolError) (begun : Type 0) → OnErr r begun → (begun → HasBegunUnpackingDisk disk old new)
     → ReportsUnpackTargetFaults was now r → IfErr r (FailsToUnpackDisk disk old new)
@@ -79,6 +117,10 @@ pub done_image : (block_size page : ℕ) (image : List ℕ) (disk : Disk) (old n
     → HasUnpackedDisk disk old new → HasUnpackedImage block_size page image old new
 done_image block_size page image disk old new is same (actions, (unpacked, h)) = (actions, (unpacks_image block_size page image disk actions is same unpacked, h))
 
+pub told_image : (block_size page : ℕ) (image : List ℕ) (disk : Disk) (old new : Option AmountsTold) → IsImageOfWholeBlocks block_size page image → IsDiskOf block_size page image disk
+    → HasToldOfDisk disk old new → HasToldOfImage block_size page image old new
+told_image block_size page image disk old new is same (actions, (unpacked, h)) = (actions, (unpacks_image block_size page image disk actions is same unpacked, h))
+
 begun_image : (block_size page : ℕ) (image : List ℕ) (disk : Disk) (old new : Option (List UnpackingAction)) → IsImageOfWholeBlocks block_size page image → IsDiskOf block_size page image disk
     → HasBegunUnpackingDisk disk old new → HasBegunUnpackingImage block_size page image old new
 begun_image block_size page image disk old new is same (actions, (unpacked, h)) = (actions, (unpacks_image block_size page image disk actions is same unpacked, h))
@@ -99,12 +141,17 @@ pub done_read : (known : Option (List ℕ)) (block_size page : ℕ) (items : Lis
 done_read None block_size page items old new read h = tt
 done_read (Some bytes) block_size page items old new read h = subst (λ (i : List ℕ). HasUnpackedImage block_size page i old new) (all_read block_size page bytes items read h.1.0.0) h
 
+pub told_read : (known : Option (List ℕ)) (block_size page : ℕ) (items : List ℕ) (old new : Option AmountsTold) → IfSome known (λ bytes. items ≡ take most bytes)
+    → HasToldOfImage block_size page items old new → IfSome known (λ bytes. HasToldOfImage block_size page bytes old new)
+told_read None block_size page items old new read h = tt
+told_read (Some bytes) block_size page items old new read h = subst (λ (i : List ℕ). HasToldOfImage block_size page i old new) (all_read block_size page bytes items read h.1.0.0) h
+
 begun_read : (known : Option (List ℕ)) (block_size page : ℕ) (items : List ℕ) (old new : Option (List UnpackingAction)) → IfSome known (λ bytes. items ≡ take most bytes)
     → HasBegunUnpackingImage block_size page items old new → IfSome known (λ bytes. HasBegunUnpackingImage block_size page bytes old new)
 begun_read None block_size page items old new read h = tt
 begun_read (Some bytes) block_size page items old new read h = subst (λ (i : List ℕ). HasBegunUnpackingImage block_size page i old new) (all_read block_size page bytes items read h.1.0.0) h
 
-pub begun_at_error : (known : Option (List ℕ)) (block_size page : ℕ) (items : List ℕ) (old new : Option (List UnpackingAction)) (e : ToolError) → IfSome known (λ bytes. items ≡ take most bytes)
+begun_at_error : (known : Option (List ℕ)) (block_size page : ℕ) (items : List ℕ) (old new : Option (List UnpackingAction)) (e : ToolError) → IfSome known (λ bytes. items ≡ take most bytes)
     → FailsToUnpackImage block_size page items old new e → (new ≡ old) ⊎ IfSome known (λ bytes. HasBegunUnpackingImage block_size page bytes old new)
 begun_at_error known block_size page items old new (Fs Corrupt) read h = inl h.1
 begun_at_error known block_size page items old new (Fs Invalid) read h = inl h.1
@@ -113,17 +160,23 @@ begun_at_error known block_size page items old new (Fs NoMemory) read (inr begun
 begun_at_error known block_size page items old new Output read h = inr (begun_read known block_size page items old new read h)
 begun_at_error known block_size page items old new e read h = absurd h
 
-pub refused_at : (block_size page : ℕ) (items : List ℕ) (old new : Option (List UnpackingAction)) (e : Error) → FailsToUnpackImage block_size page items old new (Fs e) → RefusesToList block_size page items e
+refused_at : (block_size page : ℕ) (items : List ℕ) (old new : Option (List UnpackingAction)) (e : Error) → FailsToUnpackImage block_size page items old new (Fs e) → RefusesToList block_size page items e
 refused_at block_size page items old new Corrupt h = h.0
 refused_at block_size page items old new Invalid h = h.0
 refused_at block_size page items old new NoMemory h = tt
 refused_at block_size page items old new e h = absurd h
 
--- ---- errors
+undone_at_error : (block_size page : ℕ) (items : List ℕ) (old new : Option (List UnpackingAction)) (e : ToolError) → FailsToUnpackImage block_size page items old new e → e ≢ Output → e ≢ Fs NoMemory → new ≡ old
+undone_at_error block_size page items old new (Fs Corrupt) h target memory = h.1
+undone_at_error block_size page items old new (Fs Invalid) h target memory = h.1
+undone_at_error block_size page items old new (Fs NoMemory) h target memory = absurd (memory refl)
+undone_at_error block_size page items old new Output h target memory = absurd (target refl)
+undone_at_error block_size page items old new e h target memory = absurd h
 
-pub err_gives : {X E : Type 0} (r : Result X E) (Q : E → Type 0) (P : Type 0) → IfErr r Q → ((e : E) → Q e → P) → OnErr r P
-err_gives (Ok x) Q P h to = tt
-err_gives (Err e) Q P h to = to e h
-
-pub err_is : {X E : Type 0} (r : Result X E) (f : E) (Q : E → Type 0) → IfErr r Q → IsErrOf r f → Q f
-err_is r f Q h same = subst (λ z. IfErr z Q) same h
+pub fails_known : (known : Option (List ℕ)) (block_size page : ℕ) (items : List ℕ) (old new : Option (List UnpackingAction)) (e : ToolError) → IfSome known (λ bytes. items ≡ take most bytes)
+    → FailsToUnpackImage block_size page items old new e → FailsToUnpackKnownImage block_size page known old new e
+fails_known known block_size page items old new e read h = record {
+  refused = λ f is. refuses_read known block_size page items f read (refused_at block_size page items old new f (subst (FailsToUnpackImage block_size page items old new) is h));
+  undone = undone_at_error block_size page items old new e h;
+  begun = begun_at_error known block_size page items old new e read h;
+}

@@ -1,6 +1,10 @@
 -- What a follower of long work was told.
 use Rattle.std.specs.Prelude.{ℕ, List, [], ◌∷◌, Option, Some, None, length, map}
 use Rattle.std.specs.Option.{option_map}
+use Rattle.lfs_model.specs.Listing.{UnpackingAction, MakeDirectory, PutFile}
+use Rattle.lfs_model.specs.Slots.{Struct, Inline, Ctz, Branch}
+use Rattle.lfs_lookup.specs.Items.{owned_struct_view}
+use Rattle.lfs_lookup.specs.declared.walks.TreeItem.{TreeItem}
 use Rattle.lfs_tool_folders.specs.MemorySources.{optional_bytes_view}
 use Rattle.lfs_tool_folders.specs.declared.entries.SourceEntry.{SourceEntry}
 use Rattle.lfs_tool.specs.ProgressLines.{no_amount, sum_of_amounts}
@@ -47,3 +51,25 @@ amount_of_entry e = amount_of_file_or_folder (optional_bytes_view e.bytes)
 
 abbrev pub amounts_of_entries : List SourceEntry → List FilesAndBytes
 amounts_of_entries es = map amount_of_entry es
+
+-- ---- the amounts of actions that unpack an image
+
+-- a directory is no file
+abbrev pub amount_of_unpacking_action : UnpackingAction → FilesAndBytes
+amount_of_unpacking_action (MakeDirectory path) = no_amount
+amount_of_unpacking_action (PutFile path bytes) = record { files = 1; bytes = length bytes }
+
+abbrev pub amounts_of_unpacking_actions : List UnpackingAction → List FilesAndBytes
+amounts_of_unpacking_actions actions = map amount_of_unpacking_action actions
+
+-- the same by the sizes that the image has of its files
+abbrev pub amount_of_struct : Struct → FilesAndBytes
+amount_of_struct (Inline bytes) = record { files = 1; bytes = length bytes }
+amount_of_struct (Ctz head size) = record { files = 1; bytes = size }
+amount_of_struct (Branch to) = no_amount
+
+abbrev pub amount_of_tree_item : TreeItem → FilesAndBytes
+amount_of_tree_item item = amount_of_struct (owned_struct_view item.structure)
+
+abbrev pub amounts_of_tree_items : List TreeItem → List FilesAndBytes
+amounts_of_tree_items items = map amount_of_tree_item items

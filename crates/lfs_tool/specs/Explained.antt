@@ -120,7 +120,7 @@ FailsToCountNeededBlocks folder_of faults shown line folder (Fs e) = (e ≡ fs.N
 FailsToCountNeededBlocks folder_of faults shown line folder Output = ⊥
 
 -- The second error comes in place of an explanation of the first. Only what is read again can fail: an image that is there, or the
--- folder of one whose blocks were too few.
+-- folder of one whose blocks were too few. Of a fault that a file or a folder met, memory may not have been granted to note it.
 abbrev pub IsErrorInsteadOfExplanation : {I F : Type 0} → (I → List ℕ) → (I → ℕ) → (F → List ℕ) → (F → ℕ) → (F → Option TreeSource) → Line → ToolError → ToolError → Type 0
 IsErrorInsteadOfExplanation path_of faults folder_of folder_faults shown line (Fs fs.Invalid) e =
     IsTrueForMode line.mode (FailsToReadImage path_of faults line e) (FailsToReadImage path_of faults line e) (λ _. ⊥) (λ _. FailsToReadImage path_of faults line e)
@@ -128,8 +128,8 @@ IsErrorInsteadOfExplanation path_of faults folder_of folder_faults shown line (F
 IsErrorInsteadOfExplanation path_of faults folder_of folder_faults shown line (Fs fs.NoSpace) e =
     IsTrueForMode line.mode ⊥ ⊥ (λ folder. FailsToCountNeededBlocks folder_of folder_faults shown line folder e) (λ _. ⊥)
 IsErrorInsteadOfExplanation path_of faults folder_of folder_faults shown line (Fs other) e = ⊥
-IsErrorInsteadOfExplanation path_of faults folder_of folder_faults shown line Input e = ⊥
-IsErrorInsteadOfExplanation path_of faults folder_of folder_faults shown line Output e = ⊥
+IsErrorInsteadOfExplanation path_of faults folder_of folder_faults shown line Input e = e ≡ Fs fs.NoMemory
+IsErrorInsteadOfExplanation path_of faults folder_of folder_faults shown line Output e = e ≡ Fs fs.NoMemory
 
 -- the same, or memory isn't granted for the lines of the explanation
 abbrev pub IsErrorInsteadOfExplanationOrItsLines : {I F : Type 0} → (I → List ℕ) → (I → ℕ) → (F → List ℕ) → (F → ℕ) → (F → Option TreeSource) → Line → ToolError → ToolError → Type 0

@@ -1,5 +1,5 @@
 -- What an accepted image has.
-use Rattle.std.specs.Prelude.{ℕ, ◌≡◌, ◌+◌, ◌↔◌, ◌==◌, ◌||◌, not, Bool, true, false, IsTrue, List, length, count_by}
+use Rattle.std.specs.Prelude.{◌≡◌, ◌+◌, ◌↔◌, ◌==◌, ◌||◌, not, Bool, true, false, IsTrue, List, length, count_by}
 use Rattle.lfs_device.specs.Shown.{disk_with_name_order}
 use Rattle.lfs_model.specs.Disk.{Disk, block_count}
 use Rattle.lfs_model.specs.Listing.{PathAndNode, IsWalkOfTree}

@@ -14,6 +14,7 @@ pub mod Verdict
 pub mod RequestedSizes
 pub mod RunEnds
 pub mod Paths
+pub mod PlaceEvents
 pub mod RunsAtPaths
 pub mod Excerpt
 pub mod ExcerptBlocks

@@ -35,8 +35,8 @@ IsCommandLineDoneOrErrorReported g ends follows code old new =
     (((accepted : Bool) × ((code ≡ exit_status_by_image_acceptance accepted) × ends accepted)) × (new ≡ old))
     ⊎ ((e : ToolError) × (shown : _) × (IsFailureReportedWithStatus g (fault.Tool e) code old shown × follows e shown new))
 
--- the words are a command line, and that is answered; or they are none, and why is shown
-abbrev pub IsRequestDoneOrFailureReported : {W : Type 0} → Ghosts W → List (List ℕ) → (Line → Bool → Type 0) → (Line → ToolError → W → W → Type 0) → ℕ → W → W → Type 0
-IsRequestDoneOrFailureReported g words ends follows code old new =
+-- the words are a command line, and that is answered; or they are none, why is shown, and `untouched` holds
+abbrev pub IsRequestDoneOrFailureReported : {W : Type 0} → Ghosts W → List (List ℕ) → (Line → Bool → Type 0) → (Line → ToolError → W → W → Type 0) → Type 0 → ℕ → W → W → Type 0
+IsRequestDoneOrFailureReported g words ends follows untouched code old new =
     ((line : Line) × (ParserAcceptsWords words × IsCommandLineOfParsedArguments (rows words) line × IsCommandLineDoneOrErrorReported g (ends line) (follows line) code old new))
-    ⊎ ((e : LineError) × (IsLineErrorOfWords words e × IsFailureReportedWithStatus g (fault.Line e) code old new))
+    ⊎ ((e : LineError) × (IsLineErrorOfWords words e × IsFailureReportedWithStatus g (fault.Line e) code old new × untouched))

@@ -1,18 +1,26 @@
 -- What a command line requests of the files and folders at its paths.
-use Rattle.std.specs.Prelude.{ℕ, suc, ◌≡◌, ◌⊎◌, Bool, true, false, List, Option, IfSome}
+use Rattle.std.specs.Prelude.{ℕ, suc, ◌≡◌, ◌≢◌, ◌⊎◌, Bool, true, false, List, ◌∷◌, Option, IfSome}
 use Rattle.std.specs.Io.KnownBytes.{Appends}
 use Rattle.lfs_device.specs.declared.error.Error.{Error}
-use Rattle.lfs_model.specs.Listing.{UnpackingAction}
 use Rattle.lfs_model.specs.Source.{TreeSource}
 use Rattle.lfs_tool.specs.Listings.{IsListingTextOfImage, RefusesToList}
-use Rattle.lfs_tool.specs.MadeImages.{RefusesCopyOfSource, HasWrittenImageOfSource}
-use Rattle.lfs_tool.specs.Unpackings.{HasUnpackedImage}
+use Rattle.lfs_tool.specs.MadeImages.{RefusesCopyOfSource, HasWrittenBeginningOfImage, HasWrittenImageOfSource}
+use Rattle.lfs_tool.specs.PlaceEvents.{FolderClosed, FolderOpened, ImageDiscarded, ImageNotPlaced, ImageOpened, ImagePlaced}
+use Rattle.lfs_tool.specs.Reports.{FailsUnflushed, IsFlushedOnce}
+use Rattle.lfs_tool.specs.Unpackings.{FailsToUnpackKnownImage, HasUnpackedImage}
 use Rattle.lfs_tool.specs.CheckResults.{IsCheckResultOfBytes, is_accepted_check_result}
 use Rattle.lfs_tool.specs.CheckedLines.{check_result_text}
 use Rattle.lfs_tool.specs.declared.check_result.CheckResult.{CheckResult}
+use Rattle.lfs_tool.specs.declared.errors.ToolError.{ToolError}
+use Rattle.lfs_tool.specs.declared.errors.ToolError.TheVariants.{Output}
+use Rattle.lfs_tool.specs.declared.places.Places.{Ghosts}
+use Rattle.lfs_tool.specs.declared.reader.ImageInput.{Ghosts as ImageInputGhosts}
+use Rattle.lfs_tool.specs.declared.writer.ToolOutput.{Ghosts as ToolOutputGhosts}
 use Rattle.lfs_tool_line.specs.declared.line.Line.{Line}
 use Rattle.lfs_tool_line.specs.declared.line.Mode.{Mode}
 use Rattle.lfs_tool_line.specs.declared.line.Mode.TheVariants as mode
+use Rattle.lfs_tool_folders.specs.declared.source.Source.{Ghosts as SourceGhosts}
+use Rattle.lfs_tool_folders.specs.declared.target.Target.{Ghosts as TargetGhosts}
 use Rattle.lfs_tool_folders.specs.Entries.{HasOneMoreFaultOrPropertyHolds, HasFolderWithBadNames}
 use Rattle.lfs_tool.specs.RequestedSizes.{IsErrorWhereNoGeometryHasSizes, HasSizesOfCommandLine}
 
@@ -52,17 +60,65 @@ ChecksImageAtPath path_of bytes line accepted old new =
     IsTrueOfSomethingAtPath path_of line.image.now (λ i. IfSome (bytes i) (λ image.
     (checked : CheckResult) × (IsCheckResultOfBytes line.block_size line.page image checked × (accepted ≡ is_accepted_check_result checked) × Appends old new (check_result_text checked))))
 
--- The image at the line's path is made of the folder, and flushed once, when it is whole. What it is known to hold grew by an
--- image of what the folder shows. No file of it is left unread that the image might hold.
-abbrev pub MakesImageAtPath : {F N : Type 0} → (F → List ℕ) → (F → ℕ) → (F → Option TreeSource) → (N → List ℕ) → (N → Option (List ℕ)) → (N → N → Type 0) → Line → List ℕ → Type 0
-MakesImageAtPath folder_of limit_of shown path_of contents is_flushed line folder =
-    IsTrueOfSomethingAtPath folder_of folder (λ f. (limit_of f ≡ line.size) × IsTrueOfSomethingAtPath path_of line.image.now (λ i. (after : _)
-    × (((g : _) × (HasSizesOfCommandLine line g × HasWrittenImageOfSource g (shown f) (contents i) (contents after))) × is_flushed i after)))
+-- The image at the line's path is made of the folder. It alone is opened to be written, and it is put in its place whole, flushed
+-- once. What it is known to hold grew by an image of what the folder shows. No file of that is left unread that the image might hold.
+abbrev pub MakesImageAtPath : {P I N F T R : Type 0} → Ghosts P I N F T R → ToolOutputGhosts N → SourceGhosts F → Line → P → P → List ℕ → Type 0
+MakesImageAtPath places output source line old new folder =
+    IsTrueOfSomethingAtPath places.folder_path folder (λ f. (places.folder_limit f ≡ line.size) × IsTrueOfSomethingAtPath places.new_image_path line.image.now (λ i. (after : _)
+    × ((places.history new ≡ ImagePlaced (output.contents after) ∷ ImageOpened line.image.now ∷ places.history old)
+    × (((g : _) × (HasSizesOfCommandLine line g × HasWrittenImageOfSource g (source.shown f) (output.contents i) (output.contents after))) × IsFlushedOnce output i after))))
 
--- the image at the line's path is unpacked into the folder: what was done there grew by what unpacks the image
-abbrev pub UnpacksImageAtPath : {I F : Type 0} → (I → List ℕ) → (I → Option (List ℕ)) → (F → List ℕ) → (F → Option (List UnpackingAction)) → Line → List ℕ → Type 0
-UnpacksImageAtPath path_of bytes folder_of done line folder =
-    IsTrueOfSomethingAtPath path_of line.image.now (λ i. IsTrueOfSomethingAtPath folder_of folder (λ f. (after : _) × IfSome (bytes i) (λ image. HasUnpackedImage line.block_size line.page image (done f) (done after))))
+-- The image at the line's path is unpacked into the folder. That alone is opened to be written, and what was done there grew by
+-- what unpacks the image.
+abbrev pub UnpacksImageAtPath : {P I N F T R : Type 0} → Ghosts P I N F T R → ImageInputGhosts I → TargetGhosts T → Line → P → P → List ℕ → Type 0
+UnpacksImageAtPath places input target line old new folder =
+    IsTrueOfSomethingAtPath places.image_path line.image.now (λ i. IsTrueOfSomethingAtPath places.new_folder_path folder (λ f. (after : _)
+    × ((places.history new ≡ FolderClosed (target.done after) ∷ FolderOpened folder ∷ places.history old)
+    × IfSome (input.remaining i) (λ image. HasUnpackedImage line.block_size line.page image (target.done f) (target.done after)))))
+
+-- What the line requests is done. A listing and a check write their lines, and leave the places as they were.
+abbrev pub IsModeDone : {P I N F T R W : Type 0} → Ghosts P I N F T R → ImageInputGhosts I → ToolOutputGhosts N → SourceGhosts F → TargetGhosts T → ToolOutputGhosts W → Line → P → P → W → W → Bool → Type 0
+IsModeDone places input output source target writer line old new out_old out_new accepted =
+    IsImageAcceptedUnlessModeIsCheck line.mode accepted × IsTrueForMode line.mode
+    (ListsImageAtPath places.image_path input.remaining line (writer.contents out_old) (writer.contents out_new) × (writer.pending out_new ≡ 0) × (new ≡ old))
+    (ChecksImageAtPath places.image_path input.remaining line accepted (writer.contents out_old) (writer.contents out_new) × (writer.pending out_new ≡ 0) × (new ≡ old))
+    (MakesImageAtPath places output source line old new)
+    (UnpacksImageAtPath places input target line old new)
+
+-- ---- what an error leaves
+
+-- the image is discarded as it was opened
+abbrev pub DiscardsUnwrittenImage : {P I N F T R : Type 0} → Ghosts P I N F T R → ToolOutputGhosts N → Line → P → P → Type 0
+DiscardsUnwrittenImage places output line old new =
+    IsTrueOfSomethingAtPath places.new_image_path line.image.now (λ i. places.history new ≡ ImageDiscarded (output.contents i) ∷ ImageOpened line.image.now ∷ places.history old)
+
+-- the image fails, and no flush of it succeeds: it is discarded with a beginning of what it was to hold
+abbrev pub DiscardsFailedImage : {P I N F T R : Type 0} → Ghosts P I N F T R → ToolOutputGhosts N → SourceGhosts F → Line → P → P → List ℕ → Type 0
+DiscardsFailedImage places output source line old new folder =
+    IsTrueOfSomethingAtPath places.folder_path folder (λ f. (places.folder_limit f ≡ line.size) × IsTrueOfSomethingAtPath places.new_image_path line.image.now (λ i. (after : _)
+    × ((places.history new ≡ ImageDiscarded (output.contents after) ∷ ImageOpened line.image.now ∷ places.history old)
+    × (((g : _) × (HasSizesOfCommandLine line g × HasWrittenBeginningOfImage g (source.shown f) (output.contents i) (output.contents after))) × FailsUnflushed output i after))))
+
+-- Nothing is put in the place of the line's image. At `Output` the image failed, or it was whole and couldn't be put there. At any
+-- other error none was opened, or it is discarded unwritten.
+abbrev pub LeavesNoNewImage : {P I N F T R : Type 0} → Ghosts P I N F T R → ToolOutputGhosts N → SourceGhosts F → Line → P → P → List ℕ → ToolError → Type 0
+LeavesNoNewImage places output source line old new folder Output =
+    DiscardsFailedImage places output source line old new folder ⊎ (places.history new ≡ ImageNotPlaced ∷ ImageOpened line.image.now ∷ places.history old)
+LeavesNoNewImage places output source line old new folder e = (places.history new ≡ places.history old) ⊎ DiscardsUnwrittenImage places output line old new
+
+-- No folder was opened to be written, or the line's folder was, and was closed after what was begun there. At `Output` it failed.
+abbrev pub LeavesFolderUnfinished : {P I N F T R : Type 0} → Ghosts P I N F T R → ImageInputGhosts I → TargetGhosts T → Line → P → P → List ℕ → ToolError → Type 0
+LeavesFolderUnfinished places input target line old new folder e =
+    ((e ≢ Output) × (places.history new ≡ places.history old))
+    ⊎ IsTrueOfSomethingAtPath places.image_path line.image.now (λ i. IsTrueOfSomethingAtPath places.new_folder_path folder (λ f. (after : _)
+    × ((places.history new ≡ FolderClosed (target.done after) ∷ FolderOpened folder ∷ places.history old) × FailsToUnpackKnownImage line.block_size line.page (input.remaining i) (target.done f) (target.done after) e × (e ≡ Output → target.faults after ≡ suc (target.faults f)))))
+
+-- What the line requests isn't done. A listing and a check leave the places as they were.
+abbrev pub LeavesModeUndone : {P I N F T R : Type 0} → Ghosts P I N F T R → ImageInputGhosts I → ToolOutputGhosts N → SourceGhosts F → TargetGhosts T → Line → P → P → ToolError → Type 0
+LeavesModeUndone places input output source target line old new e =
+    IsTrueForMode line.mode (new ≡ old) (new ≡ old) (λ folder. LeavesNoNewImage places output source line old new folder e) (λ folder. LeavesFolderUnfinished places input target line old new folder e)
+
+-- ---- when an error comes
 
 -- the image at the line's path is refused so
 abbrev pub RefusesToListAtPath : {I : Type 0} → (I → List ℕ) → (I → Option (List ℕ)) → Line → Error → Type 0
@@ -76,10 +132,6 @@ RefusesToMakeImage folder_of limit_of shown line e folder =
 -- the file or folder at the path fails
 abbrev pub HasFaultAtPath : {X : Type 0} → (X → List ℕ) → (X → ℕ) → List ℕ → Type 0
 HasFaultAtPath path_of faults path = IsTrueOfSomethingAtPath path_of path (λ x. (after : _) × (faults after ≡ suc (faults x)))
-
--- the file at the path fails, and no flush of it succeeds
-abbrev pub FailsUnflushedAtPath : {X : Type 0} → (X → List ℕ) → (X → X → Type 0) → List ℕ → Type 0
-FailsUnflushedAtPath path_of fails path = IsTrueOfSomethingAtPath path_of path (λ x. (after : _) × fails x after)
 
 -- the folder fails, or one in it has bad names
 abbrev pub FailsToReadFolder : {F : Type 0} → (F → List ℕ) → (F → ℕ) → (F → Option TreeSource) → List ℕ → Type 0

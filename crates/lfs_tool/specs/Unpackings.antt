@@ -1,14 +1,15 @@
 -- What an unpacking returns.
-use Rattle.std.specs.Prelude.{ℕ, ◌≡◌, ◌⊎◌, ◌++◌, suc, List, Option, Some, None, Result, Ok, Err, map, take}
+use Rattle.std.specs.Prelude.{ℕ, ◌≡◌, ◌≢◌, ◌⊎◌, ◌++◌, suc, List, Option, Some, None, IfSome, Result, Ok, Err, map, take}
 use Rattle.std.specs.List.{AllByRecursion}
 use Rattle.lfs_model.specs.Disk.{Disk, IsImageOfWholeBlocks}
 use Rattle.lfs_model.specs.View.{IsSkipListIfCtzStruct, DiskView}
 use Rattle.lfs_model.specs.Slots.{Struct, Inline, Ctz, Branch}
 use Rattle.lfs_model.specs.Listing.{UnpackingAction, AreActionsUnpackingTree, MakeDirectory, PutFile}
+use Rattle.lfs_device.specs.declared.error.Error.{Error}
 use Rattle.lfs_device.specs.declared.error.Error.TheVariants.{Corrupt, Invalid, NoMemory}
 use Rattle.lfs_tool.specs.declared.errors.ToolError.{ToolError}
 use Rattle.lfs_tool.specs.declared.errors.ToolError.TheVariants.{Fs, Output}
-use Rattle.lfs_tool.specs.Listings.{IsImageAcceptedInNeitherNameOrder, IsMountErrorOfDisk}
+use Rattle.lfs_tool.specs.Listings.{IsImageAcceptedInNeitherNameOrder, IsMountErrorOfDisk, RefusesToList}
 use Rattle.lfs_tool.specs.EitherOrder.{IsViewOfImageInSomeNameOrder, IsViewOfDiskInSomeNameOrder}
 use Rattle.lfs_lookup.specs.FileBytes.{file_bytes_of_struct}
 use Rattle.lfs_lookup.specs.Walk.{PathAndStruct}
@@ -89,3 +90,10 @@ FailsToUnpackImage block_size page image old new (Fs Invalid) = (¬ IsImageOfWho
 FailsToUnpackImage block_size page image old new (Fs NoMemory) = (new ≡ old) ⊎ HasBegunUnpackingImage block_size page image old new
 FailsToUnpackImage block_size page image old new Output = HasBegunUnpackingImage block_size page image old new
 FailsToUnpackImage block_size page image old new other = ⊥
+
+-- Why the bytes aren't unpacked, where they are known, and what was done then: nothing more, or a beginning of what unpacks them,
+-- where the target failed or memory ran out.
+pub record FailsToUnpackKnownImage (block_size page : ℕ) (image : Option (List ℕ)) (old new : Option (List UnpackingAction)) (e : ToolError) : Type 0 where
+  pub refused : (f : Error) → e ≡ Fs f → IfSome image (λ bytes. RefusesToList block_size page bytes f)
+  pub undone : e ≢ Output → e ≢ Fs NoMemory → new ≡ old
+  pub begun : (new ≡ old) ⊎ IfSome image (λ bytes. HasBegunUnpackingImage block_size page bytes old new)

@@ -82,12 +82,13 @@ fn explanation_by_check<P: Places>(
 }
 
 // Returns the fault that a file or a folder met.
-fn explanation_by_path_fault<P: Places>(places: &P) -> Explanation
-    ensures { IsExplanationPathFaultOrNothing result }
+fn explanation_by_path_fault<P: Places>(places: &P) -> Result<Explanation, ToolError>
+    ensures fault { IfOk result IsExplanationPathFaultOrNothing }
+    ensures err { IfErr result (λ e. e ≡ ToolError.Fs Error.NoMemory) }
 {
-    match places.fault() {
-        Some(fault) => Explanation::Place(fault),
-        None => Explanation::Nothing,
+    match places.fault()? {
+        Some(fault) => Ok(Explanation::Place(fault)),
+        None => Ok(Explanation::Nothing),
     }
 }
 
@@ -129,9 +130,9 @@ fn explanation_of_too_few_blocks<P: Places>(
 ///
 /// # Errors
 /// `Input` where the image or the folder is read again and that fails, or a folder has bad names.
-/// `Fs(NoMemory)` where memory isn't granted. `Fs(Invalid)` where the error is `NoSpace` and no image has
-/// the line's sizes. None of them comes where the error is another one than `Invalid`, `Corrupt` and
-/// `NoSpace`.
+/// `Fs(NoMemory)` where memory isn't granted, or wasn't to note a fault. `Fs(Invalid)` where the error is
+/// `NoSpace` and no image has the line's sizes. Where the error is another one than `Invalid`, `Corrupt` and
+/// `NoSpace`, none comes but `Fs(NoMemory)` at `Input` and `Output`.
 pub fn explanation_of_error<P: Places>(
     alloc: Global,
     places: &P,
@@ -142,7 +143,7 @@ pub fn explanation_of_error<P: Places>(
     ensures err { IfErr result (IsErrorInsteadOfExplanation P.image_path P.Image.faults P.folder_path P.Folder.faults P.Folder.shown line.now error) }
 {
     match error {
-        ToolError::Input | ToolError::Output => Ok(explanation_by_path_fault(places)),
+        ToolError::Input | ToolError::Output => explanation_by_path_fault(places),
         ToolError::Fs(Error::Invalid) => explanation_by_broken_size_rule(alloc, places, line),
         ToolError::Fs(Error::Corrupt) => explanation_by_check(alloc, places, line),
         ToolError::Fs(Error::NoSpace) => explanation_of_too_few_blocks(alloc, places, line),

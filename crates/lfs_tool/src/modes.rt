@@ -1,8 +1,8 @@
 // The modes of a command line, at its places.
 
-ghost use Rattle.std.specs.Prelude.{◌≡◌, ◌≢◌, IfOk, IsErrOf, OnOk, false, suc, true};
-ghost use Rattle.lfs_tool.specs.Reports.{FailsUnflushed, IsFlushedOnce, ReportsWriterFaults};
-ghost use Rattle.lfs_tool.specs.RunsAtPaths.{IsTrueForMode, ChecksImageAtPath, FailsUnflushedAtPath, IsImageAcceptedUnlessModeIsCheck, HasFaultAtPath, FailsToReadFolder, ListsImageAtPath, MakesImageAtPath, RefusesToListAtPath, RefusesToMakeImage, UnpacksImageAtPath, is_mode_that_writes_lines};
+ghost use Rattle.std.specs.Prelude.{◌≡◌, ◌≢◌, IfErr, IfOk, IsErrOf, OnOk, false, true};
+ghost use Rattle.lfs_tool.specs.Reports.{ReportsWriterFaults};
+ghost use Rattle.lfs_tool.specs.RunsAtPaths.{IsTrueForMode, ChecksImageAtPath, HasFaultAtPath, FailsToReadFolder, IsModeDone, LeavesFolderUnfinished, LeavesModeUndone, LeavesNoNewImage, ListsImageAtPath, MakesImageAtPath, RefusesToListAtPath, RefusesToMakeImage, UnpacksImageAtPath, is_mode_that_writes_lines};
 
 use crate::{
     Line, Mode, Places, ToolError, ToolOutput, check_for_command_line, create_for_command_line,
@@ -47,61 +47,69 @@ fn check_image_at_path<P: Places, W: ToolOutput>(
     }
 }
 
-// Makes the image of a folder.
+// Makes the image of a folder, and puts it in its place once it is whole.
 fn create_image_at_path<P: Places>(
     alloc: Global,
-    places: &P,
+    places: &mut P,
     line: &Line<'_>,
     folder: &str,
 ) -> Result<(), ToolError>
-    ensures made { OnOk result (MakesImageAtPath P.folder_path P.folder_limit P.Folder.shown P.new_image_path P.NewImage.contents (IsFlushedOnce P.NewImage.ToolOutput) line.now folder.now) }
+    ensures made { OnOk result (MakesImageAtPath P.Places P.NewImage.ToolOutput P.Folder.Source line.now places.old places.new folder.now) }
     ensures refused { (e : _) → IsErrOf result (ToolError.Fs e) → e ≢ Error.NoMemory → RefusesToMakeImage P.folder_path P.folder_limit P.Folder.shown line.now e folder.now }
     ensures input { IsErrOf result ToolError.Input → FailsToReadFolder P.folder_path P.Folder.faults P.Folder.shown folder.now }
-    ensures output { IsErrOf result ToolError.Output → FailsUnflushedAtPath P.new_image_path (FailsUnflushed P.NewImage.ToolOutput) line.now.image.now }
+    ensures left { IfErr result (LeavesNoNewImage P.Places P.NewImage.ToolOutput P.Folder.Source line.now places.old places.new folder.now) }
 {
     let mut source = places.folder(folder, line.size)?;
     let mut image = places.new_image(line.image)?;
     let mut progress = places.progress();
-    create_for_command_line(alloc, line, &mut source, &mut image, &mut progress)
+    match create_for_command_line(alloc, line, &mut source, &mut image, &mut progress) {
+        Ok(()) => places.place_image(image),
+        Err(error) => {
+            places.discard_image(image);
+            Err(error)
+        }
+    }
 }
 
 // Unpacks the image into a folder.
 fn unpack_image_at_path<P: Places>(
     alloc: Global,
-    places: &P,
+    places: &mut P,
     line: &Line<'_>,
     folder: &str,
 ) -> Result<(), ToolError>
-    ensures done { OnOk result (UnpacksImageAtPath P.image_path P.Image.remaining P.new_folder_path P.NewFolder.done line.now folder.now) }
+    ensures done { OnOk result (UnpacksImageAtPath P.Places P.Image.ImageInput P.NewFolder.Target line.now places.old places.new folder.now) }
     ensures refused { (e : _) → IsErrOf result (ToolError.Fs e) → e ≢ Error.NoMemory → RefusesToListAtPath P.image_path P.Image.remaining line.now e }
     ensures input { IsErrOf result ToolError.Input → HasFaultAtPath P.image_path P.Image.faults line.now.image.now }
-    ensures output { IsErrOf result ToolError.Output → HasFaultAtPath P.new_folder_path P.NewFolder.faults folder.now }
+    ensures left { IfErr result (LeavesFolderUnfinished P.Places P.Image.ImageInput P.NewFolder.Target line.now places.old places.new folder.now) }
 {
     let mut image = places.image(line.image)?;
     let mut target = places.new_folder(folder)?;
     let mut progress = places.progress();
-    unpack_for_command_line(alloc, line, &mut image, &mut target, &mut progress)
+    let unpacked = unpack_for_command_line(alloc, line, &mut image, &mut target, &mut progress);
+    places.close_folder(target);
+    unpacked
 }
 
 /// Does what a command line requests, at the places of its paths. The lines of a listing and of a check
 /// are written to `out`. Returns false where an image was checked that isn't accepted, and else true.
 ///
+/// A listing and a check open nothing to be written. An image that is made is put in its place once it is
+/// whole. At any error it is discarded, and nothing is put in its place.
+///
 /// # Errors
 /// Those of `lfs_tool::list`, `lfs_tool::check`, `lfs_tool::unpack` or `create_for_command_line`, at the
-/// same times. `Fs(NoMemory)` also where memory isn't granted for what is at a path.
+/// same times. `Output` also where an image can't be put in its place. `Fs(NoMemory)` also where memory
+/// isn't granted for what is at a path.
 pub fn run_mode_of_command_line<P: Places, W: ToolOutput>(
     alloc: Global,
-    places: &P,
+    places: &mut P,
     line: &Line<'_>,
     out: &mut W,
 ) -> Result<bool, ToolError>
     ensures writer { is_mode_that_writes_lines line.now.mode ≡ true → ReportsWriterFaults W.ToolOutput out.old out.new result }
     ensures unlisted { is_mode_that_writes_lines line.now.mode ≡ false → out.new ≡ out.old }
-    ensures done { IfOk result (λ accepted. IsImageAcceptedUnlessModeIsCheck line.now.mode accepted × IsTrueForMode line.now.mode
-        (ListsImageAtPath P.image_path P.Image.remaining line.now (W.contents out.old) (W.contents out.new) × (W.pending out.new ≡ 0))
-        (ChecksImageAtPath P.image_path P.Image.remaining line.now accepted (W.contents out.old) (W.contents out.new) × (W.pending out.new ≡ 0))
-        (MakesImageAtPath P.folder_path P.folder_limit P.Folder.shown P.new_image_path P.NewImage.contents (IsFlushedOnce P.NewImage.ToolOutput) line.now)
-        (UnpacksImageAtPath P.image_path P.Image.remaining P.new_folder_path P.NewFolder.done line.now)) }
+    ensures done { IfOk result (λ accepted. IsModeDone P.Places P.Image.ImageInput P.NewImage.ToolOutput P.Folder.Source P.NewFolder.Target W.ToolOutput line.now places.old places.new out.old out.new accepted) }
     ensures refused { (e : _) → IsErrOf result (ToolError.Fs e) → e ≢ Error.NoMemory → IsTrueForMode line.now.mode
         (RefusesToListAtPath P.image_path P.Image.remaining line.now e)
         ⊥
@@ -112,15 +120,11 @@ pub fn run_mode_of_command_line<P: Places, W: ToolOutput>(
         (HasFaultAtPath P.image_path P.Image.faults line.now.image.now)
         (FailsToReadFolder P.folder_path P.Folder.faults P.Folder.shown)
         (λ _. HasFaultAtPath P.image_path P.Image.faults line.now.image.now) }
-    ensures output { IsErrOf result ToolError.Output → IsTrueForMode line.now.mode
-        (W.faults out.new ≡ suc (W.faults out.old))
-        (W.faults out.new ≡ suc (W.faults out.old))
-        (λ _. FailsUnflushedAtPath P.new_image_path (FailsUnflushed P.NewImage.ToolOutput) line.now.image.now)
-        (HasFaultAtPath P.new_folder_path P.NewFolder.faults) }
+    ensures left { IfErr result (LeavesModeUndone P.Places P.Image.ImageInput P.NewImage.ToolOutput P.Folder.Source P.NewFolder.Target line.now places.old places.new) }
 {
     match line.mode {
-        Mode::Check => return check_image_at_path(alloc, places, line, out),
-        Mode::List => list_image_at_path(alloc, places, line, out)?,
+        Mode::Check => return check_image_at_path(alloc, &*places, line, out),
+        Mode::List => list_image_at_path(alloc, &*places, line, out)?,
         Mode::Create(folder) => create_image_at_path(alloc, places, line, folder)?,
         Mode::Unpack(folder) => unpack_image_at_path(alloc, places, line, folder)?,
     }

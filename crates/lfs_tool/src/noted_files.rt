@@ -35,6 +35,14 @@ impl<'a, T: Drop> NotedStream<'a, T> {
         })
     }
 
+    // Returns the reader or the writer, and its path.
+    pub(crate) fn into_parts(self) -> (T, String)
+        ensures inner { result.0 ≡ self.entry.inner }
+        ensures path { result.1 ≡ self.entry.path }
+    {
+        (self.inner, self.path)
+    }
+
     // Notes a fault. A call that a signal interrupted has none.
     fn note_error_at_path(&self, error: &io::Error) {
         if error.kind() != ErrorKind::Interrupted {

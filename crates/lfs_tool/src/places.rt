@@ -1,12 +1,15 @@
-ghost use Rattle.std.specs.Prelude.{◌≡◌, ℕ, IfErr, IfOk, List};
+ghost use Rattle.std.specs.Prelude.{◌≡◌, ℕ, IfErr, IfOk, List, OnOk, ◌∷◌};
+ghost use Rattle.lfs_tool.specs.PlaceEvents.{FolderClosed, FolderOpened, ImageDiscarded, ImageNotPlaced, ImageOpened, ImagePlaced, PlaceEvent};
 
-use crate::{FollowsProgress, ImageInput, ToolOutput};
+use crate::{FollowsProgress, ImageInput, ToolError, ToolOutput};
 use lfs_device::Error;
 use lfs_tool_folders::{PathFault, Source, Target};
 
 /// The files and folders of a command line's paths. Only their own calls touch what is there.
 ///
 /// Each call for a file or a folder returns `NoMemory` where memory isn't granted, and no other error.
+/// What is opened to be written comes back when the work ends: an image to `place_image` or to
+/// `discard_image`, a folder to `close_folder`. A contract sees by that what was done there in all.
 pub trait Places {
     /// An image that is read.
     type Image: ImageInput + Drop;
@@ -35,15 +38,33 @@ pub trait Places {
 
     ghost new_folder_path: { Self.NewFolder → List ℕ };
 
+    // What was opened to be written, and how it came back, the newest first.
+    ghost history: { Self → List PlaceEvent };
+
     /// Returns the image at a path, to be read.
     fn image(&self, path: &str) -> Result<Self::Image, Error>
         ensures path { IfOk result (λ i. image_path i ≡ path.now) }
         ensures err { IfErr result (λ e. e ≡ Error.NoMemory) };
 
-    /// Returns the image at a path, to be made.
-    fn new_image(&self, path: &str) -> Result<Self::NewImage, Error>
+    /// Returns the image at a path, to be made. No call of it was made yet.
+    fn new_image(&mut self, path: &str) -> Result<Self::NewImage, Error>
         ensures path { IfOk result (λ i. new_image_path i ≡ path.now) }
-        ensures err { IfErr result (λ e. e ≡ Error.NoMemory) };
+        ensures fresh { IfOk result (λ i. (Self.NewImage.faults i ≡ 0) × (Self.NewImage.flushes i ≡ 0)) }
+        ensures opened { OnOk result (history self.new ≡ ImageOpened path.now ∷ history self.old) }
+        ensures err { IfErr result (λ e. (e ≡ Error.NoMemory) × (history self.new ≡ history self.old)) };
+
+    /// Puts an image in its place: no call of it has failed, and it was flushed once, when all was written.
+    ///
+    /// # Errors
+    /// `Output` where it can't be put there.
+    fn place_image(&mut self, image: Self::NewImage) -> Result<(), ToolError>
+        requires whole { (Self.NewImage.faults image ≡ 0) × (Self.NewImage.pending image ≡ 0) × (Self.NewImage.flushes image ≡ 1) }
+        ensures placed { OnOk result (history self.new ≡ ImagePlaced (Self.NewImage.contents image) ∷ history self.old) }
+        ensures err { IfErr result (λ e. (e ≡ ToolError.Output) × (history self.new ≡ ImageNotPlaced ∷ history self.old)) };
+
+    /// Drops an image that isn't to be put in its place.
+    fn discard_image(&mut self, image: Self::NewImage)
+        ensures { history self.new ≡ ImageDiscarded (Self.NewImage.contents image) ∷ history self.old };
 
     /// Returns the folder at a path, to be read for an image of so many bytes.
     fn folder(&self, path: &str, size: u32) -> Result<Self::Folder, Error>
@@ -52,14 +73,23 @@ pub trait Places {
         ensures err { IfErr result (λ e. e ≡ Error.NoMemory) };
 
     /// Returns the folder at a path, to be written.
-    fn new_folder(&self, path: &str) -> Result<Self::NewFolder, Error>
+    fn new_folder(&mut self, path: &str) -> Result<Self::NewFolder, Error>
         ensures path { IfOk result (λ f. new_folder_path f ≡ path.now) }
-        ensures err { IfErr result (λ e. e ≡ Error.NoMemory) };
+        ensures opened { OnOk result (history self.new ≡ FolderOpened path.now ∷ history self.old) }
+        ensures err { IfErr result (λ e. (e ≡ Error.NoMemory) × (history self.new ≡ history self.old)) };
+
+    /// Takes a folder back to which nothing more is written.
+    fn close_folder(&mut self, folder: Self::NewFolder)
+        ensures { history self.new ≡ FolderClosed (Self.NewFolder.done folder) ∷ history self.old };
 
     /// Returns what follows how far the work is that begins now.
     fn progress(&self) -> Self::Progress;
 
     /// Returns the first fault that one of these met since the last call, where one is known, and forgets
     /// it. No contract says which it is.
-    fn fault(&self) -> Option<PathFault>;
+    ///
+    /// # Errors
+    /// `NoMemory` where memory wasn't granted to note it.
+    fn fault(&self) -> Result<Option<PathFault>, Error>
+        ensures err { IfErr result (λ e. e ≡ Error.NoMemory) };
 }

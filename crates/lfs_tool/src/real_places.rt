@@ -4,11 +4,15 @@ ghost use Rattle.lfs_tool.specs.Paths.{path_of_old_image_file};
 ghost use Rattle.lfs_tool.specs.StandardStreams.{is_standard_stream, is_path_of_standard_stream, path_or_dash_of_file_or_standard};
 
 use crate::file_or_standard::is_standard_stream_path;
-use crate::{FileOrStandard, NewImage, NotedStream, OldImage, Places, Progress, WatchedStream};
+use crate::{
+    FileOrStandard, NewImage, NotedStream, OldImage, PlaceHistory, Places, Progress, ToolError,
+    WatchedStream,
+};
 use lfs_device::Error;
 use lfs_tool_folders::{FaultLog, Folder, PathFault, TargetFolder};
 use std::alloc::AllocError;
 use std::cell::Cell;
+use std::io;
 use std::io::{BufReader, Read, Write};
 use std::rt::Files;
 use std::time::Clock;
@@ -18,16 +22,28 @@ const READ_AHEAD: usize = 65_536;
 
 /// The files and folders of the real file system, and for the image `-` standard input or output. Each of
 /// these two is used once: the image of a second call fails. What files, folders and streams meet is
-/// noted in a log.
+/// noted in a log. A file that is made stands at its path once `place_image` has put it there, and not
+/// before.
 #[derive(Drop)]
 pub struct RealPlaces<'a, R, I, O, E, C> {
     rt: &'a R,
     log: &'a FaultLog,
     // The standard streams, until they are used.
     input: Cell<Option<I>>,
-    output: Cell<Option<O>>,
+    output: Option<O>,
     // A terminal and a clock, if it is told how far the work is.
     terminal: Option<(E, C)>,
+    history: PlaceHistory,
+}
+
+// Puts the file of an image at its path. A standard stream has its bytes already.
+fn put_file_or_standard_in_place<R: Files, O: Drop>(
+    image: FileOrStandard<NewImage<'_, R>, O>,
+) -> io::Result<()> {
+    match image {
+        FileOrStandard::File(file) => file.place(),
+        FileOrStandard::Standard(_) => Ok(()),
+    }
 }
 
 impl<'a, R, I, O, E, C> RealPlaces<'a, R, I, O, E, C>
@@ -51,8 +67,9 @@ where
             rt,
             log,
             input: Cell::new(Some(input)),
-            output: Cell::new(Some(output)),
+            output: Some(output),
             terminal,
+            history: PlaceHistory::empty(),
         }
     }
 
@@ -73,14 +90,15 @@ where
 
     // Returns what is written at a path.
     fn image_output_at_path(
-        &self,
+        &mut self,
         path: &str,
     ) -> Result<FileOrStandard<NewImage<'a, R>, O>, AllocError>
         ensures path { IfOk result (λ i. path_or_dash_of_file_or_standard image_path i ≡ path.now) }
         ensures kind { IfOk result (λ i. is_standard_stream i ≡ is_path_of_standard_stream path.now) }
+        ensures history { self.new.history ≡ self.old.history }
     {
         if is_standard_stream_path(path) {
-            return Ok(FileOrStandard::Standard(self.output.replace(None)));
+            return Ok(FileOrStandard::Standard(self.output.take()));
         }
         let file = NewImage::new(self.rt.alloc(), self.rt, path)?;
         Ok(FileOrStandard::File(file))
@@ -118,6 +136,8 @@ where
 
     ghost new_folder_path = { root_path_of_target_folder };
 
+    ghost history = { λ p. p.history.events };
+
     fn image(
         &self,
         path: &str,
@@ -134,12 +154,35 @@ where
     }
 
     fn new_image(
-        &self,
+        &mut self,
         path: &str,
     ) -> Result<WatchedStream<NotedStream<'a, FileOrStandard<NewImage<'a, R>, O>>>, Error> {
         let image = self.image_output_at_path(path)?;
         let image = NotedStream::new(self.rt.alloc(), image, path, self.log)?;
+        self.history = self.history.with_opened_image(path);
         Ok(WatchedStream::new(image))
+    }
+
+    fn place_image(
+        &mut self,
+        image: WatchedStream<NotedStream<'a, FileOrStandard<NewImage<'a, R>, O>>>,
+    ) -> Result<(), ToolError> {
+        let placed = self.history.with_placed_image(&image);
+        let (image, path) = image.into_inner().into_parts();
+        if let Err(error) = put_file_or_standard_in_place(image) {
+            self.log.note(self.rt.alloc(), path.as_bytes(), &error);
+            self.history = self.history.with_unplaced_image();
+            return Err(ToolError::Output);
+        }
+        self.history = placed;
+        Ok(())
+    }
+
+    fn discard_image(
+        &mut self,
+        image: WatchedStream<NotedStream<'a, FileOrStandard<NewImage<'a, R>, O>>>,
+    ) {
+        self.history = self.history.with_discarded_image(&image);
     }
 
     fn folder(&self, path: &str, size: u32) -> Result<Folder<'a, R>, Error> {
@@ -147,9 +190,14 @@ where
         Ok(folder)
     }
 
-    fn new_folder(&self, path: &str) -> Result<TargetFolder<'a, R>, Error> {
+    fn new_folder(&mut self, path: &str) -> Result<TargetFolder<'a, R>, Error> {
         let folder = TargetFolder::new(self.rt, self.log, path)?;
+        self.history = self.history.with_opened_folder(path);
         Ok(folder)
+    }
+
+    fn close_folder(&mut self, folder: TargetFolder<'a, R>) {
+        self.history = self.history.with_closed_folder(&folder);
     }
 
     fn progress(&self) -> Option<Progress<WatchedStream<E>, C>> {
@@ -159,7 +207,8 @@ where
         }
     }
 
-    fn fault(&self) -> Option<PathFault> {
-        self.log.take()
+    fn fault(&self) -> Result<Option<PathFault>, Error> {
+        let fault = self.log.take()?;
+        Ok(fault)
     }
 }

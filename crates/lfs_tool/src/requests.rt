@@ -1,10 +1,11 @@
 // Requests of a command line to list, check and unpack images.
 
-ghost use Rattle.std.specs.Prelude.{◌≡◌, ◌≢◌, ◌⊎◌, IfErr, IfOk, IfSome, IsErrOf, OnErr, OnOk};
+ghost use Rattle.std.specs.Prelude.{◌≡◌, IfErr, IfOk, IfSome, IsErrOf, OnOk};
 ghost use Rattle.std.specs.Io.KnownBytes.{Appends};
 ghost use Rattle.lfs_tool.specs.KnownBytes.{AppendsBeginningOfBytes, IsListingRefusal};
 ghost use Rattle.lfs_tool.specs.Listings.{IsListingTextOfImage, RefusesToList};
-ghost use Rattle.lfs_tool.specs.Unpackings.{HasBegunUnpackingImage, HasUnpackedImage};
+ghost use Rattle.lfs_tool.specs.AmountsTold.{amounts_of_unpacking_actions, told_of_all_done};
+ghost use Rattle.lfs_tool.specs.Unpackings.{AreActionsUnpackingImage, FailsToUnpackKnownImage, HasUnpackedImage};
 ghost use Rattle.lfs_tool.specs.CheckResults.{IsCheckResultOfBytes, is_accepted_check_result};
 ghost use Rattle.lfs_tool.specs.CheckedLines.{check_result_text};
 ghost use Rattle.lfs_tool.specs.Reports.{IsReadToEndOrPastImageLimit, IsThisErrorExactlyIfOneCallFailed, ReportsWriterFaults};
@@ -82,13 +83,14 @@ pub fn unpack_for_command_line<R: ImageInput, T: Target, F: FollowsProgress>(
     ensures done { OnOk result (IfSome (R.remaining image.old) (λ bytes.
         HasUnpackedImage line.now.block_size line.now.page bytes (T.done target.old) (T.done target.new))) }
 
+    // The follower is told of the whole, and of each entry.
+    ensures told { OnOk result (IfSome (R.remaining image.old) (λ bytes. (actions : _)
+        × (AreActionsUnpackingImage line.now.block_size line.now.page bytes actions × (F.told progress.new ≡ told_of_all_done (amounts_of_unpacking_actions actions) (F.told progress.old))))) }
+
     // Nothing is done, or a beginning of the actions, where the target failed or memory ran out.
-    ensures undone { IfErr result (λ e. e ≢ ToolError.Output → e ≢ ToolError.Fs Error.NoMemory → T.done target.new ≡ T.done target.old) }
-    ensures begun { OnErr result ((T.done target.new ≡ T.done target.old) ⊎ IfSome (R.remaining image.old) (λ bytes.
-        HasBegunUnpackingImage line.now.block_size line.now.page bytes (T.done target.old) (T.done target.new))) }
+    ensures failed { IfErr result (FailsToUnpackKnownImage line.now.block_size line.now.page (R.remaining image.old) (T.done target.old) (T.done target.new)) }
 
     // When each error comes.
-    ensures refused { (e : _) → IsErrOf result (ToolError.Fs e) → IfSome (R.remaining image.old) (λ bytes. RefusesToList line.now.block_size line.now.page bytes e) }
     ensures input { IsThisErrorExactlyIfOneCallFailed ToolError.Input (R.faults image.old) (R.faults image.new) result }
     ensures read { ¬ IsErrOf result ToolError.Input → ¬ IsErrOf result (ToolError.Fs Error.NoMemory) → IsReadToEndOrPastImageLimit (R.remaining image.old) (R.remaining image.new) }
     ensures output { IsThisErrorExactlyIfOneCallFailed ToolError.Output (T.faults target.old) (T.faults target.new) result }

@@ -4,8 +4,7 @@ ghost use Rattle.std.specs.String.{string_bytes};
 ghost use Rattle.lfs_tool_line.specs.Matches.{IsCommandLineOfParsedArguments, is_check_requested, is_list_requested, rows};
 ghost use Rattle.lfs_tool.specs.RunEnds.{AreWordsOfValidCommandLine, IsCommandLineDoneOrErrorReported, IsRequestDoneOrFailureReported, IsFailureReportedWithStatus};
 ghost use Rattle.lfs_tool.specs.Explained.{IsErrorFollowedByExplanationIfRequested};
-ghost use Rattle.lfs_tool.specs.Reports.{IsFlushedOnce};
-ghost use Rattle.lfs_tool.specs.RunsAtPaths.{IsTrueForMode, ChecksImageAtPath, IsImageAcceptedUnlessModeIsCheck, ListsImageAtPath, MakesImageAtPath, UnpacksImageAtPath, is_mode_that_writes_lines};
+ghost use Rattle.lfs_tool.specs.RunsAtPaths.{IsModeDone, LeavesModeUndone, is_mode_that_writes_lines};
 
 use crate::explanations::write_explanation_if_requested;
 use crate::{
@@ -33,30 +32,25 @@ fn failure_of_reading_command_line_words(error: &io::Error) -> Fault
 // line requests that.
 fn run_line_and_return_exit_status<P: Places, O: ToolOutput, E: ToolOutput>(
     alloc: Global,
-    places: &P,
+    places: &mut P,
     line: &Line<'_>,
     out: &mut O,
     err: &mut E,
 ) -> u8
-    ensures answered { IsCommandLineDoneOrErrorReported E.ToolOutput (λ accepted. IsImageAcceptedUnlessModeIsCheck line.now.mode accepted × IsTrueForMode line.now.mode
-        (ListsImageAtPath P.image_path P.Image.remaining line.now (O.contents out.old) (O.contents out.new) × (O.pending out.new ≡ 0))
-        (ChecksImageAtPath P.image_path P.Image.remaining line.now accepted (O.contents out.old) (O.contents out.new) × (O.pending out.new ≡ 0))
-        (MakesImageAtPath P.folder_path P.folder_limit P.Folder.shown P.new_image_path P.NewImage.contents (IsFlushedOnce P.NewImage.ToolOutput) line.now)
-        (UnpacksImageAtPath P.image_path P.Image.remaining P.new_folder_path P.NewFolder.done line.now))
-        (IsErrorFollowedByExplanationIfRequested P.image_path P.Image.remaining P.Image.faults P.folder_path P.folder_limit P.Folder.faults P.Folder.shown E.ToolOutput line.now) result err.old err.new }
+    ensures answered { IsCommandLineDoneOrErrorReported E.ToolOutput
+        (IsModeDone P.Places P.Image.ImageInput P.NewImage.ToolOutput P.Folder.Source P.NewFolder.Target O.ToolOutput line.now places.old places.new out.old out.new)
+        (λ e shown ends. LeavesModeUndone P.Places P.Image.ImageInput P.NewImage.ToolOutput P.Folder.Source P.NewFolder.Target line.now places.old places.new e
+        × IsErrorFollowedByExplanationIfRequested P.image_path P.Image.remaining P.Image.faults P.folder_path P.folder_limit P.Folder.faults P.Folder.shown E.ToolOutput line.now e shown ends)
+        result err.old err.new }
     ensures unlisted { is_mode_that_writes_lines line.now.mode ≡ false → out.new ≡ out.old }
-    ensures done { result ≡ 0 → IsTrueForMode line.now.mode
-        (ListsImageAtPath P.image_path P.Image.remaining line.now (O.contents out.old) (O.contents out.new) × (O.pending out.new ≡ 0))
-        (ChecksImageAtPath P.image_path P.Image.remaining line.now true (O.contents out.old) (O.contents out.new) × (O.pending out.new ≡ 0))
-        (MakesImageAtPath P.folder_path P.folder_limit P.Folder.shown P.new_image_path P.NewImage.contents (IsFlushedOnce P.NewImage.ToolOutput) line.now)
-        (UnpacksImageAtPath P.image_path P.Image.remaining P.new_folder_path P.NewFolder.done line.now) }
+    ensures done { result ≡ 0 → IsModeDone P.Places P.Image.ImageInput P.NewImage.ToolOutput P.Folder.Source P.NewFolder.Target O.ToolOutput line.now places.old places.new out.old out.new true }
 {
     match run_mode_of_command_line(alloc, places, line, out) {
         Ok(true) => 0,
         Ok(false) => 1,
         Err(error) => {
             let status = report(&Fault::Tool(error), out, err);
-            write_explanation_if_requested(alloc, places, line, error, err);
+            write_explanation_if_requested(alloc, &*places, line, error, err);
             status
         }
     }
@@ -65,33 +59,29 @@ fn run_line_and_return_exit_status<P: Places, O: ToolOutput, E: ToolOutput>(
 /// Runs the program on the words of its command line, or on the cause for which there are none.
 /// Returns the status with which the program ends: 0, or 1 where an image was checked that isn't
 /// accepted, or that of `lfs_tool::report`, which shows the error. With `--explain` further lines
-/// follow. Without words nothing is written to `out`.
+/// follow. Without words nothing is written to `out`. At a fault of the words nothing is opened.
 pub fn run_and_return_exit_status<P: Places, O: ToolOutput, E: ToolOutput>(
     alloc: Global,
-    places: &P,
+    places: &mut P,
     words: io::Result<Vec<String>>,
     out: &mut O,
     err: &mut E,
 ) -> u8
-    ensures answered { IfOk words (λ all. IsRequestDoneOrFailureReported E.ToolOutput (map string_bytes all.items) (λ line accepted. IsImageAcceptedUnlessModeIsCheck line.mode accepted × IsTrueForMode line.mode
-        (ListsImageAtPath P.image_path P.Image.remaining line (O.contents out.old) (O.contents out.new) × (O.pending out.new ≡ 0))
-        (ChecksImageAtPath P.image_path P.Image.remaining line accepted (O.contents out.old) (O.contents out.new) × (O.pending out.new ≡ 0))
-        (MakesImageAtPath P.folder_path P.folder_limit P.Folder.shown P.new_image_path P.NewImage.contents (IsFlushedOnce P.NewImage.ToolOutput) line)
-        (UnpacksImageAtPath P.image_path P.Image.remaining P.new_folder_path P.NewFolder.done line))
-        (IsErrorFollowedByExplanationIfRequested P.image_path P.Image.remaining P.Image.faults P.folder_path P.folder_limit P.Folder.faults P.Folder.shown E.ToolOutput) result err.old err.new) }
+    ensures answered { IfOk words (λ all. IsRequestDoneOrFailureReported E.ToolOutput (map string_bytes all.items)
+        (λ line. IsModeDone P.Places P.Image.ImageInput P.NewImage.ToolOutput P.Folder.Source P.NewFolder.Target O.ToolOutput line places.old places.new out.old out.new)
+        (λ line e shown ends. LeavesModeUndone P.Places P.Image.ImageInput P.NewImage.ToolOutput P.Folder.Source P.NewFolder.Target line places.old places.new e
+        × IsErrorFollowedByExplanationIfRequested P.image_path P.Image.remaining P.Image.faults P.folder_path P.folder_limit P.Folder.faults P.Folder.shown E.ToolOutput line e shown ends)
+        (places.new ≡ places.old) result err.old err.new) }
     ensures unlisted { IfOk words (λ all. AreWordsOfValidCommandLine (map string_bytes all.items) → is_list_requested (rows (map string_bytes all.items)) ≡ false → is_check_requested (rows (map string_bytes all.items)) ≡ false → out.new ≡ out.old) }
 
     // With words that are a command line, the status 0 comes where its request is done.
-    ensures done { IfOk words (λ all. AreWordsOfValidCommandLine (map string_bytes all.items) → result ≡ 0 → (line : _) × (IsCommandLineOfParsedArguments (rows (map string_bytes all.items)) line × IsTrueForMode line.mode
-        (ListsImageAtPath P.image_path P.Image.remaining line (O.contents out.old) (O.contents out.new) × (O.pending out.new ≡ 0))
-        (ChecksImageAtPath P.image_path P.Image.remaining line true (O.contents out.old) (O.contents out.new) × (O.pending out.new ≡ 0))
-        (MakesImageAtPath P.folder_path P.folder_limit P.Folder.shown P.new_image_path P.NewImage.contents (IsFlushedOnce P.NewImage.ToolOutput) line)
-        (UnpacksImageAtPath P.image_path P.Image.remaining P.new_folder_path P.NewFolder.done line))) }
+    ensures done { IfOk words (λ all. AreWordsOfValidCommandLine (map string_bytes all.items) → result ≡ 0 → (line : _) × (IsCommandLineOfParsedArguments (rows (map string_bytes all.items)) line
+        × IsModeDone P.Places P.Image.ImageInput P.NewImage.ToolOutput P.Folder.Source P.NewFolder.Target O.ToolOutput line places.old places.new out.old out.new true)) }
 
     // Without words.
     ensures no_memory { IfErr words (λ e. error_kind e ≡ ErrorKind.OutOfMemory → IsFailureReportedWithStatus E.ToolOutput (Fault.Tool (ToolError.Fs Error.NoMemory)) result err.old err.new) }
     ensures not_utf8 { IfErr words (λ e. error_kind e ≢ ErrorKind.OutOfMemory → IsFailureReportedWithStatus E.ToolOutput (Fault.Line LineError.NotUtf8) result err.old err.new) }
-    ensures kept { OnErr words (out.new ≡ out.old) }
+    ensures kept { OnErr words ((out.new ≡ out.old) × (places.new ≡ places.old)) }
 {
     let words = match words {
         Ok(words) => words,

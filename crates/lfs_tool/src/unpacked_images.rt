@@ -1,12 +1,13 @@
 // Images that are unpacked.
 
-ghost use Rattle.std.specs.Prelude.{◌≡◌, ◌≢◌, ◌⊎◌, ◌<◌, ◌^◌, IfErr, IfOk, IfSome, IsErrOf, OnErr, OnOk, false, length};
+ghost use Rattle.std.specs.Prelude.{◌≡◌, ◌⊎◌, ◌<◌, ◌^◌, IfErr, IfOk, IfSome, IsErrOf, OnErr, OnOk, false, length};
 ghost use Rattle.lfs_device.specs.RamDevice.{ram_blocks, geometry_of_ram_device};
 ghost use Rattle.lfs_device.specs.Shown.{disk_of_geometry_and_blocks as shown};
 ghost use Rattle.lfs_model.specs.View.{IsSkipListIfCtzStruct};
 ghost use Rattle.lfs_tool_folders.specs.Actions.{AddsAction};
-ghost use Rattle.lfs_tool.specs.Listings.{RefusesToList};
-ghost use Rattle.lfs_tool.specs.Unpackings.{HaveWellFormedSkipLists, FailsToUnpackDisk, FailsToUnpackImage, HasDoneBeginningOfUnpackingActions, HasDoneTheseFurtherUnpackingActions, HasBegunUnpackingImage, HasUnpackedDisk, HasUnpackedImage, ReportsUnpackTargetFaults, unpacking_action_for_tree_entry, unpacking_actions_for_tree_entries};
+ghost use Rattle.lfs_tool.specs.AmountsTold.{amount_of_tree_item, amounts_of_tree_items, amounts_of_unpacking_actions, sum_with_amounts, told_of_all_done};
+ghost use Rattle.lfs_tool.specs.ProgressLines.{no_amount};
+ghost use Rattle.lfs_tool.specs.Unpackings.{AreActionsUnpackingDisk, AreActionsUnpackingImage, HaveWellFormedSkipLists, FailsToUnpackDisk, FailsToUnpackImage, HasDoneBeginningOfUnpackingActions, HasDoneTheseFurtherUnpackingActions, FailsToUnpackKnownImage, HasUnpackedDisk, HasUnpackedImage, ReportsUnpackTargetFaults, unpacking_action_for_tree_entry, unpacking_actions_for_tree_entries};
 ghost use Rattle.lfs_thread.specs.Steps.{IsThreadOnlyRead};
 ghost use Rattle.lfs_lookup.specs.FileBytes.{file_bytes_of_struct};
 ghost use Rattle.lfs_lookup.specs.Items.{owned_struct_view};
@@ -83,7 +84,9 @@ fn put_tree_item<T: Target>(
 }
 
 // Returns what an item is of the whole.
-fn file_and_byte_counts_of_item(item: &TreeItem) -> FilesAndBytes {
+fn file_and_byte_counts_of_item(item: &TreeItem) -> FilesAndBytes
+    ensures { result ≡ amount_of_tree_item item.now }
+{
     match &item.structure {
         OwnedStruct::Inline(bytes) => FilesAndBytes {
             files: 1,
@@ -98,7 +101,9 @@ fn file_and_byte_counts_of_item(item: &TreeItem) -> FilesAndBytes {
 }
 
 // Returns the whole of all items.
-fn file_and_byte_counts_of_items(items: &[TreeItem]) -> FilesAndBytes {
+fn file_and_byte_counts_of_items(items: &[TreeItem]) -> FilesAndBytes
+    ensures { result ≡ sum_with_amounts no_amount (amounts_of_tree_items items.now) }
+{
     let mut whole = FilesAndBytes::none();
     for item in items {
         whole = whole.plus(file_and_byte_counts_of_item(item));
@@ -119,6 +124,7 @@ fn put_tree_items<T: Target, F: FollowsProgress>(
     ensures done { OnOk result (HasDoneTheseFurtherUnpackingActions (T.done target.old) (T.done target.new) (unpacking_actions_for_tree_entries thread.old.kept.disk (tree_items_view items.now))) }
     ensures begun { OnErr result (HasDoneBeginningOfUnpackingActions (T.done target.old) (T.done target.new) (unpacking_actions_for_tree_entries thread.old.kept.disk (tree_items_view items.now))) }
     ensures reports { ReportsUnpackTargetFaults (T.faults target.old) (T.faults target.new) result }
+    ensures told { OnOk result (F.told progress.new ≡ told_of_all_done (amounts_of_tree_items items.now) (F.told progress.old)) }
 {
     progress.begin(file_and_byte_counts_of_items(items));
     for item in items {
@@ -136,6 +142,7 @@ fn unpack_ram_device<T: Target, F: FollowsProgress>(
     progress: &mut F,
 ) -> Result<(), ToolError>
     ensures done { OnOk result (HasUnpackedDisk (shown (geometry_of_ram_device device) (ram_blocks device)) (T.done target.old) (T.done target.new)) }
+    ensures told { OnOk result ((actions : _) × (AreActionsUnpackingDisk (shown (geometry_of_ram_device device) (ram_blocks device)) actions × (F.told progress.new ≡ told_of_all_done (amounts_of_unpacking_actions actions) (F.told progress.old)))) }
     ensures failed { IfErr result (FailsToUnpackDisk (shown (geometry_of_ram_device device) (ram_blocks device)) (T.done target.old) (T.done target.new)) }
     ensures output { IsThisErrorExactlyIfOneCallFailed ToolError.Output (T.faults target.old) (T.faults target.new) result }
 {
@@ -156,6 +163,7 @@ fn unpack_image<T: Target, F: FollowsProgress>(
 ) -> Result<(), ToolError>
     requires { length image.items < 2 ^ 32 }
     ensures done { OnOk result (HasUnpackedImage block_size page image.items (T.done target.old) (T.done target.new)) }
+    ensures told { OnOk result ((actions : _) × (AreActionsUnpackingImage block_size page image.items actions × (F.told progress.new ≡ told_of_all_done (amounts_of_unpacking_actions actions) (F.told progress.old)))) }
     ensures failed { IfErr result (FailsToUnpackImage block_size page image.items (T.done target.old) (T.done target.new)) }
     ensures output { IsThisErrorExactlyIfOneCallFailed ToolError.Output (T.faults target.old) (T.faults target.new) result }
 {
@@ -192,12 +200,13 @@ pub fn unpack<R: ImageInput, T: Target, F: FollowsProgress>(
 ) -> Result<(), ToolError>
     ensures done { OnOk result (IfSome (R.remaining image.old) (λ bytes. HasUnpackedImage block_size page bytes (T.done target.old) (T.done target.new))) }
 
+    // The follower is told of the whole, and of each entry.
+    ensures told { OnOk result (IfSome (R.remaining image.old) (λ bytes. (actions : _) × (AreActionsUnpackingImage block_size page bytes actions × (F.told progress.new ≡ told_of_all_done (amounts_of_unpacking_actions actions) (F.told progress.old))))) }
+
     // Nothing is done, or a beginning of the actions, where the target failed or memory ran out.
-    ensures undone { IfErr result (λ e. e ≢ ToolError.Output → e ≢ ToolError.Fs Error.NoMemory → T.done target.new ≡ T.done target.old) }
-    ensures begun { OnErr result ((T.done target.new ≡ T.done target.old) ⊎ IfSome (R.remaining image.old) (λ bytes. HasBegunUnpackingImage block_size page bytes (T.done target.old) (T.done target.new))) }
+    ensures failed { IfErr result (FailsToUnpackKnownImage block_size page (R.remaining image.old) (T.done target.old) (T.done target.new)) }
 
     // When each error comes.
-    ensures refused { (e : _) → IsErrOf result (ToolError.Fs e) → IfSome (R.remaining image.old) (λ bytes. RefusesToList block_size page bytes e) }
     ensures input { IsThisErrorExactlyIfOneCallFailed ToolError.Input (R.faults image.old) (R.faults image.new) result }
     ensures read { ¬ IsErrOf result ToolError.Input → ¬ IsErrOf result (ToolError.Fs Error.NoMemory) → IsReadToEndOrPastImageLimit (R.remaining image.old) (R.remaining image.new) }
     ensures output { IsThisErrorExactlyIfOneCallFailed ToolError.Output (T.faults target.old) (T.faults target.new) result }

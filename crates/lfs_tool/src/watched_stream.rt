@@ -11,8 +11,8 @@ use std::io::{ErrorKind, Read, Write};
 ///
 /// std's traits have no word for a call that failed, nor for a flush. So four facts are read in
 /// the code here, and not proved: that std's call is made, that a failure is counted only where the
-/// call failed, that a flush is one, and that std's flush is called only where one is counted. Callers know a `WatchedStream` by `ImageInput` and `ToolOutput`, and
-/// can't count anything without a call.
+/// call failed, that a flush is one, and that std's flush is called only where one is counted. Callers
+/// know a `WatchedStream` by `ImageInput` and `ToolOutput`, and can't count anything without a call.
 #[derive(Drop)]
 pub struct WatchedStream<T> {
     inner: T,
@@ -24,12 +24,13 @@ pub struct WatchedStream<T> {
 }
 
 impl<T> WatchedStream<T> {
-    ghost use Rattle.lfs_tool.specs.WatchedStreams.{watched_fault_count, watched_inner_stream};
+    ghost use Rattle.lfs_tool.specs.WatchedStreams.{flush_count, watched_fault_count, watched_inner_stream};
 
     /// Makes a reader or a writer of which no call was made yet.
     pub fn new(inner: T) -> WatchedStream<T>
         ensures inner { watched_inner_stream result ≡ inner }
         ensures faults { watched_fault_count result ≡ 0 }
+        ensures flushes { flush_count result ≡ 0 }
     {
         WatchedStream {
             inner,

@@ -1,7 +1,7 @@
 ghost use Rattle.std.specs.Prelude.{◌≡◌, IfOk};
 
 use std::alloc::{AllocError, Global};
-use std::cell::RefCell;
+use std::cell::{Cell, RefCell};
 use std::io;
 use std::io::Write;
 
@@ -14,10 +14,13 @@ pub struct PathFault {
     pub words: Vec<u8>,
 }
 
-/// Keeps the first fault that is noted. No contract says which that is.
+/// Keeps the first fault that is noted, or that memory ran out where one was to be noted. No contract says
+/// which that is.
 #[derive(Drop)]
 pub struct FaultLog {
     first: RefCell<Option<PathFault>>,
+    // Whether memory ran out.
+    is_lost: Cell<bool>,
 }
 
 fn path_fault_of_error(
@@ -40,6 +43,7 @@ impl FaultLog {
     pub fn new() -> FaultLog {
         FaultLog {
             first: RefCell::new(None),
+            is_lost: Cell::new(false),
         }
     }
 
@@ -51,21 +55,31 @@ impl FaultLog {
         }
     }
 
-    /// Notes a fault at a path, unless one is noted already, or memory runs out.
+    /// Notes a fault at a path, unless one is noted already. Where memory runs out it notes that instead.
     pub fn note(&self, alloc: Global, path: &[u8], error: &io::Error) {
         if self.has_fault() {
             return;
         }
-        if let Ok(fault) = path_fault_of_error(alloc, path, error) {
-            let _ = self.first.try_replace(Some(fault));
+        match path_fault_of_error(alloc, path, error) {
+            Ok(fault) => {
+                let _ = self.first.try_replace(Some(fault));
+            }
+            Err(AllocError) => self.is_lost.set(true),
         }
     }
 
     /// Returns the fault that is noted, and forgets it.
-    pub fn take(&self) -> Option<PathFault> {
-        match self.first.try_replace(None) {
-            Ok(fault) => fault,
-            Err(_) => None,
+    ///
+    /// # Errors
+    /// Where memory ran out as a fault was to be noted. That is forgotten too.
+    pub fn take(&self) -> Result<Option<PathFault>, AllocError> {
+        let first = self.first.try_replace(None);
+        if self.is_lost.replace(false) {
+            return Err(AllocError);
+        }
+        match first {
+            Ok(fault) => Ok(fault),
+            Err(_) => Ok(None),
         }
     }
 }

@@ -1,5 +1,5 @@
 //! Sources and targets of a tree of files: memory, or a folder of the real file system. And the file
-//! of an image that is made: it is whole at its path, or not there at all.
+//! of an image that is made: until it is put at its path, what was there stays.
 #![tactic(auto)]
 
 mod entries;

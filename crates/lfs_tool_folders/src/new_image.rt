@@ -15,9 +15,9 @@ use std::{fs, io};
 /// one stays. From then on it stays the same file.
 ///
 /// Where a file stands at the path, or nothing does, the new one is in the same folder under another name
-/// until it is flushed, and then at the path. Where it is dropped before, it is removed, and the old one
-/// stays. It gets the old one's permissions. Anything else at the path, as a device, a pipe or a link, is
-/// written as it is.
+/// until `place` puts it at the path. Where it is dropped before, it is removed, and the old one stays. It
+/// gets the old one's permissions. Anything else at the path, as a device, a pipe or a link, is written as
+/// it is.
 pub struct NewImage<'a, R: Files> {
     files: &'a R,
     paths: ImagePaths,
@@ -53,6 +53,15 @@ impl<'a, R: Files> NewImage<'a, R> {
             file: None,
             is_beside: false,
         })
+    }
+
+    /// Puts the image at its path. Flush it before, and place it only where each write has succeeded. Where
+    /// nothing was written an old file stays.
+    ///
+    /// # Errors
+    /// Those of the system. The old file stays then, unless the system can't rename and a copy ends early.
+    pub fn place(mut self) -> io::Result<()> {
+        self.move_image_to_final_path()
     }
 
     // Makes the file.
@@ -99,15 +108,14 @@ impl<'a, R: Files> Write for NewImage<'a, R> {
         }
     }
 
-    // It is at its path then.
     fn flush(&mut self) -> io::Result<()>
         ensures bytes { Keeps (option_and_then R.File.contents self.old.file) (option_and_then R.File.contents self.new.file) }
         ensures path { self.new.paths.path ≡ self.old.paths.path }
-        ensures placed { OnOk result (self.new.is_beside ≡ false) }
+        ensures beside { self.new.is_beside ≡ self.old.is_beside }
     {
-        if let Some(file) = &mut self.file {
-            file.flush()?;
+        match &mut self.file {
+            Some(file) => file.flush(),
+            None => Ok(()),
         }
-        self.move_image_to_final_path()
     }
 }

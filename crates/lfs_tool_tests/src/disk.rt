@@ -308,6 +308,14 @@ impl<'a> DiskFiles<'a> {
     }
 }
 
+impl Alloc for DiskFiles<'_> {
+    type A = Global;
+
+    fn alloc(&self) -> Global {
+        self.alloc
+    }
+}
+
 impl<'a> Files for DiskFiles<'a> {
     type File = OpenedDiskFile<'a>;
 
@@ -321,8 +329,9 @@ impl<'a> Files for DiskFiles<'a> {
         }
     }
 
+    // Each folder is empty.
     fn open_dir(&self, _path: &str) -> io::Result<&'a [u8]> {
-        io_error_of_kind(ErrorKind::Unsupported)
+        Ok(b"")
     }
 
     fn metadata(&self, path: &str) -> io::Result<Metadata> {

@@ -671,7 +671,7 @@ pub(crate) fn program_words(alloc: Global, words: &[&str]) -> Result<Vec<String>
 }
 
 // Whether the program answers so to its words, or to what there is in their place.
-fn is_program_answer_as_expected<R: Files + AllocGlobal + Clone + Drop>(
+pub(crate) fn is_program_answer_as_expected<R: Files + AllocGlobal + Clone + Drop>(
     rt: &R,
     words: io::Result<Vec<String>>,
     status: u8,
@@ -681,14 +681,14 @@ fn is_program_answer_as_expected<R: Files + AllocGlobal + Clone + Drop>(
     let mut written = WatchedStream::new(Vec::new(rt.alloc()));
     let mut told = WatchedStream::new(Vec::new(rt.alloc()));
     let log = FaultLog::new();
-    let places = RealPlaces::new(
+    let mut places = RealPlaces::new(
         rt,
         &log,
         io::empty(),
         io::sink(),
         None::<(io::Stderr, HostRuntime)>,
     );
-    let given = run_and_return_exit_status(rt.alloc(), &places, words, &mut written, &mut told);
+    let given = run_and_return_exit_status(rt.alloc(), &mut places, words, &mut written, &mut told);
     given == status
         && written.inner().as_slice() == out.as_bytes()
         && told.inner().as_slice() == err.as_bytes()

@@ -77,7 +77,7 @@ fn is_run_whole_or_without_memory<R: Files + AllocGlobal + Clone + Drop>(
     let log = FaultLog::new();
     match run_and_return_exit_status(
         rt.alloc(),
-        &RealPlaces::new(
+        &mut RealPlaces::new(
             rt,
             &log,
             io::empty(),

@@ -226,11 +226,11 @@ fn is_run_successful<'a>(
 ) -> Result<bool, AllocError> {
     let mut written = WatchedStream::new(Vec::new(rt.alloc()));
     let mut told = WatchedStream::new(Vec::new(rt.alloc()));
-    let places = RealPlaces::new(rt, log, io::empty(), io::sink(), Some((out, clock)));
+    let mut places = RealPlaces::new(rt, log, io::empty(), io::sink(), Some((out, clock)));
     let words = program_words(rt.alloc(), words)?;
     let status = run_and_return_exit_status(
         rt.alloc(),
-        &places,
+        &mut places,
         Ok(words),
         &mut written,
         &mut told,

@@ -109,11 +109,11 @@ fn ends_so<R: Files + AllocGlobal + Clone + Drop>(
 ) -> Result<bool, AllocError> {
     let log = FaultLog::new();
     let terminal = None::<(io::Stderr, HostRuntime)>;
-    let places = RealPlaces::new(rt, &log, input, output, terminal);
+    let mut places = RealPlaces::new(rt, &log, input, output, terminal);
     let words = program_words(rt.alloc(), ending.words)?;
     let mut out = WatchedStream::new(Vec::new(rt.alloc()));
     let mut err = WatchedStream::new(Vec::new(rt.alloc()));
-    let status = run_and_return_exit_status(rt.alloc(), &places, Ok(words), &mut out, &mut err);
+    let status = run_and_return_exit_status(rt.alloc(), &mut places, Ok(words), &mut out, &mut err);
     Ok(
         status == ending.status
             && out.inner().as_slice() == ending.out.as_bytes()

@@ -1,9 +1,7 @@
 // Images that are written whole or not at all.
 
 use crate::disk::{DiskFiles, DiskHabit, MemoryFileSystem, PathKind};
-use crate::sources::memory_source_of_items;
-use lfs_device::{Error, Geometry};
-use lfs_tool::{ToolError, WatchedStream, create};
+use crate::files::{is_program_answer_as_expected, program_words};
 use lfs_tool_folders::NewImage;
 use std::alloc::Global;
 use std::fs::Files;
@@ -119,10 +117,16 @@ fn disk_with_old_image(
 }
 
 // Writes the image, and flushes it.
-fn make_new_image(files: &DiskFiles<'_>) -> io::Result<()> {
-    let mut image = NewImage::new(files.alloc, files, PATH)?;
+fn write_new_image<R: Files>(alloc: Global, files: &R) -> io::Result<NewImage<'_, R>> {
+    let mut image = NewImage::new(alloc, files, PATH)?;
     image.write_all(IMAGE)?;
-    image.flush()
+    image.flush()?;
+    Ok(image)
+}
+
+// Writes the image, and puts it in its place.
+fn make_new_image<R: Files>(alloc: Global, files: &R) -> io::Result<()> {
+    write_new_image(alloc, files)?.place()
 }
 
 #[test]
@@ -134,7 +138,7 @@ fn images_are_whole_or_not_there(rt: HostRuntime) -> Result<(), Fail> {
             disk: &disk,
         };
         assert_eq!(rt;
-            make_new_image(&files).is_ok(),
+            make_new_image(rt.alloc(), &files).is_ok(),
             is_made,
             "{kind:?} {room} {habit:?}"
         );
@@ -148,46 +152,61 @@ fn images_are_whole_or_not_there(rt: HostRuntime) -> Result<(), Fail> {
     Ok(())
 }
 
-// How many bytes are free for an image of 16 blocks of 1,024 bytes, of which two are used, and whether it is made.
-const FREE_BYTES: [(usize, bool); 6] = [
-    (0, false),
-    (2047, false),
-    (2048, false),
-    (2049, false),
-    (16383, false),
-    (16384, true),
+// An image that isn't put in its place leaves what was there.
+#[test]
+fn images_that_are_dropped_leave_the_old_one(rt: HostRuntime) -> Result<(), Fail> {
+    let disk = disk_with_old_image(rt.alloc(), Some(PathKind::File), 99, DiskHabit::Plain)?;
+    let files = DiskFiles {
+        alloc: rt.alloc(),
+        disk: &disk,
+    };
+    drop(write_new_image(rt.alloc(), &files)?);
+    let found = disk.bytes_of_named_node(rt.alloc(), PATH)?;
+    assert!(rt; found.as_ref().map(|bytes| bytes.as_slice()) == Some(OLD));
+    assert_eq!(rt; disk.count(), 1);
+    Ok(())
+}
+
+// The program makes the image of an empty folder: 16 blocks of 1,024 bytes, of which two are used.
+const WORDS: &[&str] = &[
+    "-c", "source", "-b", "1024", "-p", "128", "-s", "16384", "--explain", PATH,
 ];
 
-// Makes the image of an empty source at the path.
-fn create_new_image<R: Files>(alloc: Global, files: &R) -> Result<Result<(), ToolError>, Error> {
-    let mut source = memory_source_of_items(alloc, &[])?;
-    let geometry = Geometry::new(1024, 128, 16)?;
-    let mut out = WatchedStream::new(NewImage::new(alloc, files, PATH)?);
-    Ok(create(alloc, &mut source, geometry, &mut out, &mut ()))
-}
+// How many bytes are free, what the file system does, the status, and what is shown.
+const PROGRAM_RUNS: [(usize, DiskHabit, u8, &str); 9] = [
+    (0, DiskHabit::Plain, 3, FULL),
+    (2047, DiskHabit::Plain, 3, FULL),
+    (2048, DiskHabit::Plain, 3, FULL),
+    (2049, DiskHabit::Plain, 3, FULL),
+    (16383, DiskHabit::Plain, 3, FULL),
+    (16384, DiskHabit::Plain, 0, ""),
+    (16384, DiskHabit::NoNewNames, 0, ""),
+    (16383, DiskHabit::NoNewPlaces, 3, FULL),
+    (32768, DiskHabit::NoNewPlaces, 0, ""),
+];
+
+const FULL: &str = "error: output\nout/image: no storage space\n";
 
 // An old image stays where there is no room for all of the new one, also where only its unused blocks lack it.
 #[test]
 fn images_without_room_for_their_end_leave_the_old_one(rt: HostRuntime) -> Result<(), Fail> {
-    for (room, is_made) in FREE_BYTES {
-        let disk = disk_with_old_image(rt.alloc(), Some(PathKind::File), room, DiskHabit::Plain)?;
+    for (room, habit, status, err) in PROGRAM_RUNS {
+        let disk = disk_with_old_image(rt.alloc(), Some(PathKind::File), room, habit)?;
         let files = DiskFiles {
             alloc: rt.alloc(),
             disk: &disk,
         };
-        let result = create_new_image(rt.alloc(), &files)?;
-        let wanted = if is_made {
-            Ok(())
-        } else {
-            Err(ToolError::Output)
-        };
-        assert!(rt; result == wanted, "{room}");
+        let words = program_words(rt.alloc(), WORDS)?;
+        assert!(rt;
+            is_program_answer_as_expected(&files, Ok(words), status, "", err),
+            "{room} {habit:?}"
+        );
         let found = disk.bytes_of_named_node(rt.alloc(), PATH)?;
         let is_old = found.as_ref().map(|bytes| bytes.as_slice()) == Some(OLD);
-        assert_eq!(rt; is_old, !is_made, "{room}");
+        assert_eq!(rt; is_old, status == 3, "{room} {habit:?}");
         let len = found.as_ref().map(|bytes| bytes.len());
-        assert_eq!(rt; len == Some(16384), is_made, "{room}");
-        assert_eq!(rt; disk.count(), 1, "{room}");
+        assert_eq!(rt; len == Some(16384), status == 0, "{room} {habit:?}");
+        assert_eq!(rt; disk.count(), 1, "{room} {habit:?}");
     }
     Ok(())
 }
@@ -201,7 +220,7 @@ fn other_names_are_left_alone(rt: HostRuntime) -> Result<(), Fail> {
         alloc: rt.alloc(),
         disk: &disk,
     };
-    make_new_image(&files)?;
+    make_new_image(rt.alloc(), &files)?;
     assert_eq!(rt; disk.count(), 2);
     assert_eq!(rt; disk.mode_of_named_node(PATH), 0o100644);
     Ok(())
@@ -217,6 +236,7 @@ fn nothing_written_makes_nothing(rt: HostRuntime) -> Result<(), Fail> {
     };
     let mut image = NewImage::new(rt.alloc(), &files, PATH)?;
     image.flush()?;
+    image.place()?;
     assert_eq!(rt; disk.count(), 0);
     Ok(())
 }

@@ -26,7 +26,7 @@ fn main(rt: HostRuntime) -> ExitCode {
     let mut out = WatchedStream::new(rt.stdout());
     let mut err = WatchedStream::new(rt.stderr());
     let log = FaultLog::new();
-    let places = RealPlaces::new(
+    let mut places = RealPlaces::new(
         &rt,
         &log,
         rt.stdin(),
@@ -35,7 +35,7 @@ fn main(rt: HostRuntime) -> ExitCode {
     );
     ExitCode::from(run_and_return_exit_status(
         rt.alloc(),
-        &places,
+        &mut places,
         read_command_line_words(&rt),
         &mut out,
         &mut err,

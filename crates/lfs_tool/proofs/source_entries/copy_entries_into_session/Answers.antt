@@ -1,8 +1,8 @@
-use Rattle.std.proofs.Common.{◌+◌, ◌∙◌, ap, drop, subst, sym, take}
+use Rattle.std.proofs.Common.{◌∙◌, ap, subst, sym, take}
 use Rattle.lfs_model.specs.History.{fault_count_of_history}
 use Rattle.lfs_fs.specs.SessionView.{system_state_of_session_view}
 use Rattle.lfs_tool_folders.specs.declared.entries.SourceEntry.{SourceEntry}
-use Rattle.lfs_tool.specs.AmountsTold.{amounts_of_entries, told_with_each_done, told_with_more_done}
+use Rattle.lfs_tool.specs.AmountsTold.{amount_of_entry}
 use Rattle.lfs_tool.specs.AppliedOperations.{AreOperationsApplied, IsRunOfOperationsEndedByError, copying_operations_of_entry}
 use Rattle.lfs_tool.proofs.AmountsTold.{told_next}
 use Rattle.lfs_tool.proofs.Refusing.{first_refused, no_file}
@@ -21,11 +21,9 @@ returns-in-Err-clause-refused g c =
     (ap fault_count_of_history (sym c.device-device.ensures.history) ∙ c.device-device.result.now.no_fault)
 
 pub loop-entry-preserved : goal.loop-entry-preserved
-loop-entry-preserved g c =
-    let told = g.F.FollowsProgress.told in (
-      entry_more c.args.entries.now c.loop-entry.entry-index c.entry-item.result (system_state_of_session_view c.args.session.now) (system_state_of_session_view c.loop-entry.session) (system_state_of_session_view c.copy_entry_into_session.new.session) c.loop-entry-test.true c.loop-entry.invariant.0
-          (subst (λ (e : SourceEntry). AreOperationsApplied (system_state_of_session_view c.loop-entry.session) (copying_operations_of_entry e) (system_state_of_session_view c.copy_entry_into_session.new.session)) c.entry-item.is c.in_default.ensures),
-      ap (told_with_each_done (amounts_of_entries (drop (c.loop-entry.entry-index + 1) c.args.entries.now))) (c.add.ensures.told ∙ ap (λ a. told_with_more_done a (told c.loop-entry.progress)) c.file_and_byte_counts_of_entry.ensures)
-          ∙ told_next c.args.entries.now c.loop-entry.entry-index c.entry-item.result (told c.loop-entry.progress) c.loop-entry-test.true c.entry-item.is
-          ∙ c.loop-entry.invariant.1,
-    )
+loop-entry-preserved g c = (
+  entry_more c.args.entries.now c.loop-entry.entry-index c.entry-item.result (system_state_of_session_view c.args.session.now) (system_state_of_session_view c.loop-entry.session) (system_state_of_session_view c.copy_entry_into_session.new.session) c.loop-entry-test.true c.loop-entry.invariant.0
+      (subst (λ (e : SourceEntry). AreOperationsApplied (system_state_of_session_view c.loop-entry.session) (copying_operations_of_entry e) (system_state_of_session_view c.copy_entry_into_session.new.session)) c.entry-item.is c.in_default.ensures),
+  told_next amount_of_entry c.args.entries.now c.loop-entry.entry-index c.entry-item.result _ (g.F.FollowsProgress.told c.loop-entry.progress) _ c.loop-entry-test.true c.entry-item.is c.file_and_byte_counts_of_entry.ensures c.add.ensures.told
+      ∙ c.loop-entry.invariant.1,
+)

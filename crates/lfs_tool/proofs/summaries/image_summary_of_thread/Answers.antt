@@ -8,7 +8,7 @@ use Rattle.lfs_model.specs.Thread.{Pair, gstate_of_pairs}
 use Rattle.lfs_tool.specs.ImageSummaries.{is_file_item, has_half_done_operation}
 use Rattle.lfs_tool.proofs.Counts.{as_many, files_alike}
 use Rattle.lfs_tool.proofs.Judged.{read_on}
-use Rattle.std.proofs.Common.{◌≡◌, List, IsTrue, count_by}
+use Rattle.std.proofs.Common.{List, IsTrue, count_by}
 use Rattle.std.specs.Prelude.{◌↔◌}
 use Rattle.lfs_tool.proofs.summaries.image_summary_of_thread.Goals as goal
 

@@ -1,4 +1,4 @@
-use Rattle.std.proofs.Common.{inl, inr}
+use Rattle.std.proofs.Common.{inl, inr, refl}
 use Rattle.lfs_tool.proofs.tool_runs.run_and_return_exit_status.Goals as goal
 
 pub returns-in-Ok-read_line-clause-answered : goal.returns-in-Ok-read_line-clause-answered
@@ -10,4 +10,4 @@ pub returns-clause-answered : goal.returns-clause-answered
 returns-clause-answered g c =
     let wrong = rw c.as_slice.ensures.value at c.in-Err-read_line.ensures.err in
     let shown = c.report-in-Err-read_line.ensures in
-    rw c.in-Ok.is (inr (c.in-Err-read_line.error, (wrong, record { status = shown.status; line = shown.line; text = shown.text; help = shown.err })))
+    rw c.in-Ok.is (inr (c.in-Err-read_line.error, (wrong, record { status = shown.status; line = shown.line; text = shown.text; help = shown.err }, refl)))

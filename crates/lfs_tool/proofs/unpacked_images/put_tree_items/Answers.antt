@@ -1,5 +1,7 @@
 use Rattle.std.proofs.Common.{◌∙◌}
+use Rattle.lfs_tool.specs.AmountsTold.{amount_of_tree_item}
 use Rattle.lfs_tool.proofs.ActionsDone.{at_error, begun_item, done_item, list_at, only_trans}
+use Rattle.lfs_tool.proofs.AmountsTold.{told_next}
 use Rattle.lfs_tool.proofs.unpacked_images.put_tree_items.Goals as goal
 
 pub put_tree_item-requires-clause-list : goal.put_tree_item-requires-clause-list
@@ -20,4 +22,5 @@ loop-item-preserved g c =
       done_item c.args.thread.now.kept.disk c.loop-item.thread.kept.disk c.args.items.now c.loop-item.item-index c.item-item.result _ (g.T.Target.done c.loop-item.target) _
           before.1.disk c.loop-item-test.true c.item-item.is before.2 e.done,
       e.reports ∙ before.3,
+      told_next amount_of_tree_item c.args.items.now c.loop-item.item-index c.item-item.result _ (g.F.FollowsProgress.told c.loop-item.progress) _ c.loop-item-test.true c.item-item.is c.file_and_byte_counts_of_item.ensures c.add.ensures.told ∙ before.4,
     )

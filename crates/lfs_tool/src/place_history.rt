@@ -1,0 +1,77 @@
+ghost use Rattle.std.specs.Prelude.{◌≡◌, List, [], ◌∷◌};
+ghost use Rattle.std.specs.Borrow.{ftrue};
+ghost use Rattle.lfs_tool.specs.PlaceEvents.{FolderClosed, FolderOpened, ImageDiscarded, ImageNotPlaced, ImageOpened, ImagePlaced, PlaceEvent};
+
+use crate::ToolOutput;
+use lfs_tool_folders::Target;
+use std::marker::Model;
+
+/// What was opened to be written at paths, and how it came back, for those who write `Places`. Only
+/// proofs read it: it takes no memory, and its methods do nothing at run time.
+#[derive(Drop)]
+pub struct PlaceHistory {
+    pub ghost events: { List PlaceEvent },
+}
+
+impl Model for PlaceHistory {
+    ghost also_owns = { λ _. ftrue };
+}
+
+impl PlaceHistory {
+    /// Makes the history of places where nothing was opened yet.
+    pub fn empty() -> PlaceHistory
+        ensures { result.events ≡ [] }
+    {
+        PlaceHistory::with_events_chosen_by_proof(&(), &())
+    }
+
+    /// Adds that an image was opened at a path.
+    pub fn with_opened_image(&self, path: &str) -> PlaceHistory
+        ensures { result.events ≡ ImageOpened path.now ∷ self.now.events }
+    {
+        PlaceHistory::with_events_chosen_by_proof(self, &path)
+    }
+
+    /// Adds that an image was put in its place.
+    pub fn with_placed_image<W: ToolOutput>(&self, image: &W) -> PlaceHistory
+        ensures { result.events ≡ ImagePlaced (W.contents image.now) ∷ self.now.events }
+    {
+        PlaceHistory::with_events_chosen_by_proof(self, image)
+    }
+
+    /// Adds that an image couldn't be put in its place.
+    pub fn with_unplaced_image(&self) -> PlaceHistory
+        ensures { result.events ≡ ImageNotPlaced ∷ self.now.events }
+    {
+        PlaceHistory::with_events_chosen_by_proof(self, &())
+    }
+
+    /// Adds that an image was discarded.
+    pub fn with_discarded_image<W: ToolOutput>(&self, image: &W) -> PlaceHistory
+        ensures { result.events ≡ ImageDiscarded (W.contents image.now) ∷ self.now.events }
+    {
+        PlaceHistory::with_events_chosen_by_proof(self, image)
+    }
+
+    /// Adds that a folder was opened at a path.
+    pub fn with_opened_folder(&self, path: &str) -> PlaceHistory
+        ensures { result.events ≡ FolderOpened path.now ∷ self.now.events }
+    {
+        PlaceHistory::with_events_chosen_by_proof(self, &path)
+    }
+
+    /// Adds that a folder was closed.
+    pub fn with_closed_folder<T: Target>(&self, folder: &T) -> PlaceHistory
+        ensures { result.events ≡ FolderClosed (T.done folder.now) ∷ self.now.events }
+    {
+        PlaceHistory::with_events_chosen_by_proof(self, folder)
+    }
+
+    // Makes any history. The caller's proof picks the events from what the two references point to.
+    fn with_events_chosen_by_proof<S, T>(_before: &S, _call: &T) -> PlaceHistory
+        ghost events: { List PlaceEvent }
+        ensures { result.events ≡ events }
+    {
+        PlaceHistory {}
+    }
+}

@@ -23,6 +23,12 @@ pub record IsFailureReportedWithStatus {W : Type 0} (g : Ghosts W) (f : Fault) (
   pub text : standard_error_line_of_failure f ≡ None → is_failure_a_help_request f ≡ false → HasWrittenOneValueUnlessFailed g old new
   pub help : is_failure_a_help_request f ≡ true → new ≡ old
 
+-- a fault of the words leaves the places as they were, and the output too, unless help is shown there
+pub record LeavesPlacesAndShowsHelp {P W : Type 0} (g : Ghosts W) (f : Fault) (old new : P) (out_old out_new : W) : Type 0 where
+  pub places : new ≡ old
+  pub out : is_failure_a_help_request f ≡ false → out_new ≡ out_old
+  pub help : is_failure_a_help_request f ≡ true → HasWrittenOneValueUnlessFailed g out_old out_new
+
 -- the status of a run that met no fault: 1 where an image was checked that isn't accepted
 abbrev pub exit_status_by_image_acceptance : Bool → ℕ
 exit_status_by_image_acceptance true = 0
@@ -35,8 +41,8 @@ IsCommandLineDoneOrErrorReported g ends follows code old new =
     (((accepted : Bool) × ((code ≡ exit_status_by_image_acceptance accepted) × ends accepted)) × (new ≡ old))
     ⊎ ((e : ToolError) × (shown : _) × (IsFailureReportedWithStatus g (fault.Tool e) code old shown × follows e shown new))
 
--- the words are a command line, and that is answered; or they are none, why is shown, and `untouched` holds
-abbrev pub IsRequestDoneOrFailureReported : {W : Type 0} → Ghosts W → List (List ℕ) → (Line → Bool → Type 0) → (Line → ToolError → W → W → Type 0) → Type 0 → ℕ → W → W → Type 0
-IsRequestDoneOrFailureReported g words ends follows untouched code old new =
+-- the words are a command line, and that is answered; or they are none, why is shown, and `left` holds of the reason
+abbrev pub IsRequestDoneOrFailureReported : {W : Type 0} → Ghosts W → List (List ℕ) → (Line → Bool → Type 0) → (Line → ToolError → W → W → Type 0) → (LineError → Type 0) → ℕ → W → W → Type 0
+IsRequestDoneOrFailureReported g words ends follows left code old new =
     ((line : Line) × (ParserAcceptsWords words × IsCommandLineOfParsedArguments (rows words) line × IsCommandLineDoneOrErrorReported g (ends line) (follows line) code old new))
-    ⊎ ((e : LineError) × (IsLineErrorOfWords words e × IsFailureReportedWithStatus g (fault.Line e) code old new × untouched))
+    ⊎ ((e : LineError) × (IsLineErrorOfWords words e × IsFailureReportedWithStatus g (fault.Line e) code old new × left e))

@@ -1,18 +1,19 @@
 -- What a command line requests of the files and folders at its paths.
-use Rattle.std.specs.Prelude.{ℕ, suc, ◌≡◌, ◌≢◌, ◌⊎◌, Bool, true, false, List, ◌∷◌, Option, IfSome}
+use Rattle.std.specs.Prelude.{ℕ, suc, ◌≡◌, ◌≢◌, ◌⊎◌, Bool, true, false, List, ◌∷◌, Option, IfSome, Err}
 use Rattle.std.specs.Io.KnownBytes.{Appends}
 use Rattle.lfs_device.specs.declared.error.Error.{Error}
+use Rattle.lfs_device.specs.declared.error.Error.TheVariants as fs
 use Rattle.lfs_model.specs.Source.{TreeSource}
 use Rattle.lfs_tool.specs.Listings.{IsListingTextOfImage, RefusesToList}
 use Rattle.lfs_tool.specs.MadeImages.{RefusesCopyOfSource, HasWrittenBeginningOfImage, HasWrittenImageOfSource}
-use Rattle.lfs_tool.specs.PlaceEvents.{FolderClosed, FolderOpened, ImageDiscarded, ImageNotPlaced, ImageOpened, ImagePlaced}
-use Rattle.lfs_tool.specs.Reports.{FailsUnflushed, IsFlushedOnce}
+use Rattle.lfs_tool.specs.PlaceEvents.{FolderClosed, FolderOpened, ImageDiscarded, ImageNotPlaced, ImageOpened, ImagePlaced, PlaceEvent}
+use Rattle.lfs_tool.specs.Reports.{IsFlushedOnce, ReportsWriterFaults}
 use Rattle.lfs_tool.specs.Unpackings.{FailsToUnpackKnownImage, HasUnpackedImage}
 use Rattle.lfs_tool.specs.CheckResults.{IsCheckResultOfBytes, is_accepted_check_result}
 use Rattle.lfs_tool.specs.CheckedLines.{check_result_text}
 use Rattle.lfs_tool.specs.declared.check_result.CheckResult.{CheckResult}
 use Rattle.lfs_tool.specs.declared.errors.ToolError.{ToolError}
-use Rattle.lfs_tool.specs.declared.errors.ToolError.TheVariants.{Output}
+use Rattle.lfs_tool.specs.declared.errors.ToolError.TheVariants.{Fs, Input, Output}
 use Rattle.lfs_tool.specs.declared.places.Places.{Ghosts}
 use Rattle.lfs_tool.specs.declared.reader.ImageInput.{Ghosts as ImageInputGhosts}
 use Rattle.lfs_tool.specs.declared.writer.ToolOutput.{Ghosts as ToolOutputGhosts}
@@ -60,13 +61,17 @@ ChecksImageAtPath path_of bytes line accepted old new =
     IsTrueOfSomethingAtPath path_of line.image.now (λ i. IfSome (bytes i) (λ image.
     (checked : CheckResult) × (IsCheckResultOfBytes line.block_size line.page image checked × (accepted ≡ is_accepted_check_result checked) × Appends old new (check_result_text checked))))
 
--- The image at the line's path is made of the folder. It alone is opened to be written, and it is put in its place whole, flushed
--- once. What it is known to hold grew by an image of what the folder shows. No file of that is left unread that the image might hold.
-abbrev pub MakesImageAtPath : {P I N F T R : Type 0} → Ghosts P I N F T R → ToolOutputGhosts N → SourceGhosts F → Line → P → P → List ℕ → Type 0
-MakesImageAtPath places output source line old new folder =
+-- The image at the line's path alone is opened to be written, and all of an image of what the folder shows is written to it and
+-- flushed once. Then it ends in this event. No file of the folder is left unread that the image might hold.
+abbrev pub WritesWholeImage : {P I N F T R : Type 0} → Ghosts P I N F T R → ToolOutputGhosts N → SourceGhosts F → Line → (Option (List ℕ) → PlaceEvent) → P → P → List ℕ → Type 0
+WritesWholeImage places output source line event old new folder =
     IsTrueOfSomethingAtPath places.folder_path folder (λ f. (places.folder_limit f ≡ line.size) × IsTrueOfSomethingAtPath places.new_image_path line.image.now (λ i. (after : _)
-    × ((places.history new ≡ ImagePlaced (output.contents after) ∷ ImageOpened line.image.now ∷ places.history old)
+    × ((places.history new ≡ event (output.contents after) ∷ ImageOpened line.image.now ∷ places.history old)
     × (((g : _) × (HasSizesOfCommandLine line g × HasWrittenImageOfSource g (source.shown f) (output.contents i) (output.contents after))) × IsFlushedOnce output i after))))
+
+-- the image at the line's path is made of the folder, and put in its place
+abbrev pub MakesImageAtPath : {P I N F T R : Type 0} → Ghosts P I N F T R → ToolOutputGhosts N → SourceGhosts F → Line → P → P → List ℕ → Type 0
+MakesImageAtPath places output source line old new folder = WritesWholeImage places output source line ImagePlaced old new folder
 
 -- The image at the line's path is unpacked into the folder. That alone is opened to be written, and what was done there grew by
 -- what unpacks the image.
@@ -80,30 +85,30 @@ UnpacksImageAtPath places input target line old new folder =
 abbrev pub IsModeDone : {P I N F T R W : Type 0} → Ghosts P I N F T R → ImageInputGhosts I → ToolOutputGhosts N → SourceGhosts F → TargetGhosts T → ToolOutputGhosts W → Line → P → P → W → W → Bool → Type 0
 IsModeDone places input output source target writer line old new out_old out_new accepted =
     IsImageAcceptedUnlessModeIsCheck line.mode accepted × IsTrueForMode line.mode
-    (ListsImageAtPath places.image_path input.remaining line (writer.contents out_old) (writer.contents out_new) × (writer.pending out_new ≡ 0) × (new ≡ old))
-    (ChecksImageAtPath places.image_path input.remaining line accepted (writer.contents out_old) (writer.contents out_new) × (writer.pending out_new ≡ 0) × (new ≡ old))
+    (ListsImageAtPath places.image_path input.remaining line (writer.contents out_old) (writer.contents out_new) × IsFlushedOnce writer out_old out_new × (new ≡ old))
+    (ChecksImageAtPath places.image_path input.remaining line accepted (writer.contents out_old) (writer.contents out_new) × IsFlushedOnce writer out_old out_new × (new ≡ old))
     (MakesImageAtPath places output source line old new)
     (UnpacksImageAtPath places input target line old new)
 
 -- ---- what an error leaves
 
--- the image is discarded as it was opened
+-- the image is discarded as it was opened: no call of it has failed, and no flush succeeded
 abbrev pub DiscardsUnwrittenImage : {P I N F T R : Type 0} → Ghosts P I N F T R → ToolOutputGhosts N → Line → P → P → Type 0
 DiscardsUnwrittenImage places output line old new =
-    IsTrueOfSomethingAtPath places.new_image_path line.image.now (λ i. places.history new ≡ ImageDiscarded (output.contents i) ∷ ImageOpened line.image.now ∷ places.history old)
+    IsTrueOfSomethingAtPath places.new_image_path line.image.now (λ i. places.history new ≡ ImageDiscarded (output.contents i) 0 0 ∷ ImageOpened line.image.now ∷ places.history old)
 
--- the image fails, and no flush of it succeeds: it is discarded with a beginning of what it was to hold
+-- the image is discarded with a beginning of what it was to hold: one call of it has failed, and no flush succeeded
 abbrev pub DiscardsFailedImage : {P I N F T R : Type 0} → Ghosts P I N F T R → ToolOutputGhosts N → SourceGhosts F → Line → P → P → List ℕ → Type 0
 DiscardsFailedImage places output source line old new folder =
     IsTrueOfSomethingAtPath places.folder_path folder (λ f. (places.folder_limit f ≡ line.size) × IsTrueOfSomethingAtPath places.new_image_path line.image.now (λ i. (after : _)
-    × ((places.history new ≡ ImageDiscarded (output.contents after) ∷ ImageOpened line.image.now ∷ places.history old)
-    × (((g : _) × (HasSizesOfCommandLine line g × HasWrittenBeginningOfImage g (source.shown f) (output.contents i) (output.contents after))) × FailsUnflushed output i after))))
+    × ((places.history new ≡ ImageDiscarded (output.contents after) 1 0 ∷ ImageOpened line.image.now ∷ places.history old)
+    × ((g : _) × (HasSizesOfCommandLine line g × HasWrittenBeginningOfImage g (source.shown f) (output.contents i) (output.contents after))))))
 
--- Nothing is put in the place of the line's image. At `Output` the image failed, or it was whole and couldn't be put there. At any
--- other error none was opened, or it is discarded unwritten.
+-- Nothing is put in the place of the line's image. At `Output` the image failed, or it is whole and can't be put there. At any other
+-- error none was opened, or it is discarded unwritten.
 abbrev pub LeavesNoNewImage : {P I N F T R : Type 0} → Ghosts P I N F T R → ToolOutputGhosts N → SourceGhosts F → Line → P → P → List ℕ → ToolError → Type 0
 LeavesNoNewImage places output source line old new folder Output =
-    DiscardsFailedImage places output source line old new folder ⊎ (places.history new ≡ ImageNotPlaced ∷ ImageOpened line.image.now ∷ places.history old)
+    DiscardsFailedImage places output source line old new folder ⊎ WritesWholeImage places output source line ImageNotPlaced old new folder
 LeavesNoNewImage places output source line old new folder e = (places.history new ≡ places.history old) ⊎ DiscardsUnwrittenImage places output line old new
 
 -- No folder was opened to be written, or the line's folder was, and was closed after what was begun there. At `Output` it failed.
@@ -136,3 +141,20 @@ HasFaultAtPath path_of faults path = IsTrueOfSomethingAtPath path_of path (λ x.
 -- the folder fails, or one in it has bad names
 abbrev pub FailsToReadFolder : {F : Type 0} → (F → List ℕ) → (F → ℕ) → (F → Option TreeSource) → List ℕ → Type 0
 FailsToReadFolder folder_of faults shown folder = IsTrueOfSomethingAtPath folder_of folder (λ f. (after : _) × HasOneMoreFaultOrPropertyHolds (faults f) (faults after) (IfSome (shown f) HasFolderWithBadNames))
+
+-- What the line requests ends in this error: what it leaves at the paths, when it comes, and what is written. Only a listing and a
+-- check write.
+pub record EndsModeWithError {P I N F T R W : Type 0} (places : Ghosts P I N F T R) (input : ImageInputGhosts I) (output : ToolOutputGhosts N) (source : SourceGhosts F) (target : TargetGhosts T) (writer : ToolOutputGhosts W) (line : Line) (old new : P) (out_old out_new : W) (e : ToolError) : Type 0 where
+  pub left : LeavesModeUndone places input output source target line old new e
+  pub refused : (f : Error) → e ≡ Fs f → f ≢ fs.NoMemory → IsTrueForMode line.mode
+      (RefusesToListAtPath places.image_path input.remaining line f)
+      ⊥
+      (RefusesToMakeImage places.folder_path places.folder_limit source.shown line f)
+      (λ folder. RefusesToListAtPath places.image_path input.remaining line f)
+  pub unread : e ≡ Input → IsTrueForMode line.mode
+      (HasFaultAtPath places.image_path input.faults line.image.now)
+      (HasFaultAtPath places.image_path input.faults line.image.now)
+      (FailsToReadFolder places.folder_path source.faults source.shown)
+      (λ folder. HasFaultAtPath places.image_path input.faults line.image.now)
+  pub lines : is_mode_that_writes_lines line.mode ≡ true → ReportsWriterFaults {X = Bool} writer out_old out_new (Err e)
+  pub no_lines : is_mode_that_writes_lines line.mode ≡ false → out_new ≡ out_old

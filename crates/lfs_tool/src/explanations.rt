@@ -151,7 +151,7 @@ pub fn explanation_of_error<P: Places>(
     }
 }
 
-// Returns the lines that write_explanation_if_requested the error in which a command line ended.
+// Returns the lines that explain the error in which a command line ended.
 fn explanation_lines_of_error<P: Places>(
     alloc: Global,
     places: &P,

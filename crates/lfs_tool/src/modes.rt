@@ -95,7 +95,7 @@ fn unpack_image_at_path<P: Places>(
 /// are written to `out`. Returns false where an image was checked that isn't accepted, and else true.
 ///
 /// A listing and a check open nothing to be written. An image that is made is put in its place once it is
-/// whole. At any error it is discarded, and nothing is put in its place.
+/// whole. At any error nothing is put in its place.
 ///
 /// # Errors
 /// Those of `lfs_tool::list`, `lfs_tool::check`, `lfs_tool::unpack` or `create_for_command_line`, at the

@@ -40,15 +40,15 @@ impl PlaceHistory {
     }
 
     /// Adds that an image couldn't be put in its place.
-    pub fn with_unplaced_image(&self) -> PlaceHistory
-        ensures { result.events ≡ ImageNotPlaced ∷ self.now.events }
+    pub fn with_unplaced_image<W: ToolOutput>(&self, image: &W) -> PlaceHistory
+        ensures { result.events ≡ ImageNotPlaced (W.contents image.now) ∷ self.now.events }
     {
-        PlaceHistory::with_events_chosen_by_proof(self, &())
+        PlaceHistory::with_events_chosen_by_proof(self, image)
     }
 
     /// Adds that an image was discarded.
     pub fn with_discarded_image<W: ToolOutput>(&self, image: &W) -> PlaceHistory
-        ensures { result.events ≡ ImageDiscarded (W.contents image.now) ∷ self.now.events }
+        ensures { result.events ≡ ImageDiscarded (W.contents image.now) (W.faults image.now) (W.flushes image.now) ∷ self.now.events }
     {
         PlaceHistory::with_events_chosen_by_proof(self, image)
     }

@@ -8,7 +8,7 @@ use lfs_tool_folders::{PathFault, Source, Target};
 /// The files and folders of a command line's paths. Only their own calls touch what is there.
 ///
 /// Each call for a file or a folder returns `NoMemory` where memory isn't granted, and no other error.
-/// What is opened to be written comes back when the work ends: an image to `place_image` or to
+/// Give back what is opened to be written when the work ends: an image to `place_image` or to
 /// `discard_image`, a folder to `close_folder`. A contract sees by that what was done there in all.
 pub trait Places {
     /// An image that is read.
@@ -49,7 +49,7 @@ pub trait Places {
     /// Returns the image at a path, to be made. No call of it was made yet.
     fn new_image(&mut self, path: &str) -> Result<Self::NewImage, Error>
         ensures path { IfOk result (λ i. new_image_path i ≡ path.now) }
-        ensures fresh { IfOk result (λ i. (Self.NewImage.faults i ≡ 0) × (Self.NewImage.flushes i ≡ 0)) }
+        ensures fresh { IfOk result (λ i. (Self.NewImage.faults i ≡ 0) × (Self.NewImage.pending i ≡ 0) × (Self.NewImage.flushes i ≡ 0)) }
         ensures opened { OnOk result (history self.new ≡ ImageOpened path.now ∷ history self.old) }
         ensures err { IfErr result (λ e. (e ≡ Error.NoMemory) × (history self.new ≡ history self.old)) };
 
@@ -60,11 +60,11 @@ pub trait Places {
     fn place_image(&mut self, image: Self::NewImage) -> Result<(), ToolError>
         requires whole { (Self.NewImage.faults image ≡ 0) × (Self.NewImage.pending image ≡ 0) × (Self.NewImage.flushes image ≡ 1) }
         ensures placed { OnOk result (history self.new ≡ ImagePlaced (Self.NewImage.contents image) ∷ history self.old) }
-        ensures err { IfErr result (λ e. (e ≡ ToolError.Output) × (history self.new ≡ ImageNotPlaced ∷ history self.old)) };
+        ensures err { IfErr result (λ e. (e ≡ ToolError.Output) × (history self.new ≡ ImageNotPlaced (Self.NewImage.contents image) ∷ history self.old)) };
 
     /// Drops an image that isn't to be put in its place.
     fn discard_image(&mut self, image: Self::NewImage)
-        ensures { history self.new ≡ ImageDiscarded (Self.NewImage.contents image) ∷ history self.old };
+        ensures { history self.new ≡ ImageDiscarded (Self.NewImage.contents image) (Self.NewImage.faults image) (Self.NewImage.flushes image) ∷ history self.old };
 
     /// Returns the folder at a path, to be read for an image of so many bytes.
     fn folder(&self, path: &str, size: u32) -> Result<Self::Folder, Error>

@@ -22,8 +22,8 @@ const READ_AHEAD: usize = 65_536;
 
 /// The files and folders of the real file system, and for the image `-` standard input or output. Each of
 /// these two is used once: the image of a second call fails. What files, folders and streams meet is
-/// noted in a log. A file that is made stands at its path once `place_image` has put it there, and not
-/// before.
+/// noted in a log. The file of an image is beside its path until `place_image` puts it there, as `NewImage`
+/// says.
 #[derive(Drop)]
 pub struct RealPlaces<'a, R, I, O, E, C> {
     rt: &'a R,
@@ -167,11 +167,13 @@ where
         &mut self,
         image: WatchedStream<NotedStream<'a, FileOrStandard<NewImage<'a, R>, O>>>,
     ) -> Result<(), ToolError> {
+        // Either has the image as it is before it is moved.
         let placed = self.history.with_placed_image(&image);
+        let unplaced = self.history.with_unplaced_image(&image);
         let (image, path) = image.into_inner().into_parts();
         if let Err(error) = put_file_or_standard_in_place(image) {
             self.log.note(self.rt.alloc(), path.as_bytes(), &error);
-            self.history = self.history.with_unplaced_image();
+            self.history = unplaced;
             return Err(ToolError::Output);
         }
         self.history = placed;

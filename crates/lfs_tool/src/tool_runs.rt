@@ -2,9 +2,9 @@ ghost use Rattle.std.specs.Prelude.{◌≡◌, ◌≢◌, IfErr, IfOk, OnErr, ma
 ghost use Rattle.std.specs.IoError.{error_kind};
 ghost use Rattle.std.specs.String.{string_bytes};
 ghost use Rattle.lfs_tool_line.specs.Matches.{IsCommandLineOfParsedArguments, is_check_requested, is_list_requested, rows};
-ghost use Rattle.lfs_tool.specs.RunEnds.{AreWordsOfValidCommandLine, IsCommandLineDoneOrErrorReported, IsRequestDoneOrFailureReported, IsFailureReportedWithStatus};
+ghost use Rattle.lfs_tool.specs.RunEnds.{AreWordsOfValidCommandLine, LeavesPlacesAndShowsHelp, IsCommandLineDoneOrErrorReported, IsRequestDoneOrFailureReported, IsFailureReportedWithStatus};
 ghost use Rattle.lfs_tool.specs.Explained.{IsErrorFollowedByExplanationIfRequested};
-ghost use Rattle.lfs_tool.specs.RunsAtPaths.{IsModeDone, LeavesModeUndone, is_mode_that_writes_lines};
+ghost use Rattle.lfs_tool.specs.RunsAtPaths.{EndsModeWithError, IsModeDone, is_mode_that_writes_lines};
 
 use crate::explanations::write_explanation_if_requested;
 use crate::{
@@ -39,7 +39,7 @@ fn run_line_and_return_exit_status<P: Places, O: ToolOutput, E: ToolOutput>(
 ) -> u8
     ensures answered { IsCommandLineDoneOrErrorReported E.ToolOutput
         (IsModeDone P.Places P.Image.ImageInput P.NewImage.ToolOutput P.Folder.Source P.NewFolder.Target O.ToolOutput line.now places.old places.new out.old out.new)
-        (λ e shown ends. LeavesModeUndone P.Places P.Image.ImageInput P.NewImage.ToolOutput P.Folder.Source P.NewFolder.Target line.now places.old places.new e
+        (λ e shown ends. EndsModeWithError P.Places P.Image.ImageInput P.NewImage.ToolOutput P.Folder.Source P.NewFolder.Target O.ToolOutput line.now places.old places.new out.old out.new e
         × IsErrorFollowedByExplanationIfRequested P.image_path P.Image.remaining P.Image.faults P.folder_path P.folder_limit P.Folder.faults P.Folder.shown E.ToolOutput line.now e shown ends)
         result err.old err.new }
     ensures unlisted { is_mode_that_writes_lines line.now.mode ≡ false → out.new ≡ out.old }
@@ -69,9 +69,9 @@ pub fn run_and_return_exit_status<P: Places, O: ToolOutput, E: ToolOutput>(
 ) -> u8
     ensures answered { IfOk words (λ all. IsRequestDoneOrFailureReported E.ToolOutput (map string_bytes all.items)
         (λ line. IsModeDone P.Places P.Image.ImageInput P.NewImage.ToolOutput P.Folder.Source P.NewFolder.Target O.ToolOutput line places.old places.new out.old out.new)
-        (λ line e shown ends. LeavesModeUndone P.Places P.Image.ImageInput P.NewImage.ToolOutput P.Folder.Source P.NewFolder.Target line places.old places.new e
+        (λ line e shown ends. EndsModeWithError P.Places P.Image.ImageInput P.NewImage.ToolOutput P.Folder.Source P.NewFolder.Target O.ToolOutput line places.old places.new out.old out.new e
         × IsErrorFollowedByExplanationIfRequested P.image_path P.Image.remaining P.Image.faults P.folder_path P.folder_limit P.Folder.faults P.Folder.shown E.ToolOutput line e shown ends)
-        (places.new ≡ places.old) result err.old err.new) }
+        (λ e. LeavesPlacesAndShowsHelp O.ToolOutput (Fault.Line e) places.old places.new out.old out.new) result err.old err.new) }
     ensures unlisted { IfOk words (λ all. AreWordsOfValidCommandLine (map string_bytes all.items) → is_list_requested (rows (map string_bytes all.items)) ≡ false → is_check_requested (rows (map string_bytes all.items)) ≡ false → out.new ≡ out.old) }
 
     // With words that are a command line, the status 0 comes where its request is done.

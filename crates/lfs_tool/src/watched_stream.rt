@@ -24,13 +24,13 @@ pub struct WatchedStream<T> {
 }
 
 impl<T> WatchedStream<T> {
-    ghost use Rattle.lfs_tool.specs.WatchedStreams.{flush_count, watched_fault_count, watched_inner_stream};
+    ghost use Rattle.lfs_tool.specs.WatchedStreams.{flush_count, unflushed_write_count, watched_fault_count, watched_inner_stream};
 
     /// Makes a reader or a writer of which no call was made yet.
     pub fn new(inner: T) -> WatchedStream<T>
         ensures inner { watched_inner_stream result ≡ inner }
         ensures faults { watched_fault_count result ≡ 0 }
-        ensures flushes { flush_count result ≡ 0 }
+        ensures flushes { (unflushed_write_count result ≡ 0) × (flush_count result ≡ 0) }
     {
         WatchedStream {
             inner,

@@ -1,7 +1,7 @@
 ghost use Rattle.std.specs.Prelude.{◌≡◌, IfOk};
 
 use std::alloc::{AllocError, Global};
-use std::cell::{Cell, RefCell};
+use std::cell::RefCell;
 use std::io;
 use std::io::Write;
 
@@ -18,9 +18,7 @@ pub struct PathFault {
 /// which that is.
 #[derive(Drop)]
 pub struct FaultLog {
-    first: RefCell<Option<PathFault>>,
-    // Whether memory ran out.
-    is_lost: Cell<bool>,
+    first: RefCell<Result<Option<PathFault>, AllocError>>,
 }
 
 fn path_fault_of_error(
@@ -42,43 +40,44 @@ impl FaultLog {
     /// Makes a log that has no fault yet.
     pub fn new() -> FaultLog {
         FaultLog {
-            first: RefCell::new(None),
-            is_lost: Cell::new(false),
+            first: RefCell::new(Ok(None)),
         }
     }
 
-    // Returns whether a fault is noted.
-    fn has_fault(&self) -> bool {
+    // Returns whether nothing is noted yet.
+    fn is_empty(&self) -> bool {
         match self.first.try_borrow() {
-            Ok(first) => first.is_some(),
+            Ok(first) => matches!(&*first, Ok(None)),
             Err(_) => false,
         }
     }
 
-    /// Notes a fault at a path, unless one is noted already. Where memory runs out it notes that instead.
+    /// Notes a fault at a path, unless something is noted already. Where memory runs out it notes that.
     pub fn note(&self, alloc: Global, path: &[u8], error: &io::Error) {
-        if self.has_fault() {
-            return;
-        }
-        match path_fault_of_error(alloc, path, error) {
-            Ok(fault) => {
-                let _ = self.first.try_replace(Some(fault));
+        if self.is_empty() {
+            match path_fault_of_error(alloc, path, error) {
+                Ok(fault) => {
+                    let _ = self.first.try_replace(Ok(Some(fault)));
+                }
+                Err(AllocError) => self.note_lost_fault(),
             }
-            Err(AllocError) => self.is_lost.set(true),
         }
     }
 
-    /// Returns the fault that is noted, and forgets it.
+    /// Notes that memory ran out as a fault was to be noted, unless something is noted already.
+    pub fn note_lost_fault(&self) {
+        if self.is_empty() {
+            let _ = self.first.try_replace(Err(AllocError));
+        }
+    }
+
+    /// Returns what is noted, and forgets it.
     ///
     /// # Errors
-    /// Where memory ran out as a fault was to be noted. That is forgotten too.
+    /// Where memory ran out as the first fault was to be noted.
     pub fn take(&self) -> Result<Option<PathFault>, AllocError> {
-        let first = self.first.try_replace(None);
-        if self.is_lost.replace(false) {
-            return Err(AllocError);
-        }
-        match first {
-            Ok(fault) => Ok(fault),
+        match self.first.try_replace(Ok(None)) {
+            Ok(first) => first,
             Err(_) => Ok(None),
         }
     }

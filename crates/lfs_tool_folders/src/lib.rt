@@ -1,5 +1,5 @@
 //! Sources and targets of a tree of files: memory, or a folder of the real file system. And the file
-//! of an image that is made: until it is put at its path, what was there stays.
+//! of an image that is made beside its path, and put there once it is whole.
 #![tactic(auto)]
 
 mod entries;

@@ -59,7 +59,8 @@ impl<'a, R: Files> NewImage<'a, R> {
     /// nothing was written an old file stays.
     ///
     /// # Errors
-    /// Those of the system. The old file stays then, unless the system can't rename and a copy ends early.
+    /// Those of the system. The old file stays then, unless the system can't rename. The image is copied to
+    /// its path then, and that may end early, or the file beside the path may be left.
     pub fn place(mut self) -> io::Result<()> {
         self.move_image_to_final_path()
     }
@@ -110,7 +111,7 @@ impl<'a, R: Files> Write for NewImage<'a, R> {
 
     fn flush(&mut self) -> io::Result<()>
         ensures bytes { Keeps (option_and_then R.File.contents self.old.file) (option_and_then R.File.contents self.new.file) }
-        ensures path { self.new.paths.path ≡ self.old.paths.path }
+        ensures path { self.new.paths ≡ self.old.paths }
         ensures beside { self.new.is_beside ≡ self.old.is_beside }
     {
         match &mut self.file {

@@ -116,13 +116,14 @@ impl<'a, R: Files + AllocGlobal + Clone + Drop> Folder<'a, R> {
 
     // Notes a fault of a name in a folder. With no name it is the fault of the path itself.
     fn note_error_at_name(&self, path: &[u8], name: &[u8], error: &io::Error) {
-        if let Ok(full) = full_path_joined_with_name_unless_empty(
+        match full_path_joined_with_name_unless_empty(
             self.rt.alloc(),
             self.root.as_str(),
             path,
             name,
         ) {
-            self.log.note(self.rt.alloc(), full.as_slice(), error);
+            Ok(full) => self.log.note(self.rt.alloc(), full.as_slice(), error),
+            Err(AllocError) => self.log.note_lost_fault(),
         }
     }
 

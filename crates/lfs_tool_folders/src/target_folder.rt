@@ -76,13 +76,14 @@ impl<'a, R: Files + AllocGlobal + Clone + Drop> TargetFolder<'a, R> {
 
     // Notes a fault at a path.
     fn note_error_at_target_path(&self, path: &[u8], error: &io::Error) {
-        if let Ok(full) = full_path_joined_with_name_unless_empty(
+        match full_path_joined_with_name_unless_empty(
             self.rt.alloc(),
             self.root.as_str(),
             path,
             b"",
         ) {
-            self.log.note(self.rt.alloc(), full.as_slice(), error);
+            Ok(full) => self.log.note(self.rt.alloc(), full.as_slice(), error),
+            Err(AllocError) => self.log.note_lost_fault(),
         }
     }
 

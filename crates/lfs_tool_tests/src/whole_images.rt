@@ -169,7 +169,16 @@ fn images_that_are_dropped_leave_the_old_one(rt: HostRuntime) -> Result<(), Fail
 
 // The program makes the image of an empty folder: 16 blocks of 1,024 bytes, of which two are used.
 const WORDS: &[&str] = &[
-    "-c", "source", "-b", "1024", "-p", "128", "-s", "16384", "--explain", PATH,
+    "-c",
+    "source",
+    "-b",
+    "1024",
+    "-p",
+    "128",
+    "-s",
+    "16384",
+    "--explain",
+    PATH,
 ];
 
 // How many bytes are free, what the file system does, the status, and what is shown.

@@ -1,25 +1,30 @@
 -- What is done at paths.
-use Rattle.std.proofs.Common.{◌≡◌, ◌≢◌, ◌⊎◌, ◌∙◌, ℕ, suc, List, ◌∷◌, Option, ap, ap₂, inl, inr, refl, subst, sym, Err}
-use Rattle.std.specs.Prelude.{IsErrOf}
+use Rattle.std.proofs.Common.{◌≡◌, ◌≢◌, ◌⊎◌, ◌∙◌, ℕ, suc, List, ◌∷◌, Option, ap, ap₂, inl, inr, refl, subst, sym, Err, Ok}
+use Rattle.std.specs.Prelude.{IfErr, IfSome, IsErrOf, Result}
+use Rattle.lfs_device.specs.declared.error.Error.{Error}
 use Rattle.lfs_device.specs.declared.error.Error.TheVariants as fs
+use Rattle.lfs_model.specs.Listing.{UnpackingAction}
 use Rattle.lfs_model.specs.Source.{TreeSource}
 use Rattle.lfs_tool_line.specs.declared.line.Line.{Line}
+use Rattle.lfs_tool.specs.AmountsTold.{ProgressCall, IsToldOfNothing}
 use Rattle.lfs_tool.specs.Explained.{FailsToCountNeededBlocks, FailsToReadImage}
 use Rattle.lfs_tool.specs.KnownBytes.{IsErrorOfReaderFaultOrNoMemory}
-use Rattle.lfs_tool.specs.MadeImages.{HasWrittenBeginningOfImage, HasWrittenImageOfSource, ReportsSourceFaults}
-use Rattle.lfs_tool.specs.PlaceEvents.{ImageDiscarded, ImageNotPlaced, ImageOpened, PlaceEvent}
+use Rattle.lfs_tool.specs.Listings.{RefusesToList}
+use Rattle.lfs_tool.specs.MadeImages.{IsToldOfRequestedImage, HasWrittenBeginningOfImage, HasWrittenImageOfSource, ReportsSourceFaults}
+use Rattle.lfs_tool.specs.PlaceEvents.{ImageDiscarded, ImageNotPlaced, ImageOpened, PlaceEvent, WorkEnded}
 use Rattle.lfs_tool.specs.Reports.{IsFlushedOnce, ReportsWriterFaults}
 use Rattle.lfs_tool.specs.RequestedSizes.{HasSizesOfCommandLine}
 use Rattle.lfs_tool.specs.RunsAtPaths.{LeavesNoNewImage, WritesWholeImage}
+use Rattle.lfs_tool.specs.Unpackings.{FailsToUnpackKnownImage}
 use Rattle.lfs_tool.specs.declared.errors.ToolError.{ToolError}
 use Rattle.lfs_tool.specs.declared.errors.ToolError.TheVariants.{Fs, Input, Output}
 use Rattle.lfs_tool.specs.declared.places.Places.{Ghosts}
 use Rattle.lfs_tool.specs.declared.writer.ToolOutput.{Ghosts as ToolOutputGhosts}
 use Rattle.lfs_tool_folders.specs.declared.source.Source.{Ghosts as SourceGhosts}
 
-pub or_so : {P Q R : Type 0} → (Q → R) → P ⊎ Q → P ⊎ R
-or_so f (inl p) = inl p
-or_so f (inr q) = inr (f q)
+pub sizes_or_so : {P U Q R : Type 0} → (Q → R) → (P × U) ⊎ Q → P ⊎ R
+sizes_or_so f (inl (p, u)) = inl p
+sizes_or_so f (inr q) = inr (f q)
 
 -- the image at the line's path fails, or memory isn't granted
 pub image_fails : {I : Type 0} (path_of : I → List ℕ) (faults : I → ℕ) (line : Line) (old new : I) (error : ToolError) → path_of old ≡ line.image.now
@@ -36,30 +41,44 @@ folder_fails X folder_of faults shown line folder old new Input at reports other
 folder_fails X folder_of faults shown line folder old new Output at reports other = let no : Output ≡ Fs fs.NoMemory = other (λ is. (cc)) in (cc)
 folder_fails X folder_of faults shown line folder old new (Fs e) at reports other = let is : Fs e ≡ Fs fs.NoMemory = other (λ is. (cc)) in inl (cc)
 
--- ---- what an error leaves
+-- why an image isn't unpacked
+pub refused_known : {X : Type 0} (r : Result X ToolError) (block_size page : ℕ) (known : Option (List ℕ)) (old new : Option (List UnpackingAction)) (e : Error) → IsErrOf r (Fs e) → IfErr r (FailsToUnpackKnownImage block_size page known old new)
+    → IfSome known (λ bytes. RefusesToList block_size page bytes e)
+refused_known {X} r block_size page known old new e is fails =
+    let at : FailsToUnpackKnownImage block_size page known old new (Fs e) = subst (λ (s : Result X ToolError). IfErr s (FailsToUnpackKnownImage block_size page known old new)) is fails in
+    at.refused e refl
 
-module _ {P I N F T R : Type 0} (places : Ghosts P I N F T R) (output : ToolOutputGhosts N) (source : SourceGhosts F) (line : Line) (old mid new : P) (folder : List ℕ) (opened : places.history mid ≡ ImageOpened line.image.now ∷ places.history old) (f : F) (i after : N) (at : places.folder_path f ≡ folder) (limit : places.folder_limit f ≡ line.size) (path : places.new_image_path i ≡ line.image.now) where
+-- ---- what an image ends in
+
+module _ {P I N F T R : Type 0} (places : Ghosts P I N F T R) (output : ToolOutputGhosts N) (source : SourceGhosts F) (line : Line) (old opens ends new : P) (folder : List ℕ) (f : F) (i after : N) (before told : Option (List ProgressCall))
+    (opened : places.history opens ≡ ImageOpened line.image.now ∷ places.history old) (ended : places.history ends ≡ WorkEnded told ∷ places.history opens) (nothing : IsToldOfNothing before)
+    (at : places.folder_path f ≡ folder) (limit : places.folder_limit f ≡ line.size) (path : places.new_image_path i ≡ line.image.now) where
+  history_with : (event : PlaceEvent) → places.history new ≡ event ∷ places.history ends → places.history new ≡ event ∷ WorkEnded told ∷ ImageOpened line.image.now ∷ places.history old
+  history_with event adds = adds ∙ ap (λ events. event ∷ events) (ended ∙ ap (λ events. WorkEnded told ∷ events) opened)
+
   -- an image that is whole
-  pub whole : (event : Option (List ℕ) → PlaceEvent) → places.history new ≡ event (output.contents after) ∷ places.history mid
-      → (g : _) × (HasSizesOfCommandLine line g × HasWrittenImageOfSource g (source.shown f) (output.contents i) (output.contents after)) → IsFlushedOnce output i after → WritesWholeImage places output source line event old new folder
-  whole event ends made flushed = (f, (at, (limit, (i, (path, (after, (ends ∙ ap (λ events. event (output.contents after) ∷ events) opened, (made, flushed))))))))
+  pub whole : (event : Option (List ℕ) → PlaceEvent) → places.history new ≡ event (output.contents after) ∷ places.history ends
+      → (g : _) × (HasSizesOfCommandLine line g × HasWrittenImageOfSource g (source.shown f) (output.contents i) (output.contents after)) → IsFlushedOnce output i after → IsToldOfRequestedImage line (source.shown f) before told (Ok (tt {0}))
+      → WritesWholeImage places output source line event old new folder
+  whole event adds made flushed tells = (f, (at, (limit, (i, (path, (after, told, (history_with (event (output.contents after)) adds, (made, flushed), (before, (nothing, tells)))))))))
 
   -- one that can't be put in its place
-  pub not_placed : (e : ToolError) → (e ≡ Output) × (places.history new ≡ ImageNotPlaced (output.contents after) ∷ places.history mid)
-      → (g : _) × (HasSizesOfCommandLine line g × HasWrittenImageOfSource g (source.shown f) (output.contents i) (output.contents after)) → IsFlushedOnce output i after → LeavesNoNewImage places output source line old new folder e
-  not_placed e (is, ends) made flushed = subst (LeavesNoNewImage places output source line old new folder) (sym is) (inr (whole ImageNotPlaced ends made flushed))
+  pub not_placed : (e : ToolError) → (e ≡ Output) × (places.history new ≡ ImageNotPlaced (output.contents after) ∷ places.history ends)
+      → (g : _) × (HasSizesOfCommandLine line g × HasWrittenImageOfSource g (source.shown f) (output.contents i) (output.contents after)) → IsFlushedOnce output i after → IsToldOfRequestedImage line (source.shown f) before told (Ok (tt {0}))
+      → LeavesNoNewImage places output source line old new folder e
+  not_placed e (is, adds) made flushed tells = subst (LeavesNoNewImage places output source line old new folder) (sym is) (inr (whole ImageNotPlaced adds made flushed tells))
 
-  discarded_so : (faults flushes : ℕ) → places.history new ≡ ImageDiscarded (output.contents after) (output.faults after) (output.flushes after) ∷ places.history mid → output.faults after ≡ faults → output.flushes after ≡ flushes
-      → places.history new ≡ ImageDiscarded (output.contents after) faults flushes ∷ ImageOpened line.image.now ∷ places.history old
-  discarded_so faults flushes ends failed flushed =
-      ends ∙ ap₂ (λ n m. ImageDiscarded (output.contents after) n m ∷ places.history mid) failed flushed ∙ ap (λ events. ImageDiscarded (output.contents after) faults flushes ∷ events) opened
+  history_discarded : (faults flushes : ℕ) → places.history new ≡ ImageDiscarded (output.contents after) (output.faults after) (output.flushes after) ∷ places.history ends → output.faults after ≡ faults → output.flushes after ≡ flushes
+      → places.history new ≡ ImageDiscarded (output.contents after) faults flushes ∷ WorkEnded told ∷ ImageOpened line.image.now ∷ places.history old
+  history_discarded faults flushes adds failed flushed =
+      history_with (ImageDiscarded (output.contents after) faults flushes) (adds ∙ ap₂ (λ n m. ImageDiscarded (output.contents after) n m ∷ places.history ends) failed flushed)
 
   -- one that is discarded
   pub discarded : (X : Type 0) (e : ToolError) → output.faults i ≡ 0 → output.flushes i ≡ 0
-      → places.history new ≡ ImageDiscarded (output.contents after) (output.faults after) (output.flushes after) ∷ places.history mid → ReportsWriterFaults {X = X} output i after (Err e)
-      → (IsErrOf {T = X} (Err e) Output → (g : _) × (HasSizesOfCommandLine line g × HasWrittenBeginningOfImage g (source.shown f) (output.contents i) (output.contents after)))
+      → places.history new ≡ ImageDiscarded (output.contents after) (output.faults after) (output.flushes after) ∷ places.history ends → ReportsWriterFaults {X = X} output i after (Err e)
+      → (IsErrOf {T = X} (Err e) Output → (g : _) × (HasSizesOfCommandLine line g × HasWrittenBeginningOfImage g (source.shown f) (output.contents i) (output.contents after))) → IsToldOfRequestedImage {X = Unit {0}} line (source.shown f) before told (Err e)
       → LeavesNoNewImage places output source line old new folder e
-  discarded X Output sound unflushed ends reports begins =
-      inl (f, (at, (limit, (i, (path, (after, (discarded_so 1 0 ends (reports.0 ∙ ap suc sound) (reports.1 ∙ unflushed), begins refl)))))))
-  discarded X e sound unflushed ends reports begins =
-      inr (i, (path, discarded_so 0 0 ends (ap output.faults reports ∙ sound) (ap output.flushes reports ∙ unflushed) ∙ ap (λ a. ImageDiscarded (output.contents a) 0 0 ∷ ImageOpened line.image.now ∷ places.history old) reports))
+  discarded X Output sound unflushed adds reports begins tells =
+      inl (f, (at, (limit, (i, (path, (after, told, (history_discarded 1 0 adds (reports.0 ∙ ap suc sound) (reports.1 ∙ unflushed), begins refl, (before, (nothing, tells)))))))))
+  discarded X e sound unflushed adds reports begins tells =
+      inr (f, (at, (limit, (i, (path, (after, told, (history_discarded 0 0 adds (ap output.faults reports ∙ sound) (ap output.flushes reports ∙ unflushed), ap output.contents reports, (before, (nothing, tells)))))))))

@@ -1,5 +1,5 @@
 -- In a run from a fresh disk in memory each error but want of memory is a refusal, the first.
-use Rattle.std.proofs.Common.{ℕ, ◌≡◌, ◌≢◌, ◌∙◌, ◌+◌, ◌<◌, ◌++◌, ◌⊎◌, inl, inr, Bool, true, false, List, [], ◌∷◌, length, take, drop, get_or, Option, Some, None, refl, sym, ap, subst, add-one, append_assoc, arith, drop-cons, flat_map}
+use Rattle.std.proofs.Common.{ℕ, suc, ◌≡◌, ◌≢◌, ◌∙◌, ◌+◌, ◌<◌, ◌++◌, ◌⊎◌, inl, inr, Bool, true, false, List, [], ◌∷◌, length, take, drop, get_or, Option, Some, None, refl, sym, ap, subst, add-one, append_assoc, arith, drop-cons, flat_map}
 use Rattle.std.proofs.lemmas.Grind.{flat_map-append}
 use Rattle.std.proofs.lemmas.List.{take-append-drop}
 use Rattle.std.proofs.lemmas.List.Elements.{recursion_from_All}
@@ -21,6 +21,7 @@ use Rattle.lfs_lookup.specs.Refusals as refusals
 use Rattle.lfs_tool_folders.specs.MemorySources.{optional_bytes_view}
 use Rattle.lfs_tool_folders.specs.declared.entries.SourceEntry.{SourceEntry}
 use Rattle.lfs_tool.specs.AppliedOperations.{AreOperationsApplied, IsRunOfOperationsEndedByError, IsHealthyWithoutOpenFile, IsFirstRefusalAmongOperations, file_or_directory_node_of_optional_bytes, copying_operations_of_entry}
+use Rattle.lfs_tool.specs.MadeImages.{StopsAtEntryAfter}
 use Rattle.lfs_tool.proofs.Runs.{ended_before, ended_on}
 use Rattle.lfs_tool.proofs.Stepping.{HasCarried, carried_from}
 
@@ -86,17 +87,31 @@ parts es i d lt =
     ∙ flat_map-append copying_operations_of_entry (take i es) (get_or es i d ∷ drop (i + 1) es)
     ∙ sym (append_assoc (flat_map copying_operations_of_entry (take i es)) (copying_operations_of_entry (get_or es i d)) (flat_map copying_operations_of_entry (drop (i + 1) es)))
 
-pub first_refused : (e : Error) (es : List SourceEntry) (i : ℕ) (d : SourceEntry) (from at to : SystemState) → i < length es → IsFromFresh from → AreOperationsApplied from (flat_map copying_operations_of_entry (take i es)) at
-    → IsRunOfOperationsEndedByError e at (copying_operations_of_entry (get_or es i d)) to → fault_count_of_history to.calls ≡ 0 → e ≢ NoMemory → IsFirstRefusalAmongOperations from (flat_map copying_operations_of_entry es) e
-first_refused e es i d from at to lt f c k none not_memory = go (refusals.is_refusal e) refl
+-- an error of one entry's operations that isn't want of memory is a refusal
+refused_in_entry : (e : Error) (x : SourceEntry) (at to : SystemState) → IsRunOfOperationsEndedByError e at (copying_operations_of_entry x) to → fault_count_of_history to.calls ≡ 0 → e ≢ NoMemory → refusals.is_refusal e ≡ true
+refused_in_entry e x at to k none not_memory = go (refusals.is_refusal e) refl
   where
-    whole : IsRunOfOperationsEndedByError e from (flat_map copying_operations_of_entry es) to
-    whole = subst (λ xs. IsRunOfOperationsEndedByError e from xs to) (sym (parts es i d lt)) (ended_before e (flat_map copying_operations_of_entry (take i es) ++ copying_operations_of_entry (get_or es i d)) (flat_map copying_operations_of_entry (drop (i + 1) es)) from to
-        (ended_on e (flat_map copying_operations_of_entry (take i es)) (copying_operations_of_entry (get_or es i d)) from at to c k))
-
     other : is_remount_operation k.next ≡ false
-    other = (each_right (λ op. is_remount_operation op ≡ false) k.done (k.next ∷ k.others) (subst (Each (λ op. is_remount_operation op ≡ false)) k.are (no_remount (get_or es i d)))).0
+    other = (each_right (λ op. is_remount_operation op ≡ false) k.done (k.next ∷ k.others) (subst (Each (λ op. is_remount_operation op ≡ false)) k.are (no_remount x))).0
 
-    go : (b : Bool) → refusals.is_refusal e ≡ b → IsFirstRefusalAmongOperations from (flat_map copying_operations_of_entry es) e
-    go true is = refusal_first e from to (flat_map copying_operations_of_entry es) whole is
+    go : (b : Bool) → refusals.is_refusal e ≡ b → refusals.is_refusal e ≡ true
+    go true is = is
     go false is = absurd (not_memory (only_memory e k.at to k.next (subst (λ b. EndsOperationWithError b e k.at k.next to) is k.ends) other none))
+
+module _ (e : Error) (es : List SourceEntry) (i : ℕ) (d : SourceEntry) (from at to : SystemState) (lt : i < length es) (c : AreOperationsApplied from (flat_map copying_operations_of_entry (take i es)) at)
+    (k : IsRunOfOperationsEndedByError e at (copying_operations_of_entry (get_or es i d)) to) (none : fault_count_of_history to.calls ≡ 0) where
+  pub first_refused : e ≢ NoMemory → IsFirstRefusalAmongOperations from (flat_map copying_operations_of_entry es) e
+  first_refused not_memory = refusal_first e from to (flat_map copying_operations_of_entry es)
+      (subst (λ xs. IsRunOfOperationsEndedByError e from xs to) (sym (parts es i d lt)) (ended_before e (flat_map copying_operations_of_entry (take i es) ++ copying_operations_of_entry (get_or es i d)) (flat_map copying_operations_of_entry (drop (i + 1) es)) from to
+      (ended_on e (flat_map copying_operations_of_entry (take i es)) (copying_operations_of_entry (get_or es i d)) from at to c k)))
+      (refused_in_entry e (get_or es i d) at to k none not_memory)
+
+  pub entry_refused : StopsAtEntryAfter i from es e
+  entry_refused = record {
+    entry = get_or es i d;
+    others = drop (suc i) es;
+    are = drop-cons es i d lt;
+    at = at;
+    carried = c;
+    first = λ not_memory. refusal_first e at to (copying_operations_of_entry (get_or es i d)) k (refused_in_entry e (get_or es i d) at to k none not_memory);
+  }

@@ -1,5 +1,5 @@
--- What a follower of long work was told.
-use Rattle.std.specs.Prelude.{ℕ, List, [], ◌∷◌, Option, Some, None, length, map}
+-- What a follower of long work was told, call by call.
+use Rattle.std.specs.Prelude.{ℕ, ◌≡◌, IfSome, List, [], ◌∷◌, Option, Some, None, length, map, take}
 use Rattle.std.specs.Option.{option_map}
 use Rattle.lfs_model.specs.Listing.{UnpackingAction, MakeDirectory, PutFile}
 use Rattle.lfs_model.specs.Slots.{Struct, Inline, Ctz, Branch}
@@ -10,24 +10,25 @@ use Rattle.lfs_tool_folders.specs.declared.entries.SourceEntry.{SourceEntry}
 use Rattle.lfs_tool.specs.ProgressLines.{no_amount, sum_of_amounts}
 use Rattle.lfs_tool.specs.declared.progress.FilesAndBytes.{FilesAndBytes}
 
--- how much there is to do, and how much of it is done
-pub record AmountsTold : Type 0 where
-  pub whole : FilesAndBytes
-  pub done : FilesAndBytes
+-- a call of a follower: it is told how much there is to do, or how much more is done
+pub data ProgressCall : Type 0 where
+  BeginCalled : (whole : FilesAndBytes) → ProgressCall
+  AddCalled : (more : FilesAndBytes) → ProgressCall
 
-abbrev pub amounts_told : FilesAndBytes → FilesAndBytes → AmountsTold
-amounts_told whole done = record { whole = whole; done = done }
+-- it wasn't called yet, where its calls are known
+abbrev pub IsToldOfNothing : Option (List ProgressCall) → Type 0
+IsToldOfNothing told = IfSome told (λ calls. calls ≡ [])
 
--- after it is told how much there is to do
-abbrev pub told_with_whole : FilesAndBytes → Option AmountsTold → Option AmountsTold
-told_with_whole whole told = option_map (λ t. amounts_told whole t.done) told
+-- after it is told how much there is to do; the newest call comes first
+abbrev pub told_with_whole : FilesAndBytes → Option (List ProgressCall) → Option (List ProgressCall)
+told_with_whole whole told = option_map (λ calls. BeginCalled whole ∷ calls) told
 
 -- after it is told how much more is done
-abbrev pub told_with_more_done : FilesAndBytes → Option AmountsTold → Option AmountsTold
-told_with_more_done more told = option_map (λ t. amounts_told t.whole (sum_of_amounts t.done more)) told
+abbrev pub told_with_more_done : FilesAndBytes → Option (List ProgressCall) → Option (List ProgressCall)
+told_with_more_done more told = option_map (λ calls. AddCalled more ∷ calls) told
 
 -- after it is told of each of these amounts that it is done
-abbrev pub told_with_each_done : List FilesAndBytes → Option AmountsTold → Option AmountsTold
+abbrev pub told_with_each_done : List FilesAndBytes → Option (List ProgressCall) → Option (List ProgressCall)
 told_with_each_done [] told = told
 told_with_each_done (a ∷ amounts) told = told_with_each_done amounts (told_with_more_done a told)
 
@@ -37,8 +38,12 @@ sum_with_amounts sum [] = sum
 sum_with_amounts sum (a ∷ amounts) = sum_with_amounts (sum_of_amounts sum a) amounts
 
 -- after it is told how much these are together, and of each that it is done
-abbrev pub told_of_all_done : List FilesAndBytes → Option AmountsTold → Option AmountsTold
+abbrev pub told_of_all_done : List FilesAndBytes → Option (List ProgressCall) → Option (List ProgressCall)
 told_of_all_done amounts told = told_with_each_done amounts (told_with_whole (sum_with_amounts no_amount amounts) told)
+
+-- after it is told how much these are together, and of each of the first n that it is done
+abbrev pub told_of_first_n_done : ℕ → List FilesAndBytes → Option (List ProgressCall) → Option (List ProgressCall)
+told_of_first_n_done n amounts told = told_with_each_done (take n amounts) (told_with_whole (sum_with_amounts no_amount amounts) told)
 
 -- ---- the amounts of entries
 

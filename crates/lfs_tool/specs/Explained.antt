@@ -1,7 +1,8 @@
 -- The cause for which a command line wasn't carried out, and its lines.
-use Rattle.std.specs.Prelude.{◌≡◌, ◌++◌, ◌⊎◌, ◌/◌, ℕ, [], List, Option, Some, None, IfSome, MatchBool, codes, length, take}
+use Rattle.std.specs.Prelude.{◌≡◌, ◌++◌, ◌⊎◌, ◌/◌, ℕ, [], List, ◌∷◌, Option, Some, None, Result, Ok, Err, IfSome, MatchBool, codes, length, take}
 use Rattle.std.specs.Fmt.{decimal}
 use Rattle.lfs_model.specs.Listing.{escaped_text, newline}
+use Rattle.lfs_device.specs.declared.error.Error.{Error}
 use Rattle.lfs_device.specs.declared.error.Error.TheVariants as fs
 use Rattle.lfs_model.specs.Source.{TreeSource}
 use Rattle.lfs_tool_folders.specs.Entries.{AreAllEntriesOfSource}
@@ -17,6 +18,7 @@ use Rattle.lfs_tool.specs.CheckResults.{IsCheckResultOfBytes}
 use Rattle.lfs_tool.specs.CheckedLines.{check_result_text}
 use Rattle.lfs_tool.specs.Errors.{tool_error_line}
 use Rattle.lfs_tool.specs.Needed.{IsJustEnoughBlocksForEntries}
+use Rattle.lfs_tool.specs.PlaceEvents.{FaultAnswered}
 use Rattle.lfs_tool.specs.Reports.{WritesTextOrFails}
 use Rattle.lfs_tool.specs.RequestedSizes.{IsErrorWhereNoGeometryHasSizes}
 use Rattle.lfs_tool.specs.RunsAtPaths.{HasFaultAtPath, FailsToReadFolder, IsTrueOfSomethingAtPath, IsTrueForMode}
@@ -25,7 +27,10 @@ use Rattle.lfs_tool.specs.declared.errors.ToolError.{ToolError}
 use Rattle.lfs_tool.specs.declared.errors.ToolError.TheVariants.{Fs, Input, Output}
 use Rattle.lfs_tool.specs.declared.explanation.Explanation.{Explanation}
 use Rattle.lfs_tool.specs.declared.explanation.Explanation.TheVariants as explanation
-use Rattle.lfs_tool.specs.declared.writer.ToolOutput.{Ghosts}
+use Rattle.lfs_tool.specs.declared.places.Places.{Ghosts}
+use Rattle.lfs_tool.specs.declared.reader.ImageInput.{Ghosts as ImageInputGhosts}
+use Rattle.lfs_tool.specs.declared.writer.ToolOutput.{Ghosts as ToolOutputGhosts}
+use Rattle.lfs_tool_folders.specs.declared.source.Source.{Ghosts as SourceGhosts}
 
 -- ---- lines
 
@@ -77,11 +82,15 @@ ExplainsErrorByImageCheck path_of bytes line (explanation.Checked checked) =
     IsTrueOfSomethingAtPath path_of line.image.now (λ i. IfSome (bytes i) (λ image. IsCheckResultOfBytes line.block_size line.page image checked))
 ExplainsErrorByImageCheck path_of bytes line other = ⊥
 
--- a file or a folder met a fault, or none is known
-abbrev pub IsExplanationPathFaultOrNothing : Explanation → Type 0
-IsExplanationPathFaultOrNothing (explanation.Place f) = Unit {0}
-IsExplanationPathFaultOrNothing explanation.Nothing = Unit {0}
-IsExplanationPathFaultOrNothing other = ⊥
+-- what is answered of a fault, as an explanation
+abbrev pub explanation_by_answered_fault : Result (Option PathFault) Error → Result Explanation ToolError
+explanation_by_answered_fault (Ok None) = Ok explanation.Nothing
+explanation_by_answered_fault (Ok (Some f)) = Ok (explanation.Place f)
+explanation_by_answered_fault (Err e) = Err (Fs e)
+
+-- the places are asked once for the fault that a file or a folder met, and what they answer is the result
+abbrev pub IsFaultAnsweredByPlaces : {P I N F T R : Type 0} → Ghosts P I N F T R → P → P → Result Explanation ToolError → Type 0
+IsFaultAnsweredByPlaces places old new result = (answer : Result (Option PathFault) Error) × ((places.history new ≡ FaultAnswered answer ∷ places.history old) × (result ≡ explanation_by_answered_fault answer))
 
 -- An image of the line's folder has too few of these blocks. Where a number is said, an image of so many holds what the folder
 -- has, and one of one block less doesn't. Files are read up to the most that an image may have.
@@ -96,14 +105,15 @@ abbrev pub ExplainsTooFewBlocks : {F : Type 0} → (F → List ℕ) → (F → �
 ExplainsTooFewBlocks folder_of limit_of shown line e =
     IsTrueForMode line.mode (e ≡ explanation.Nothing) (e ≡ explanation.Nothing) (λ folder. ExplainsNeededBlocksOfFolder folder_of limit_of shown line folder e) (λ _. e ≡ explanation.Nothing)
 
--- this explains the error: of sizes the rule that is broken, of an image what a check says, of too few blocks how many it takes
-abbrev pub IsExplanationOfError : {I F : Type 0} → (I → List ℕ) → (I → Option (List ℕ)) → (F → List ℕ) → (F → ℕ) → (F → Option TreeSource) → Line → ToolError → Explanation → Type 0
-IsExplanationOfError path_of bytes folder_of limit_of shown line (Fs fs.Invalid) e = ExplainsBrokenSizeRule path_of bytes line e
-IsExplanationOfError path_of bytes folder_of limit_of shown line (Fs fs.Corrupt) e = ExplainsErrorByImageCheck path_of bytes line e
-IsExplanationOfError path_of bytes folder_of limit_of shown line (Fs fs.NoSpace) e = ExplainsTooFewBlocks folder_of limit_of shown line e
-IsExplanationOfError path_of bytes folder_of limit_of shown line (Fs other) e = e ≡ explanation.Nothing
-IsExplanationOfError path_of bytes folder_of limit_of shown line Input e = IsExplanationPathFaultOrNothing e
-IsExplanationOfError path_of bytes folder_of limit_of shown line Output e = IsExplanationPathFaultOrNothing e
+-- This explains the error: of sizes the rule that is broken, of an image what a check says, of too few blocks how many it takes. Of a
+-- path it is the fault that the places answer. They change only where they are asked for that, at `Input` and `Output`.
+abbrev pub IsExplanationOfError : {P I N F T R : Type 0} → Ghosts P I N F T R → ImageInputGhosts I → SourceGhosts F → Line → P → P → ToolError → Explanation → Type 0
+IsExplanationOfError places input source line old new (Fs fs.Invalid) e = (new ≡ old) × ExplainsBrokenSizeRule places.image_path input.remaining line e
+IsExplanationOfError places input source line old new (Fs fs.Corrupt) e = (new ≡ old) × ExplainsErrorByImageCheck places.image_path input.remaining line e
+IsExplanationOfError places input source line old new (Fs fs.NoSpace) e = (new ≡ old) × ExplainsTooFewBlocks places.folder_path places.folder_limit source.shown line e
+IsExplanationOfError places input source line old new (Fs other) e = (new ≡ old) × (e ≡ explanation.Nothing)
+IsExplanationOfError places input source line old new Input e = IsFaultAnsweredByPlaces places old new (Ok e)
+IsExplanationOfError places input source line old new Output e = IsFaultAnsweredByPlaces places old new (Ok e)
 
 -- ---- why none is found out
 
@@ -120,21 +130,25 @@ FailsToCountNeededBlocks folder_of faults shown line folder (Fs e) = (e ≡ fs.N
 FailsToCountNeededBlocks folder_of faults shown line folder Output = ⊥
 
 -- The second error comes in place of an explanation of the first. Only what is read again can fail: an image that is there, or the
--- folder of one whose blocks were too few. Of a fault that a file or a folder met, memory may not have been granted to note it.
-abbrev pub IsErrorInsteadOfExplanation : {I F : Type 0} → (I → List ℕ) → (I → ℕ) → (F → List ℕ) → (F → ℕ) → (F → Option TreeSource) → Line → ToolError → ToolError → Type 0
-IsErrorInsteadOfExplanation path_of faults folder_of folder_faults shown line (Fs fs.Invalid) e =
-    IsTrueForMode line.mode (FailsToReadImage path_of faults line e) (FailsToReadImage path_of faults line e) (λ _. ⊥) (λ _. FailsToReadImage path_of faults line e)
-IsErrorInsteadOfExplanation path_of faults folder_of folder_faults shown line (Fs fs.Corrupt) e = FailsToReadImage path_of faults line e
-IsErrorInsteadOfExplanation path_of faults folder_of folder_faults shown line (Fs fs.NoSpace) e =
-    IsTrueForMode line.mode ⊥ ⊥ (λ folder. FailsToCountNeededBlocks folder_of folder_faults shown line folder e) (λ _. ⊥)
-IsErrorInsteadOfExplanation path_of faults folder_of folder_faults shown line (Fs other) e = ⊥
-IsErrorInsteadOfExplanation path_of faults folder_of folder_faults shown line Input e = e ≡ Fs fs.NoMemory
-IsErrorInsteadOfExplanation path_of faults folder_of folder_faults shown line Output e = e ≡ Fs fs.NoMemory
+-- folder of one whose blocks were too few. Of a fault at a path the places answer that memory wasn't granted to note it.
+abbrev pub IsErrorInsteadOfExplanation : {P I N F T R : Type 0} → Ghosts P I N F T R → ImageInputGhosts I → SourceGhosts F → Line → P → P → ToolError → ToolError → Type 0
+IsErrorInsteadOfExplanation places input source line old new (Fs fs.Invalid) e =
+    (new ≡ old) × IsTrueForMode line.mode (FailsToReadImage places.image_path input.faults line e) (FailsToReadImage places.image_path input.faults line e) (λ _. ⊥) (λ _. FailsToReadImage places.image_path input.faults line e)
+IsErrorInsteadOfExplanation places input source line old new (Fs fs.Corrupt) e = (new ≡ old) × FailsToReadImage places.image_path input.faults line e
+IsErrorInsteadOfExplanation places input source line old new (Fs fs.NoSpace) e =
+    (new ≡ old) × IsTrueForMode line.mode ⊥ ⊥ (λ folder. FailsToCountNeededBlocks places.folder_path source.faults source.shown line folder e) (λ _. ⊥)
+IsErrorInsteadOfExplanation places input source line old new (Fs other) e = ⊥
+IsErrorInsteadOfExplanation places input source line old new Input e = IsFaultAnsweredByPlaces places old new (Err e) × (e ≡ Fs fs.NoMemory)
+IsErrorInsteadOfExplanation places input source line old new Output e = IsFaultAnsweredByPlaces places old new (Err e) × (e ≡ Fs fs.NoMemory)
 
--- the same, or memory isn't granted for the lines of the explanation
-abbrev pub IsErrorInsteadOfExplanationOrItsLines : {I F : Type 0} → (I → List ℕ) → (I → ℕ) → (F → List ℕ) → (F → ℕ) → (F → Option TreeSource) → Line → ToolError → ToolError → Type 0
-IsErrorInsteadOfExplanationOrItsLines path_of faults folder_of folder_faults shown line error e =
-    (e ≡ Fs fs.NoMemory) ⊎ IsErrorInsteadOfExplanation path_of faults folder_of folder_faults shown line error e
+-- memory isn't granted for the lines of an explanation
+abbrev pub IsMemoryRefusedForLinesOfExplanation : {P I N F T R : Type 0} → Ghosts P I N F T R → ImageInputGhosts I → SourceGhosts F → Line → P → P → ToolError → ToolError → Type 0
+IsMemoryRefusedForLinesOfExplanation places input source line old new error e = (e ≡ Fs fs.NoMemory) × ((explanation : Explanation) × IsExplanationOfError places input source line old new error explanation)
+
+-- the second error comes in place of an explanation of the first, or of the lines of one
+abbrev pub IsErrorInsteadOfExplanationOrItsLines : {P I N F T R : Type 0} → Ghosts P I N F T R → ImageInputGhosts I → SourceGhosts F → Line → P → P → ToolError → ToolError → Type 0
+IsErrorInsteadOfExplanationOrItsLines places input source line old new error e =
+    IsMemoryRefusedForLinesOfExplanation places input source line old new error e ⊎ IsErrorInsteadOfExplanation places input source line old new error e
 
 abbrev pub not_explained_text : ToolError → List ℕ
 not_explained_text e = codes "not explained: " ++ tool_error_line e
@@ -142,21 +156,22 @@ not_explained_text e = codes "not explained: " ++ tool_error_line e
 -- ---- what is said
 
 -- what explains the line's error is said
-abbrev pub WritesExplanation : {I F W : Type 0} → (I → List ℕ) → (I → Option (List ℕ)) → (F → List ℕ) → (F → ℕ) → (F → Option TreeSource) → Ghosts W → Line → ToolError → W → W → Type 0
-WritesExplanation path_of bytes folder_of limit_of shown g line error old new =
-    (e : Explanation) × (IsExplanationOfError path_of bytes folder_of limit_of shown line error e × WritesTextOrFails g (explanation_text e) old new)
+abbrev pub WritesExplanation : {P I N F T R W : Type 0} → Ghosts P I N F T R → ImageInputGhosts I → SourceGhosts F → ToolOutputGhosts W → Line → P → P → ToolError → W → W → Type 0
+WritesExplanation places input source writer line old new error err_old err_new =
+    (e : Explanation) × (IsExplanationOfError places input source line old new error e × WritesTextOrFails writer (explanation_text e) err_old err_new)
 
 -- which error comes in place of an explanation is said
-abbrev pub WritesErrorInPlaceOfExplanation : {I F W : Type 0} → (I → List ℕ) → (I → ℕ) → (F → List ℕ) → (F → ℕ) → (F → Option TreeSource) → Ghosts W → Line → ToolError → W → W → Type 0
-WritesErrorInPlaceOfExplanation path_of faults folder_of folder_faults shown g line error old new =
-    (e : ToolError) × (IsErrorInsteadOfExplanationOrItsLines path_of faults folder_of folder_faults shown line error e × WritesTextOrFails g (not_explained_text e) old new)
+abbrev pub WritesErrorInPlaceOfExplanation : {P I N F T R W : Type 0} → Ghosts P I N F T R → ImageInputGhosts I → SourceGhosts F → ToolOutputGhosts W → Line → P → P → ToolError → W → W → Type 0
+WritesErrorInPlaceOfExplanation places input source writer line old new error err_old err_new =
+    (e : ToolError) × (IsErrorInsteadOfExplanationOrItsLines places input source line old new error e × WritesTextOrFails writer (not_explained_text e) err_old err_new)
 
 -- what explains the line's error is said, or which error comes in its place
-abbrev pub WritesExplanationOrErrorInstead : {I F W : Type 0} → (I → List ℕ) → (I → Option (List ℕ)) → (I → ℕ) → (F → List ℕ) → (F → ℕ) → (F → ℕ) → (F → Option TreeSource) → Ghosts W → Line → ToolError → W → W → Type 0
-WritesExplanationOrErrorInstead path_of bytes faults folder_of limit_of folder_faults shown g line error old new =
-    WritesExplanation path_of bytes folder_of limit_of shown g line error old new ⊎ WritesErrorInPlaceOfExplanation path_of faults folder_of folder_faults shown g line error old new
+abbrev pub WritesExplanationOrErrorInstead : {P I N F T R W : Type 0} → Ghosts P I N F T R → ImageInputGhosts I → SourceGhosts F → ToolOutputGhosts W → Line → P → P → ToolError → W → W → Type 0
+WritesExplanationOrErrorInstead places input source writer line old new error err_old err_new =
+    WritesExplanation places input source writer line old new error err_old err_new ⊎ WritesErrorInPlaceOfExplanation places input source writer line old new error err_old err_new
 
--- after the line of an error why it came is said where the command line requests it, and else nothing follows
-abbrev pub IsErrorFollowedByExplanationIfRequested : {I F W : Type 0} → (I → List ℕ) → (I → Option (List ℕ)) → (I → ℕ) → (F → List ℕ) → (F → ℕ) → (F → ℕ) → (F → Option TreeSource) → Ghosts W → Line → ToolError → W → W → Type 0
-IsErrorFollowedByExplanationIfRequested path_of bytes faults folder_of limit_of folder_faults shown g line error old new =
-    MatchBool line.explain (WritesExplanationOrErrorInstead path_of bytes faults folder_of limit_of folder_faults shown g line error old new) (new ≡ old)
+-- After the line of an error why it came is said where the command line requests it. Else nothing follows, and the places are left
+-- as they were.
+abbrev pub IsErrorFollowedByExplanationIfRequested : {P I N F T R W : Type 0} → Ghosts P I N F T R → ImageInputGhosts I → SourceGhosts F → ToolOutputGhosts W → Line → P → P → ToolError → W → W → Type 0
+IsErrorFollowedByExplanationIfRequested places input source writer line old new error err_old err_new =
+    MatchBool line.explain (WritesExplanationOrErrorInstead places input source writer line old new error err_old err_new) ((new ≡ old) × (err_new ≡ err_old))

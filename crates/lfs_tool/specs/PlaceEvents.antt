@@ -1,10 +1,15 @@
--- What is opened to be written at the paths of a command line, and how it comes back.
-use Rattle.std.specs.Prelude.{ℕ, List, Option}
+-- What is done at the paths of a command line: what is opened to be written there, how it comes back, what a
+-- follower is told, and which faults are answered.
+use Rattle.std.specs.Prelude.{ℕ, List, Option, Result}
+use Rattle.lfs_device.specs.declared.error.Error.{Error}
 use Rattle.lfs_model.specs.Listing.{UnpackingAction}
+use Rattle.lfs_tool.specs.AmountsTold.{ProgressCall}
+use Rattle.lfs_tool_folders.specs.declared.fault_log.PathFault.{PathFault}
 
 -- An image is opened at a path. It is put in its place, can't be put there, or is discarded, with the bytes that it is known to
 -- have. Of one that is discarded it is said how many of its calls have failed, and how many flushes have succeeded. A folder is
--- opened at a path. It is closed after the actions that are known to be done there.
+-- opened at a path. It is closed after the actions that are known to be done there. A work ends, of which its follower was told so
+-- much. Asked for a fault, the places answer the first one, that none is known, or that memory wasn't granted to note it.
 pub data PlaceEvent : Type 0 where
   ImageOpened : (path : List ℕ) → PlaceEvent
   ImagePlaced : (bytes : Option (List ℕ)) → PlaceEvent
@@ -12,3 +17,5 @@ pub data PlaceEvent : Type 0 where
   ImageDiscarded : (bytes : Option (List ℕ)) (faults flushes : ℕ) → PlaceEvent
   FolderOpened : (path : List ℕ) → PlaceEvent
   FolderClosed : (done : Option (List UnpackingAction)) → PlaceEvent
+  FaultAnswered : (answer : Result (Option PathFault) Error) → PlaceEvent
+  WorkEnded : (told : Option (List ProgressCall)) → PlaceEvent

@@ -3,7 +3,7 @@ ghost use Rattle.lfs_fs.specs.SessionView.{system_state_of_session_view};
 ghost use Rattle.lfs_tool.specs.AmountsTold.{amounts_of_entries, told_of_all_done};
 ghost use Rattle.lfs_tool.specs.NewImageDevice.{bytes_of_new_image_device};
 ghost use Rattle.lfs_tool.specs.Reports.{ReportsWriterFaults};
-ghost use Rattle.lfs_tool.specs.MadeImages.{AreImageBytesOfEntries, SessionBeginsOnFreshDisk, RefusesCopyOfSource, HasWrittenBeginningOfImage, HasWrittenImageOfSource, RefusesCopyOfEntries, ReportsSourceFaults};
+ghost use Rattle.lfs_tool.specs.MadeImages.{AreImageBytesOfEntries, IsToldOfCopyBeforeError, IsToldOfEntriesCopied, SessionBeginsOnFreshDisk, RefusesCopyOfSource, HasWrittenBeginningOfImage, HasWrittenImageOfSource, RefusesCopyOfEntries, ReportsSourceFaults};
 ghost use Rattle.lfs_tool_folders.specs.Entries.{AreAllEntriesOfSource};
 
 use crate::new_image_device::NewImageDevice;
@@ -56,6 +56,7 @@ pub(crate) fn new_image_of_entries<F: FollowsProgress>(
 ) -> Result<NewImageDevice, Error>
     ensures ok { IfOk result (λ d. AreImageBytesOfEntries geometry entries.now (bytes_of_new_image_device d)) }
     ensures told { OnOk result (F.told progress.new ≡ told_of_all_done (amounts_of_entries entries.now) (F.told progress.old)) }
+    ensures told_before { IfErr result (IsToldOfCopyBeforeError geometry entries.now (F.told progress.old) (F.told progress.new)) }
     ensures err { IfErr result (λ e. e ≢ Error.NoMemory → RefusesCopyOfEntries geometry entries.now e) }
 {
     let mut session = begin_session_on_fresh_disk(alloc, geometry)?;
@@ -67,8 +68,8 @@ pub(crate) fn new_image_of_entries<F: FollowsProgress>(
 /// the geometry's order. All of the source is read first. Its entries are then copied into an empty
 /// file system, depth first and in name order, the shorter names first. A folder is made. A file is
 /// opened to create it, its bytes are written at once, and it is closed. Nothing is written where
-/// one of these operations is refused. The writer is flushed once, when all is written. `progress` is told the files and
-/// bytes of the whole, and of each entry that is copied.
+/// one of these operations is refused. The writer is flushed once, when all is written. `progress` is
+/// told the files and bytes of the whole, and of each entry that is copied.
 ///
 /// # Errors
 /// - `Input` where the source couldn't be read, or a name in a folder of it is given twice or isn't
@@ -88,8 +89,8 @@ pub fn create<S: Source, W: ToolOutput, F: FollowsProgress>(
 ) -> Result<(), ToolError>
     ensures ok { OnOk result (HasWrittenImageOfSource geometry (S.shown source.old) (W.contents out.old) (W.contents out.new)) }
 
-    // The follower is told of the whole, and of each entry.
-    ensures told { OnOk result ((entries : _) × (AreAllEntriesOfSource (S.shown source.old) entries × (F.told progress.new ≡ told_of_all_done (amounts_of_entries entries) (F.told progress.old)))) }
+    // The follower is told of the whole, and of each entry that is copied.
+    ensures told { IsToldOfEntriesCopied geometry (S.shown source.old) (F.told progress.old) (F.told progress.new) result }
 
     // One flush succeeds, at the end, or the writer fails: then a beginning of the image may be written.
     ensures writer { ReportsWriterFaults W.ToolOutput out.old out.new result }

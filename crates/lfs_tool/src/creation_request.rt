@@ -1,6 +1,6 @@
 ghost use Rattle.std.specs.Prelude.{◌≡◌, ◌≢◌, ◌⊎◌, IsErrOf, OnOk};
 ghost use Rattle.lfs_tool.specs.Reports.{ReportsWriterFaults};
-ghost use Rattle.lfs_tool.specs.MadeImages.{RefusesCopyOfSource, HasWrittenBeginningOfImage, HasWrittenImageOfSource, ReportsSourceFaults};
+ghost use Rattle.lfs_tool.specs.MadeImages.{IsToldOfRequestedImage, RefusesCopyOfSource, HasWrittenBeginningOfImage, HasWrittenImageOfSource, ReportsSourceFaults};
 ghost use Rattle.lfs_tool.specs.RequestedSizes.{IsErrorWhereNoGeometryHasSizes, HasSizesOfCommandLine};
 
 use crate::{FollowsProgress, Line, ToolError, ToolOutput, create, geometry_of_image_sizes};
@@ -23,16 +23,18 @@ pub fn create_for_command_line<S: Source, W: ToolOutput, F: FollowsProgress>(
 ) -> Result<(), ToolError>
     ensures ok { OnOk result ((g : _) × (HasSizesOfCommandLine line.now g × HasWrittenImageOfSource g (S.shown source.old) (W.contents out.old) (W.contents out.new))) }
 
+    // The follower is told of the whole, and of each entry that is copied. Where no image has these sizes it is told of nothing.
+    ensures told { IsToldOfRequestedImage line.now (S.shown source.old) (F.told progress.old) (F.told progress.new) result }
+
     // One flush succeeds, at the end, or the writer fails: then a beginning of the image may be written.
     ensures writer { ReportsWriterFaults W.ToolOutput out.old out.new result }
     ensures beginning { IsErrOf result ToolError.Output
         → (g : _) × (HasSizesOfCommandLine line.now g × HasWrittenBeginningOfImage g (S.shown source.old) (W.contents out.old) (W.contents out.new)) }
 
-    // When each other error comes. The source has a fault at `Input` alone.
+    // When each other error comes. Where no image has these sizes, which `told` says is `Invalid`, the source isn't read.
     ensures refused { (e : _) → IsErrOf result (ToolError.Fs e) → e ≢ Error.NoMemory
-        → IsErrorWhereNoGeometryHasSizes line.now e ⊎ ((g : _) × (HasSizesOfCommandLine line.now g × RefusesCopyOfSource g (S.shown source.old) e)) }
+        → (IsErrorWhereNoGeometryHasSizes line.now e × (source.new ≡ source.old)) ⊎ ((g : _) × (HasSizesOfCommandLine line.now g × RefusesCopyOfSource g (S.shown source.old) e)) }
     ensures source { ReportsSourceFaults (S.faults source.old) (S.faults source.new) (S.shown source.old) result }
-    ensures unread { IsErrorWhereNoGeometryHasSizes line.now Error.Invalid → (source.new ≡ source.old) × IsErrOf result (ToolError.Fs Error.Invalid) }
 {
     match geometry_of_image_sizes(line.size, line.block_size, line.page) {
         Ok(geometry) => create(

@@ -1,7 +1,7 @@
 // The cause for which a command line wasn't carried out.
 
 ghost use Rattle.std.specs.Prelude.{◌≡◌, IfErr, IfOk, IfSome, length, take};
-ghost use Rattle.lfs_tool.specs.Explained.{FailsToCountNeededBlocks, FailsToReadImage, ExplainsTooFewBlocks, ExplainsBrokenSizeRule, ExplainsErrorByImageCheck, IsSizeOfMadeOrReadImage, IsExplanationOfError, IsExplanationPathFaultOrNothing, IsErrorFollowedByExplanationIfRequested, IsErrorInsteadOfExplanation, IsErrorInsteadOfExplanationOrItsLines, ExplainsNeededBlocksOfFolder, WritesExplanationOrErrorInstead, explanation_text, not_explained_text};
+ghost use Rattle.lfs_tool.specs.Explained.{FailsToCountNeededBlocks, FailsToReadImage, ExplainsTooFewBlocks, ExplainsBrokenSizeRule, ExplainsErrorByImageCheck, IsSizeOfMadeOrReadImage, IsExplanationOfError, IsFaultAnsweredByPlaces, IsErrorFollowedByExplanationIfRequested, IsErrorInsteadOfExplanation, IsErrorInsteadOfExplanationOrItsLines, ExplainsNeededBlocksOfFolder, WritesExplanationOrErrorInstead, explanation_text, not_explained_text};
 ghost use Rattle.lfs_tool.specs.Reports.{WritesTextOrFails};
 ghost use Rattle.lfs_tool.specs.RunsAtPaths.{IsTrueOfSomethingAtPath, IsTrueForMode};
 
@@ -81,9 +81,9 @@ fn explanation_by_check<P: Places>(
     Ok(Explanation::Checked(checked))
 }
 
-// Returns the fault that a file or a folder met.
-fn explanation_by_path_fault<P: Places>(places: &P) -> Result<Explanation, ToolError>
-    ensures fault { IfOk result IsExplanationPathFaultOrNothing }
+// Returns the fault that a file or a folder met, as the places answer it.
+fn explanation_by_path_fault<P: Places>(places: &mut P) -> Result<Explanation, ToolError>
+    ensures answered { IsFaultAnsweredByPlaces P.Places places.old places.new result }
     ensures err { IfErr result (λ e. e ≡ ToolError.Fs Error.NoMemory) }
 {
     match places.fault()? {
@@ -126,7 +126,8 @@ fn explanation_of_too_few_blocks<P: Places>(
     }
 }
 
-/// Returns the cause for which a command line ended in this error.
+/// Returns the cause for which a command line ended in this error. At `Input` and `Output` the places are
+/// asked for their fault.
 ///
 /// # Errors
 /// `Input` where the image or the folder is read again and that fails, or a folder has bad names.
@@ -135,18 +136,18 @@ fn explanation_of_too_few_blocks<P: Places>(
 /// `NoSpace`, none comes but `Fs(NoMemory)` at `Input` and `Output`.
 pub fn explanation_of_error<P: Places>(
     alloc: Global,
-    places: &P,
+    places: &mut P,
     line: &Line<'_>,
     error: ToolError,
 ) -> Result<Explanation, ToolError>
-    ensures ok { IfOk result (IsExplanationOfError P.image_path P.Image.remaining P.folder_path P.folder_limit P.Folder.shown line.now error) }
-    ensures err { IfErr result (IsErrorInsteadOfExplanation P.image_path P.Image.faults P.folder_path P.Folder.faults P.Folder.shown line.now error) }
+    ensures ok { IfOk result (IsExplanationOfError P.Places P.Image.ImageInput P.Folder.Source line.now places.old places.new error) }
+    ensures err { IfErr result (IsErrorInsteadOfExplanation P.Places P.Image.ImageInput P.Folder.Source line.now places.old places.new error) }
 {
     match error {
         ToolError::Input | ToolError::Output => explanation_by_path_fault(places),
-        ToolError::Fs(Error::Invalid) => explanation_by_broken_size_rule(alloc, places, line),
-        ToolError::Fs(Error::Corrupt) => explanation_by_check(alloc, places, line),
-        ToolError::Fs(Error::NoSpace) => explanation_of_too_few_blocks(alloc, places, line),
+        ToolError::Fs(Error::Invalid) => explanation_by_broken_size_rule(alloc, &*places, line),
+        ToolError::Fs(Error::Corrupt) => explanation_by_check(alloc, &*places, line),
+        ToolError::Fs(Error::NoSpace) => explanation_of_too_few_blocks(alloc, &*places, line),
         ToolError::Fs(_) => Ok(Explanation::Nothing),
     }
 }
@@ -154,12 +155,12 @@ pub fn explanation_of_error<P: Places>(
 // Returns the lines that explain the error in which a command line ended.
 fn explanation_lines_of_error<P: Places>(
     alloc: Global,
-    places: &P,
+    places: &mut P,
     line: &Line<'_>,
     error: ToolError,
 ) -> Result<Vec<u8>, ToolError>
-    ensures ok { IfOk result (λ text. (e : _) × (IsExplanationOfError P.image_path P.Image.remaining P.folder_path P.folder_limit P.Folder.shown line.now error e × (text.items ≡ explanation_text e))) }
-    ensures err { IfErr result (IsErrorInsteadOfExplanationOrItsLines P.image_path P.Image.faults P.folder_path P.Folder.faults P.Folder.shown line.now error) }
+    ensures ok { IfOk result (λ text. (e : _) × (IsExplanationOfError P.Places P.Image.ImageInput P.Folder.Source line.now places.old places.new error e × (text.items ≡ explanation_text e))) }
+    ensures err { IfErr result (IsErrorInsteadOfExplanationOrItsLines P.Places P.Image.ImageInput P.Folder.Source line.now places.old places.new error) }
 {
     let explanation = match explanation_of_error(alloc, places, line, error) {
         Ok(explanation) => explanation,
@@ -191,12 +192,12 @@ fn write_error_in_place_of_explanation<E: ToolOutput>(err: &mut E, error: ToolEr
 // Writes the cause for which a line ended in this error, or the error that comes in place of it.
 fn write_explanation_of_error<P: Places, E: ToolOutput>(
     alloc: Global,
-    places: &P,
+    places: &mut P,
     line: &Line<'_>,
     error: ToolError,
     err: &mut E,
 )
-    ensures { WritesExplanationOrErrorInstead P.image_path P.Image.remaining P.Image.faults P.folder_path P.folder_limit P.Folder.faults P.Folder.shown E.ToolOutput line.now error err.old err.new }
+    ensures { WritesExplanationOrErrorInstead P.Places P.Image.ImageInput P.Folder.Source E.ToolOutput line.now places.old places.new error err.old err.new }
 {
     match explanation_lines_of_error(alloc, places, line, error) {
         Ok(text) => write_explanation_lines(err, text.as_slice()),
@@ -207,12 +208,12 @@ fn write_explanation_of_error<P: Places, E: ToolOutput>(
 // Writes the cause after the line of an error, where the command line requests it.
 pub(crate) fn write_explanation_if_requested<P: Places, E: ToolOutput>(
     alloc: Global,
-    places: &P,
+    places: &mut P,
     line: &Line<'_>,
     error: ToolError,
     err: &mut E,
 )
-    ensures { IsErrorFollowedByExplanationIfRequested P.image_path P.Image.remaining P.Image.faults P.folder_path P.folder_limit P.Folder.faults P.Folder.shown E.ToolOutput line.now error err.old err.new }
+    ensures { IsErrorFollowedByExplanationIfRequested P.Places P.Image.ImageInput P.Folder.Source E.ToolOutput line.now places.old places.new error err.old err.new }
 {
     if line.explain {
         write_explanation_of_error(alloc, places, line, error, err);

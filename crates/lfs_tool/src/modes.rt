@@ -1,8 +1,8 @@
 // The modes of a command line, at its places.
 
-ghost use Rattle.std.specs.Prelude.{◌≡◌, ◌≢◌, IfErr, IfOk, IsErrOf, OnOk, false, true};
+ghost use Rattle.std.specs.Prelude.{◌≡◌, ◌≢◌, IfErr, IfOk, IsErrOf, OnOk, false};
 ghost use Rattle.lfs_tool.specs.Reports.{ReportsWriterFaults};
-ghost use Rattle.lfs_tool.specs.RunsAtPaths.{IsTrueForMode, ChecksImageAtPath, HasFaultAtPath, FailsToReadFolder, IsModeDone, LeavesFolderUnfinished, LeavesModeUndone, LeavesNoNewImage, ListsImageAtPath, MakesImageAtPath, RefusesToListAtPath, RefusesToMakeImage, UnpacksImageAtPath, is_mode_that_writes_lines};
+ghost use Rattle.lfs_tool.specs.RunsAtPaths.{BeginsToCheckImageAtPath, BeginsToListImageAtPath, ChecksImageAtPath, EndsModeWithError, HasFaultAtPath, FailsToReadFolder, IsModeDone, LeavesFolderUnfinished, LeavesNoNewImage, ListsImageAtPath, MakesImageAtPath, RefusesToListAtPath, RefusesToMakeImage, UnpacksImageAtPath, is_mode_that_writes_lines};
 
 use crate::{
     Line, Mode, Places, ToolError, ToolOutput, check_for_command_line, create_for_command_line,
@@ -20,6 +20,7 @@ fn list_image_at_path<P: Places, W: ToolOutput>(
 ) -> Result<(), ToolError>
     ensures listed { OnOk result (ListsImageAtPath P.image_path P.Image.remaining line.now (W.contents out.old) (W.contents out.new)) }
     ensures writer { ReportsWriterFaults W.ToolOutput out.old out.new result }
+    ensures beginning { IsErrOf result ToolError.Output → BeginsToListImageAtPath P.image_path P.Image.remaining line.now (W.contents out.old) (W.contents out.new) }
     ensures refused { (e : _) → IsErrOf result (ToolError.Fs e) → e ≢ Error.NoMemory → RefusesToListAtPath P.image_path P.Image.remaining line.now e }
     ensures input { IsErrOf result ToolError.Input → HasFaultAtPath P.image_path P.Image.faults line.now.image.now }
 {
@@ -38,6 +39,7 @@ fn check_image_at_path<P: Places, W: ToolOutput>(
 ) -> Result<bool, ToolError>
     ensures checked { IfOk result (λ accepted. ChecksImageAtPath P.image_path P.Image.remaining line.now accepted (W.contents out.old) (W.contents out.new)) }
     ensures writer { ReportsWriterFaults W.ToolOutput out.old out.new result }
+    ensures beginning { IsErrOf result ToolError.Output → BeginsToCheckImageAtPath P.image_path P.Image.remaining line.now (W.contents out.old) (W.contents out.new) }
     ensures refused { (e : _) → IsErrOf result (ToolError.Fs e) → e ≡ Error.NoMemory }
     ensures input { IsErrOf result ToolError.Input → HasFaultAtPath P.image_path P.Image.faults line.now.image.now }
 {
@@ -62,7 +64,9 @@ fn create_image_at_path<P: Places>(
     let mut source = places.folder(folder, line.size)?;
     let mut image = places.new_image(line.image)?;
     let mut progress = places.progress();
-    match create_for_command_line(alloc, line, &mut source, &mut image, &mut progress) {
+    let created = create_for_command_line(alloc, line, &mut source, &mut image, &mut progress);
+    places.end_progress(progress);
+    match created {
         Ok(()) => places.place_image(image),
         Err(error) => {
             places.discard_image(image);
@@ -87,6 +91,7 @@ fn unpack_image_at_path<P: Places>(
     let mut target = places.new_folder(folder)?;
     let mut progress = places.progress();
     let unpacked = unpack_for_command_line(alloc, line, &mut image, &mut target, &mut progress);
+    places.end_progress(progress);
     places.close_folder(target);
     unpacked
 }
@@ -95,7 +100,8 @@ fn unpack_image_at_path<P: Places>(
 /// are written to `out`. Returns false where an image was checked that isn't accepted, and else true.
 ///
 /// A listing and a check open nothing to be written. An image that is made is put in its place once it is
-/// whole. At any error nothing is put in its place.
+/// whole. At any error nothing is put in its place. A making and an unpacking are followed by what the
+/// places give for that, which they have back as soon as the work ends.
 ///
 /// # Errors
 /// Those of `lfs_tool::list`, `lfs_tool::check`, `lfs_tool::unpack` or `create_for_command_line`, at the
@@ -107,20 +113,9 @@ pub fn run_mode_of_command_line<P: Places, W: ToolOutput>(
     line: &Line<'_>,
     out: &mut W,
 ) -> Result<bool, ToolError>
-    ensures writer { is_mode_that_writes_lines line.now.mode ≡ true → ReportsWriterFaults W.ToolOutput out.old out.new result }
-    ensures unlisted { is_mode_that_writes_lines line.now.mode ≡ false → out.new ≡ out.old }
     ensures done { IfOk result (λ accepted. IsModeDone P.Places P.Image.ImageInput P.NewImage.ToolOutput P.Folder.Source P.NewFolder.Target W.ToolOutput line.now places.old places.new out.old out.new accepted) }
-    ensures refused { (e : _) → IsErrOf result (ToolError.Fs e) → e ≢ Error.NoMemory → IsTrueForMode line.now.mode
-        (RefusesToListAtPath P.image_path P.Image.remaining line.now e)
-        ⊥
-        (RefusesToMakeImage P.folder_path P.folder_limit P.Folder.shown line.now e)
-        (λ _. RefusesToListAtPath P.image_path P.Image.remaining line.now e) }
-    ensures input { IsErrOf result ToolError.Input → IsTrueForMode line.now.mode
-        (HasFaultAtPath P.image_path P.Image.faults line.now.image.now)
-        (HasFaultAtPath P.image_path P.Image.faults line.now.image.now)
-        (FailsToReadFolder P.folder_path P.Folder.faults P.Folder.shown)
-        (λ _. HasFaultAtPath P.image_path P.Image.faults line.now.image.now) }
-    ensures left { IfErr result (LeavesModeUndone P.Places P.Image.ImageInput P.NewImage.ToolOutput P.Folder.Source P.NewFolder.Target line.now places.old places.new) }
+    ensures failed { IfErr result (EndsModeWithError P.Places P.Image.ImageInput P.NewImage.ToolOutput P.Folder.Source P.NewFolder.Target W.ToolOutput line.now places.old places.new out.old out.new) }
+    ensures unlisted { is_mode_that_writes_lines line.now.mode ≡ false → out.new ≡ out.old }
 {
     match line.mode {
         Mode::Check => return check_image_at_path(alloc, &*places, line, out),

@@ -1,13 +1,15 @@
 ghost use Rattle.std.specs.Prelude.{◌≡◌, List, [], ◌∷◌};
 ghost use Rattle.std.specs.Borrow.{ftrue};
-ghost use Rattle.lfs_tool.specs.PlaceEvents.{FolderClosed, FolderOpened, ImageDiscarded, ImageNotPlaced, ImageOpened, ImagePlaced, PlaceEvent};
+ghost use Rattle.lfs_tool.specs.PlaceEvents.{FaultAnswered, FolderClosed, FolderOpened, ImageDiscarded, ImageNotPlaced, ImageOpened, ImagePlaced, PlaceEvent, WorkEnded};
 
-use crate::ToolOutput;
-use lfs_tool_folders::Target;
+use crate::{FollowsProgress, ToolOutput};
+use lfs_device::Error;
+use lfs_tool_folders::{PathFault, Target};
 use std::marker::Model;
 
-/// What was opened to be written at paths, and how it came back, for those who write `Places`. Only
-/// proofs read it: it takes no memory, and its methods do nothing at run time.
+/// What was opened to be written at paths, how it came back, what a follower was told, and which faults
+/// were answered, for those who write `Places`. Only proofs read it: it takes no memory, and its methods
+/// do nothing at run time.
 #[derive(Drop)]
 pub struct PlaceHistory {
     pub ghost events: { List PlaceEvent },
@@ -65,6 +67,20 @@ impl PlaceHistory {
         ensures { result.events ≡ FolderClosed (T.done folder.now) ∷ self.now.events }
     {
         PlaceHistory::with_events_chosen_by_proof(self, folder)
+    }
+
+    /// Adds that a work has ended.
+    pub fn with_ended_work<F: FollowsProgress>(&self, progress: &F) -> PlaceHistory
+        ensures { result.events ≡ WorkEnded (F.told progress.now) ∷ self.now.events }
+    {
+        PlaceHistory::with_events_chosen_by_proof(self, progress)
+    }
+
+    /// Adds what was answered of a fault.
+    pub fn with_answered_fault(&self, answer: &Result<Option<PathFault>, Error>) -> PlaceHistory
+        ensures { result.events ≡ FaultAnswered answer.now ∷ self.now.events }
+    {
+        PlaceHistory::with_events_chosen_by_proof(self, answer)
     }
 
     // Makes any history. The caller's proof picks the events from what the two references point to.

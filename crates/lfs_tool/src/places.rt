@@ -1,5 +1,6 @@
 ghost use Rattle.std.specs.Prelude.{◌≡◌, ℕ, IfErr, IfOk, List, OnOk, ◌∷◌};
-ghost use Rattle.lfs_tool.specs.PlaceEvents.{FolderClosed, FolderOpened, ImageDiscarded, ImageNotPlaced, ImageOpened, ImagePlaced, PlaceEvent};
+ghost use Rattle.lfs_tool.specs.AmountsTold.{IsToldOfNothing};
+ghost use Rattle.lfs_tool.specs.PlaceEvents.{FaultAnswered, FolderClosed, FolderOpened, ImageDiscarded, ImageNotPlaced, ImageOpened, ImagePlaced, PlaceEvent, WorkEnded};
 
 use crate::{FollowsProgress, ImageInput, ToolError, ToolOutput};
 use lfs_device::Error;
@@ -9,7 +10,8 @@ use lfs_tool_folders::{PathFault, Source, Target};
 ///
 /// Each call for a file or a folder returns `NoMemory` where memory isn't granted, and no other error.
 /// Give back what is opened to be written when the work ends: an image to `place_image` or to
-/// `discard_image`, a folder to `close_folder`. A contract sees by that what was done there in all.
+/// `discard_image`, a folder to `close_folder`, and what followed the work to `end_progress`. A contract
+/// sees by that what was done there in all.
 pub trait Places {
     /// An image that is read.
     type Image: ImageInput + Drop;
@@ -38,7 +40,8 @@ pub trait Places {
 
     ghost new_folder_path: { Self.NewFolder → List ℕ };
 
-    // What was opened to be written, and how it came back, the newest first.
+    // What was opened to be written, how it came back, what a follower was told, and which faults were
+    // answered, the newest first.
     ghost history: { Self → List PlaceEvent };
 
     /// Returns the image at a path, to be read.
@@ -82,14 +85,20 @@ pub trait Places {
     fn close_folder(&mut self, folder: Self::NewFolder)
         ensures { history self.new ≡ FolderClosed (Self.NewFolder.done folder) ∷ history self.old };
 
-    /// Returns what follows how far the work is that begins now.
-    fn progress(&self) -> Self::Progress;
+    /// Returns what follows how far the work is that begins now. It was told of nothing yet.
+    fn progress(&self) -> Self::Progress
+        ensures { IsToldOfNothing (Self.Progress.told result) };
+
+    /// Takes back what followed a work that has ended.
+    fn end_progress(&mut self, progress: Self::Progress)
+        ensures { history self.new ≡ WorkEnded (Self.Progress.told progress) ∷ history self.old };
 
     /// Returns the first fault that one of these met since the last call, where one is known, and forgets
     /// it. No contract says which it is.
     ///
     /// # Errors
     /// `NoMemory` where memory wasn't granted to note it.
-    fn fault(&self) -> Result<Option<PathFault>, Error>
+    fn fault(&mut self) -> Result<Option<PathFault>, Error>
+        ensures answered { history self.new ≡ FaultAnswered result ∷ history self.old }
         ensures err { IfErr result (λ e. e ≡ Error.NoMemory) };
 }

@@ -1,13 +1,13 @@
-ghost use Rattle.std.specs.Prelude.{◌≡◌, ◌≤◌, ◌<◌, ◌+◌, ◌++◌, ◌⊎◌, false, length, true, None, Option, Some};
+ghost use Rattle.std.specs.Prelude.{◌≡◌, ◌≤◌, ◌<◌, ◌+◌, ◌++◌, ◌⊎◌, [], ◌∷◌, List, false, length, true, None, Option, Some};
 ghost use Rattle.std.specs.Option.{option_and_then};
 ghost use Rattle.std.specs.Duration.{as_nanos};
 ghost use Rattle.std.specs.Fmt.{decimal};
 ghost use Rattle.arrayvec.specs.ArrayString.{array_string_len};
 ghost use Rattle.lfs_tool.specs.Reports.{WritesTextOrFails};
-ghost use Rattle.lfs_tool.specs.AmountsTold.{AmountsTold, amounts_told, told_with_more_done, told_with_whole};
+ghost use Rattle.lfs_tool.specs.AmountsTold.{AddCalled, BeginCalled, ProgressCall, told_with_more_done, told_with_whole};
 ghost use Rattle.lfs_tool.specs.ProgressLines.{no_amount, part_of_whole, progress_line, sum_of_amounts};
 
-use crate::{ToolOutput, write_bytes_and_flush};
+use crate::{ProgressCalls, ToolOutput, write_bytes_and_flush};
 use arrayvec::ArrayString;
 use itoa::Buffer;
 use std::time::{Clock, Duration, Instant};
@@ -46,8 +46,8 @@ impl FilesAndBytes {
 
 /// Is told how far the making or the unpacking of an image is.
 pub trait FollowsProgress {
-    // The whole and what is done, where it keeps them.
-    ghost told: { Self → Option AmountsTold } = { λ _. None };
+    // Its calls, the newest first, where it keeps them.
+    ghost told: { Self → Option (List ProgressCall) } = { λ _. None };
 
     /// So many files and bytes are to be done.
     fn begin(&mut self, whole: FilesAndBytes)
@@ -93,6 +93,7 @@ pub struct Progress<W: ToolOutput + Drop, C: Clock + Drop> {
     whole: FilesAndBytes,
     done: FilesAndBytes,
     is_shown: bool,
+    calls: ProgressCalls,
     ghost late: { 1_000_000_000 ≤ as_nanos next },
 }
 
@@ -106,6 +107,7 @@ impl<W: ToolOutput + Drop, C: Clock + Drop> Drop for Progress<W, C> {
             whole: _,
             done: _,
             is_shown,
+            calls: _,
         } = self;
         let mut out = out;
         if is_shown {
@@ -156,6 +158,7 @@ impl<W: ToolOutput + Drop, C: Clock + Drop> Progress<W, C> {
         ensures out { (result.out ≡ out) × (result.is_shown ≡ false) }
         ensures amounts { (result.whole ≡ no_amount) × (result.done ≡ no_amount) }
         ensures next { as_nanos result.next ≡ 1_000_000_000 }
+        ensures calls { result.calls.calls ≡ [] }
     {
         let began = Instant::now(&clock).ok();
         Progress {
@@ -166,12 +169,13 @@ impl<W: ToolOutput + Drop, C: Clock + Drop> Progress<W, C> {
             whole: FilesAndBytes::none(),
             done: FilesAndBytes::none(),
             is_shown: false,
+            calls: ProgressCalls::none(),
         }
     }
 
     // Writes the line, where it is time so long after the beginning.
     fn write_progress_line_if_due_at_elapsed_time(&mut self, gone: Duration)
-        ensures amounts { (self.new.whole ≡ self.old.whole) × (self.new.done ≡ self.old.done) }
+        ensures amounts { (self.new.whole ≡ self.old.whole) × (self.new.done ≡ self.old.done) × (self.new.calls ≡ self.old.calls) }
         ensures early { as_nanos gone ≤ as_nanos self.old.next → self.new ≡ self.old }
         ensures line { as_nanos self.old.next < as_nanos gone → WritesTextOrFails W.ToolOutput (progress_line self.old.done self.old.whole) self.old.out self.new.out }
         ensures shown { as_nanos self.old.next < as_nanos gone → self.new.is_shown ≡ true }
@@ -190,7 +194,7 @@ impl<W: ToolOutput + Drop, C: Clock + Drop> Progress<W, C> {
 
     // Writes the line, where it is time.
     fn write_progress_line_if_due(&mut self)
-        ensures amounts { (self.new.whole ≡ self.old.whole) × (self.new.done ≡ self.old.done) }
+        ensures amounts { (self.new.whole ≡ self.old.whole) × (self.new.done ≡ self.old.done) × (self.new.calls ≡ self.old.calls) }
         ensures line { (self.new.out ≡ self.old.out) ⊎ WritesTextOrFails W.ToolOutput (progress_line self.old.done self.old.whole) self.old.out self.new.out }
     {
         let Some(began) = self.began else {
@@ -204,21 +208,25 @@ impl<W: ToolOutput + Drop, C: Clock + Drop> Progress<W, C> {
 }
 
 impl<W: ToolOutput + Drop, C: Clock + Drop> FollowsProgress for Progress<W, C> {
-    ghost told = { λ p. Some (amounts_told p.whole p.done) };
+    ghost told = { λ p. Some p.calls.calls };
 
     fn begin(&mut self, whole: FilesAndBytes)
         ensures amounts { (self.new.whole ≡ whole) × (self.new.done ≡ self.old.done) }
+        ensures calls { self.new.calls.calls ≡ BeginCalled whole ∷ self.old.calls.calls }
         ensures line { (self.new.out ≡ self.old.out) ⊎ WritesTextOrFails W.ToolOutput (progress_line self.new.done self.new.whole) self.old.out self.new.out }
     {
         self.whole = whole;
+        self.calls = self.calls.with_begin(whole);
         self.write_progress_line_if_due();
     }
 
     fn add(&mut self, more: FilesAndBytes)
         ensures amounts { (self.new.whole ≡ self.old.whole) × (self.new.done ≡ sum_of_amounts self.old.done more) }
+        ensures calls { self.new.calls.calls ≡ AddCalled more ∷ self.old.calls.calls }
         ensures line { (self.new.out ≡ self.old.out) ⊎ WritesTextOrFails W.ToolOutput (progress_line self.new.done self.new.whole) self.old.out self.new.out }
     {
         self.done = self.done.plus(more);
+        self.calls = self.calls.with_add(more);
         self.write_progress_line_if_due();
     }
 }

@@ -1,4 +1,4 @@
-ghost use Rattle.std.specs.Prelude.{◌≡◌, IfOk};
+ghost use Rattle.std.specs.Prelude.{◌≡◌, IfOk, is_some};
 ghost use Rattle.lfs_tool_folders.specs.Paths.{image_path};
 ghost use Rattle.lfs_tool.specs.Paths.{path_of_old_image_file};
 ghost use Rattle.lfs_tool.specs.StandardStreams.{is_standard_stream, is_path_of_standard_stream, path_or_dash_of_file_or_standard};
@@ -202,15 +202,25 @@ where
         self.history = self.history.with_closed_folder(&folder);
     }
 
-    fn progress(&self) -> Option<Progress<WatchedStream<E>, C>> {
+    fn progress(&self) -> Option<Progress<WatchedStream<E>, C>>
+        ensures shown { is_some result ≡ is_some self.now.terminal }
+    {
         match self.terminal {
             Some((out, clock)) => Some(Progress::new(WatchedStream::new(out), clock)),
             None => None,
         }
     }
 
-    fn fault(&self) -> Result<Option<PathFault>, Error> {
-        let fault = self.log.take()?;
-        Ok(fault)
+    fn end_progress(&mut self, progress: Option<Progress<WatchedStream<E>, C>>) {
+        self.history = self.history.with_ended_work(&progress);
+    }
+
+    fn fault(&mut self) -> Result<Option<PathFault>, Error> {
+        let answer = match self.log.take() {
+            Ok(fault) => Ok(fault),
+            Err(AllocError) => Err(Error::NoMemory),
+        };
+        self.history = self.history.with_answered_fault(&answer);
+        answer
     }
 }

@@ -4,8 +4,7 @@ ghost use Rattle.std.specs.Prelude.{◌≡◌, IfErr, IfOk, IfSome, IsErrOf, OnO
 ghost use Rattle.std.specs.Io.KnownBytes.{Appends};
 ghost use Rattle.lfs_tool.specs.KnownBytes.{AppendsBeginningOfBytes, IsListingRefusal};
 ghost use Rattle.lfs_tool.specs.Listings.{IsListingTextOfImage, RefusesToList};
-ghost use Rattle.lfs_tool.specs.AmountsTold.{amounts_of_unpacking_actions, told_of_all_done};
-ghost use Rattle.lfs_tool.specs.Unpackings.{AreActionsUnpackingImage, FailsToUnpackKnownImage, HasUnpackedImage};
+ghost use Rattle.lfs_tool.specs.Unpackings.{AreActionsUnpackingImage, FailsToUnpackKnownImage, HasUnpackedImage, IsToldOfActionsDone};
 ghost use Rattle.lfs_tool.specs.CheckResults.{IsCheckResultOfBytes, is_accepted_check_result};
 ghost use Rattle.lfs_tool.specs.CheckedLines.{check_result_text};
 ghost use Rattle.lfs_tool.specs.Reports.{IsReadToEndOrPastImageLimit, IsThisErrorExactlyIfOneCallFailed, ReportsWriterFaults};
@@ -83,9 +82,8 @@ pub fn unpack_for_command_line<R: ImageInput, T: Target, F: FollowsProgress>(
     ensures done { OnOk result (IfSome (R.remaining image.old) (λ bytes.
         HasUnpackedImage line.now.block_size line.now.page bytes (T.done target.old) (T.done target.new))) }
 
-    // The follower is told of the whole, and of each entry.
-    ensures told { OnOk result (IfSome (R.remaining image.old) (λ bytes. (actions : _)
-        × (AreActionsUnpackingImage line.now.block_size line.now.page bytes actions × (F.told progress.new ≡ told_of_all_done (amounts_of_unpacking_actions actions) (F.told progress.old))))) }
+    // The follower is told of the whole, and of each action that is done.
+    ensures told { IfSome (R.remaining image.old) (λ bytes. IsToldOfActionsDone (AreActionsUnpackingImage line.now.block_size line.now.page bytes) (T.done target.old) (T.done target.new) (F.told progress.old) (F.told progress.new) result) }
 
     // Nothing is done, or a beginning of the actions, where the target failed or memory ran out.
     ensures failed { IfErr result (FailsToUnpackKnownImage line.now.block_size line.now.page (R.remaining image.old) (T.done target.old) (T.done target.new)) }

@@ -8,6 +8,7 @@ ghost use Rattle.lfs_model.specs.Tree.{FileNode};
 ghost use Rattle.lfs_fs.specs.FlagsView.{flags_view};
 ghost use Rattle.lfs_fs.specs.SessionView.{system_state_of_session_view};
 ghost use Rattle.lfs_tool.specs.AmountsTold.{amount_of_entry, amounts_of_entries, sum_with_amounts, told_of_all_done};
+ghost use Rattle.lfs_tool.specs.MadeImages.{IsToldOfEntriesBeforeError};
 ghost use Rattle.lfs_tool.specs.ProgressLines.{no_amount};
 ghost use Rattle.lfs_tool.specs.AppliedOperations.{AreOperationsApplied, AppliesOperationsUntilError, IsHealthyWithoutOpenFile, IsFirstRefusalAmongOperations, copying_operations_of_entry, copying_operations_of_entries};
 
@@ -94,6 +95,7 @@ pub(crate) fn copy_entries_into_session<F: FollowsProgress>(
     ensures carried { OnOk result (AreOperationsApplied (system_state_of_session_view session.old) (copying_operations_of_entries entries.now) (system_state_of_session_view session.new)) }
     ensures refused { IfErr result (λ e. e ≢ Error.NoMemory → IsFirstRefusalAmongOperations (system_state_of_session_view session.old) (copying_operations_of_entries entries.now) e) }
     ensures told { OnOk result (F.told progress.new ≡ told_of_all_done (amounts_of_entries entries.now) (F.told progress.old)) }
+    ensures told_before { IfErr result (IsToldOfEntriesBeforeError (system_state_of_session_view session.old) entries.now (F.told progress.old) (F.told progress.new)) }
 {
     progress.begin(file_and_byte_counts_of_entries(entries));
     for entry in entries {

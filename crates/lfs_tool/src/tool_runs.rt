@@ -39,8 +39,8 @@ fn run_line_and_return_exit_status<P: Places, O: ToolOutput, E: ToolOutput>(
 ) -> u8
     ensures answered { IsCommandLineDoneOrErrorReported E.ToolOutput
         (IsModeDone P.Places P.Image.ImageInput P.NewImage.ToolOutput P.Folder.Source P.NewFolder.Target O.ToolOutput line.now places.old places.new out.old out.new)
-        (λ e shown ends. EndsModeWithError P.Places P.Image.ImageInput P.NewImage.ToolOutput P.Folder.Source P.NewFolder.Target O.ToolOutput line.now places.old places.new out.old out.new e
-        × IsErrorFollowedByExplanationIfRequested P.image_path P.Image.remaining P.Image.faults P.folder_path P.folder_limit P.Folder.faults P.Folder.shown E.ToolOutput line.now e shown ends)
+        (λ e shown ends. (after : _) × (EndsModeWithError P.Places P.Image.ImageInput P.NewImage.ToolOutput P.Folder.Source P.NewFolder.Target O.ToolOutput line.now places.old after out.old out.new e
+        × IsErrorFollowedByExplanationIfRequested P.Places P.Image.ImageInput P.Folder.Source E.ToolOutput line.now after places.new e shown ends))
         result err.old err.new }
     ensures unlisted { is_mode_that_writes_lines line.now.mode ≡ false → out.new ≡ out.old }
     ensures done { result ≡ 0 → IsModeDone P.Places P.Image.ImageInput P.NewImage.ToolOutput P.Folder.Source P.NewFolder.Target O.ToolOutput line.now places.old places.new out.old out.new true }
@@ -50,7 +50,7 @@ fn run_line_and_return_exit_status<P: Places, O: ToolOutput, E: ToolOutput>(
         Ok(false) => 1,
         Err(error) => {
             let status = report(&Fault::Tool(error), out, err);
-            write_explanation_if_requested(alloc, &*places, line, error, err);
+            write_explanation_if_requested(alloc, places, line, error, err);
             status
         }
     }
@@ -69,8 +69,8 @@ pub fn run_and_return_exit_status<P: Places, O: ToolOutput, E: ToolOutput>(
 ) -> u8
     ensures answered { IfOk words (λ all. IsRequestDoneOrFailureReported E.ToolOutput (map string_bytes all.items)
         (λ line. IsModeDone P.Places P.Image.ImageInput P.NewImage.ToolOutput P.Folder.Source P.NewFolder.Target O.ToolOutput line places.old places.new out.old out.new)
-        (λ line e shown ends. EndsModeWithError P.Places P.Image.ImageInput P.NewImage.ToolOutput P.Folder.Source P.NewFolder.Target O.ToolOutput line places.old places.new out.old out.new e
-        × IsErrorFollowedByExplanationIfRequested P.image_path P.Image.remaining P.Image.faults P.folder_path P.folder_limit P.Folder.faults P.Folder.shown E.ToolOutput line e shown ends)
+        (λ line e shown ends. (after : _) × (EndsModeWithError P.Places P.Image.ImageInput P.NewImage.ToolOutput P.Folder.Source P.NewFolder.Target O.ToolOutput line places.old after out.old out.new e
+        × IsErrorFollowedByExplanationIfRequested P.Places P.Image.ImageInput P.Folder.Source E.ToolOutput line after places.new e shown ends))
         (λ e. LeavesPlacesAndShowsHelp O.ToolOutput (Fault.Line e) places.old places.new out.old out.new) result err.old err.new) }
     ensures unlisted { IfOk words (λ all. AreWordsOfValidCommandLine (map string_bytes all.items) → is_list_requested (rows (map string_bytes all.items)) ≡ false → is_check_requested (rows (map string_bytes all.items)) ≡ false → out.new ≡ out.old) }
 

@@ -5,9 +5,9 @@ ghost use Rattle.lfs_device.specs.RamDevice.{ram_blocks, geometry_of_ram_device}
 ghost use Rattle.lfs_device.specs.Shown.{disk_of_geometry_and_blocks as shown};
 ghost use Rattle.lfs_model.specs.View.{IsSkipListIfCtzStruct};
 ghost use Rattle.lfs_tool_folders.specs.Actions.{AddsAction};
-ghost use Rattle.lfs_tool.specs.AmountsTold.{amount_of_tree_item, amounts_of_tree_items, amounts_of_unpacking_actions, sum_with_amounts, told_of_all_done};
+ghost use Rattle.lfs_tool.specs.AmountsTold.{amount_of_tree_item, amounts_of_tree_items, sum_with_amounts, told_of_all_done};
 ghost use Rattle.lfs_tool.specs.ProgressLines.{no_amount};
-ghost use Rattle.lfs_tool.specs.Unpackings.{AreActionsUnpackingDisk, AreActionsUnpackingImage, HaveWellFormedSkipLists, FailsToUnpackDisk, FailsToUnpackImage, HasDoneBeginningOfUnpackingActions, HasDoneTheseFurtherUnpackingActions, FailsToUnpackKnownImage, HasUnpackedDisk, HasUnpackedImage, ReportsUnpackTargetFaults, unpacking_action_for_tree_entry, unpacking_actions_for_tree_entries};
+ghost use Rattle.lfs_tool.specs.Unpackings.{AreActionsUnpackingDisk, AreActionsUnpackingImage, HaveWellFormedSkipLists, FailsToUnpackDisk, FailsToUnpackImage, HasDoneTheseFurtherUnpackingActions, FailsToUnpackKnownImage, HasUnpackedDisk, HasUnpackedImage, IsToldOfActionsDone, IsToldOfBeginningOfTreeItems, ReportsUnpackTargetFaults, unpacking_action_for_tree_entry, unpacking_actions_for_tree_entries};
 ghost use Rattle.lfs_thread.specs.Steps.{IsThreadOnlyRead};
 ghost use Rattle.lfs_lookup.specs.FileBytes.{file_bytes_of_struct};
 ghost use Rattle.lfs_lookup.specs.Items.{owned_struct_view};
@@ -122,7 +122,7 @@ fn put_tree_items<T: Target, F: FollowsProgress>(
     requires works { thread.old.failed ≡ false }
     requires lists { HaveWellFormedSkipLists thread.old.kept.disk (tree_items_view items.now) }
     ensures done { OnOk result (HasDoneTheseFurtherUnpackingActions (T.done target.old) (T.done target.new) (unpacking_actions_for_tree_entries thread.old.kept.disk (tree_items_view items.now))) }
-    ensures begun { OnErr result (HasDoneBeginningOfUnpackingActions (T.done target.old) (T.done target.new) (unpacking_actions_for_tree_entries thread.old.kept.disk (tree_items_view items.now))) }
+    ensures begun { OnErr result (IsToldOfBeginningOfTreeItems thread.old.kept.disk items.now (T.done target.old) (T.done target.new) (F.told progress.old) (F.told progress.new)) }
     ensures reports { ReportsUnpackTargetFaults (T.faults target.old) (T.faults target.new) result }
     ensures told { OnOk result (F.told progress.new ≡ told_of_all_done (amounts_of_tree_items items.now) (F.told progress.old)) }
 {
@@ -142,7 +142,7 @@ fn unpack_ram_device<T: Target, F: FollowsProgress>(
     progress: &mut F,
 ) -> Result<(), ToolError>
     ensures done { OnOk result (HasUnpackedDisk (shown (geometry_of_ram_device device) (ram_blocks device)) (T.done target.old) (T.done target.new)) }
-    ensures told { OnOk result ((actions : _) × (AreActionsUnpackingDisk (shown (geometry_of_ram_device device) (ram_blocks device)) actions × (F.told progress.new ≡ told_of_all_done (amounts_of_unpacking_actions actions) (F.told progress.old)))) }
+    ensures told { IsToldOfActionsDone (AreActionsUnpackingDisk (shown (geometry_of_ram_device device) (ram_blocks device))) (T.done target.old) (T.done target.new) (F.told progress.old) (F.told progress.new) result }
     ensures failed { IfErr result (FailsToUnpackDisk (shown (geometry_of_ram_device device) (ram_blocks device)) (T.done target.old) (T.done target.new)) }
     ensures output { IsThisErrorExactlyIfOneCallFailed ToolError.Output (T.faults target.old) (T.faults target.new) result }
 {
@@ -163,7 +163,7 @@ fn unpack_image<T: Target, F: FollowsProgress>(
 ) -> Result<(), ToolError>
     requires { length image.items < 2 ^ 32 }
     ensures done { OnOk result (HasUnpackedImage block_size page image.items (T.done target.old) (T.done target.new)) }
-    ensures told { OnOk result ((actions : _) × (AreActionsUnpackingImage block_size page image.items actions × (F.told progress.new ≡ told_of_all_done (amounts_of_unpacking_actions actions) (F.told progress.old)))) }
+    ensures told { IsToldOfActionsDone (AreActionsUnpackingImage block_size page image.items) (T.done target.old) (T.done target.new) (F.told progress.old) (F.told progress.new) result }
     ensures failed { IfErr result (FailsToUnpackImage block_size page image.items (T.done target.old) (T.done target.new)) }
     ensures output { IsThisErrorExactlyIfOneCallFailed ToolError.Output (T.faults target.old) (T.faults target.new) result }
 {
@@ -200,8 +200,8 @@ pub fn unpack<R: ImageInput, T: Target, F: FollowsProgress>(
 ) -> Result<(), ToolError>
     ensures done { OnOk result (IfSome (R.remaining image.old) (λ bytes. HasUnpackedImage block_size page bytes (T.done target.old) (T.done target.new))) }
 
-    // The follower is told of the whole, and of each entry.
-    ensures told { OnOk result (IfSome (R.remaining image.old) (λ bytes. (actions : _) × (AreActionsUnpackingImage block_size page bytes actions × (F.told progress.new ≡ told_of_all_done (amounts_of_unpacking_actions actions) (F.told progress.old))))) }
+    // The follower is told of the whole, and of each action that is done.
+    ensures told { IfSome (R.remaining image.old) (λ bytes. IsToldOfActionsDone (AreActionsUnpackingImage block_size page bytes) (T.done target.old) (T.done target.new) (F.told progress.old) (F.told progress.new) result) }
 
     // Nothing is done, or a beginning of the actions, where the target failed or memory ran out.
     ensures failed { IfErr result (FailsToUnpackKnownImage block_size page (R.remaining image.old) (T.done target.old) (T.done target.new)) }

@@ -1,5 +1,6 @@
 ghost use Rattle.std.specs.Prelude.{◌≡◌, IfOk};
 
+use crate::full_path::full_path_joined_with_name_unless_empty;
 use std::alloc::{AllocError, Global};
 use std::cell::RefCell;
 use std::io;
@@ -44,14 +45,6 @@ impl FaultLog {
         }
     }
 
-    // Returns whether nothing is noted yet.
-    fn is_empty(&self) -> bool {
-        match self.first.try_borrow() {
-            Ok(first) => matches!(&*first, Ok(None)),
-            Err(_) => false,
-        }
-    }
-
     /// Notes a fault at a path, unless something is noted already. Where memory runs out it notes that.
     pub fn note(&self, alloc: Global, path: &[u8], error: &io::Error) {
         if self.is_empty() {
@@ -64,13 +57,6 @@ impl FaultLog {
         }
     }
 
-    /// Notes that memory ran out as a fault was to be noted, unless something is noted already.
-    pub fn note_lost_fault(&self) {
-        if self.is_empty() {
-            let _ = self.first.try_replace(Err(AllocError));
-        }
-    }
-
     /// Returns what is noted, and forgets it.
     ///
     /// # Errors
@@ -79,6 +65,36 @@ impl FaultLog {
         match self.first.try_replace(Ok(None)) {
             Ok(first) => first,
             Err(_) => Ok(None),
+        }
+    }
+
+    // Returns whether nothing is noted yet.
+    fn is_empty(&self) -> bool {
+        match self.first.try_borrow() {
+            Ok(first) => matches!(&*first, Ok(None)),
+            Err(_) => false,
+        }
+    }
+
+    // Notes that memory ran out as a fault was to be noted, unless something is noted already.
+    fn note_lost_fault(&self) {
+        if self.is_empty() {
+            let _ = self.first.try_replace(Err(AllocError));
+        }
+    }
+
+    // Notes a fault at a path below a root, or of a name in the folder there.
+    pub(crate) fn note_below_root(
+        &self,
+        alloc: Global,
+        root: &str,
+        path: &[u8],
+        name: &[u8],
+        error: &io::Error,
+    ) {
+        match full_path_joined_with_name_unless_empty(alloc, root, path, name) {
+            Ok(full) => self.note(alloc, full.as_slice(), error),
+            Err(AllocError) => self.note_lost_fault(),
         }
     }
 }

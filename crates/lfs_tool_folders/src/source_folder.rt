@@ -3,7 +3,7 @@ ghost use Rattle.std.specs.IoError.{error_kind};
 ghost use Rattle.lfs_tool_folders.specs.Roots.{root_path_of_source_folder, file_size_read_limit};
 
 use crate::file_bytes::read_at_most;
-use crate::full_path::{full_path, full_path_joined_with_name_unless_empty};
+use crate::full_path::full_path;
 use crate::zeros::{number_of_zeros_refused_like_too_long_file, zeros};
 use crate::{FaultLog, ListedName, Source, SourceError, SourceKind, Tally};
 use std::alloc::{AllocError, Global};
@@ -116,15 +116,9 @@ impl<'a, R: Files + AllocGlobal + Clone + Drop> Folder<'a, R> {
 
     // Notes a fault of a name in a folder. With no name it is the fault of the path itself.
     fn note_error_at_name(&self, path: &[u8], name: &[u8], error: &io::Error) {
-        match full_path_joined_with_name_unless_empty(
-            self.rt.alloc(),
-            self.root.as_str(),
-            path,
-            name,
-        ) {
-            Ok(full) => self.log.note(self.rt.alloc(), full.as_slice(), error),
-            Err(AllocError) => self.log.note_lost_fault(),
-        }
+        let root = self.root.as_str();
+        self.log
+            .note_below_root(self.rt.alloc(), root, path, name, error);
     }
 
     // Returns the bytes of a file. A listed length that is too great is asked for again, since the file may be

@@ -2,7 +2,7 @@ ghost use Rattle.std.specs.Prelude.{◌≡◌, ◌↔◌, IfOk, suc};
 ghost use Rattle.std.specs.IoError.{error_kind};
 ghost use Rattle.lfs_tool_folders.specs.Roots.{root_path_of_target_folder};
 
-use crate::full_path::{full_path, full_path_joined_with_name_unless_empty};
+use crate::full_path::full_path;
 use crate::{FaultLog, Tally, Target, TargetError};
 use std::alloc::{AllocError, Global};
 use std::fs::File;
@@ -76,15 +76,9 @@ impl<'a, R: Files + AllocGlobal + Clone + Drop> TargetFolder<'a, R> {
 
     // Notes a fault at a path.
     fn note_error_at_target_path(&self, path: &[u8], error: &io::Error) {
-        match full_path_joined_with_name_unless_empty(
-            self.rt.alloc(),
-            self.root.as_str(),
-            path,
-            b"",
-        ) {
-            Ok(full) => self.log.note(self.rt.alloc(), full.as_slice(), error),
-            Err(AllocError) => self.log.note_lost_fault(),
-        }
+        let root = self.root.as_str();
+        self.log
+            .note_below_root(self.rt.alloc(), root, path, b"", error);
     }
 
     fn make_folder_at_path(&self, path: &[u8]) -> io::Result<()> {

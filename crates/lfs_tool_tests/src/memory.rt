@@ -2,50 +2,42 @@
 
 use crate::files::program_words;
 use crate::images::shifting_block;
+use arrayvec::ArrayVec;
 use lfs_fixtures::image_with_first_two_blocks;
 use lfs_tool::{RealPlaces, WatchedStream, run_and_return_exit_status};
 use lfs_tool_folders::FaultLog;
 use std::alloc::{AllocError, Global};
-use std::io::Write;
 use std::rt::Files;
 use std::{fs, io};
 
-// A writer that counts, knows which text is to come, and takes no memory.
-#[derive(Drop)]
-struct ExpectingWriter {
-    wanted: &'static [u8],
-    // How many bytes came.
-    taken: usize,
-    is_other: bool,
+// A writer that keeps what it is given, and takes no memory.
+type Kept = WatchedStream<ArrayVec<u8, 128>>;
+
+fn nothing_kept() -> Kept {
+    WatchedStream::new(ArrayVec::new())
 }
 
-impl Write for ExpectingWriter {
-    fn write(&mut self, buf: &[u8]) -> io::Result<usize> {
-        let rest = self.wanted.get(self.taken..).unwrap_or_default();
-        if !rest.starts_with(buf) {
-            self.is_other = true;
-        }
-        self.taken = self.taken.saturating_add(buf.len());
-        Ok(buf.len())
-    }
-
-    fn flush(&mut self) -> io::Result<()> {
-        Ok(())
-    }
+// Whether this was written, and no more.
+fn has_kept(out: &Kept, text: &[u8]) -> bool {
+    out.inner().as_slice() == text
 }
 
-fn writer_expecting_bytes(wanted: &'static [u8]) -> WatchedStream<ExpectingWriter> {
-    WatchedStream::new(ExpectingWriter {
-        wanted,
-        taken: 0,
-        is_other: false,
-    })
-}
-
-// Whether so many bytes were written, and no other text.
-fn has_written_expected_bytes(out: &WatchedStream<ExpectingWriter>, len: usize) -> bool {
-    let inner = out.inner();
-    !inner.is_other && inner.taken == len
+// Runs the program on its words.
+fn run_program<R: Files + AllocGlobal + Clone + Drop>(
+    rt: &R,
+    words: Vec<String>,
+    out: &mut Kept,
+    err: &mut Kept,
+) -> u8 {
+    let log = FaultLog::new();
+    let mut places = RealPlaces::new(
+        rt,
+        &log,
+        io::empty(),
+        io::sink(),
+        None::<(io::Stderr, HostRuntime)>,
+    );
+    run_and_return_exit_status(rt.alloc(), &mut places, Ok(words), out, err)
 }
 
 const NO_MEMORY: &[u8] = b"error: NoMemory (12)\n";
@@ -67,30 +59,41 @@ const RUNS: [(&[&str], &[u8]); 3] = [
 fn is_run_whole_or_without_memory<R: Files + AllocGlobal + Clone + Drop>(
     rt: &R,
     words: &[&str],
-    text: &'static [u8],
+    text: &[u8],
 ) -> bool {
     let Ok(words) = program_words(rt.alloc(), words) else {
         return true;
     };
-    let mut out = writer_expecting_bytes(text);
-    let mut err = writer_expecting_bytes(NO_MEMORY);
-    let log = FaultLog::new();
-    match run_and_return_exit_status(
-        rt.alloc(),
-        &mut RealPlaces::new(
-            rt,
-            &log,
-            io::empty(),
-            io::sink(),
-            None::<(io::Stderr, HostRuntime)>,
-        ),
-        Ok(words),
-        &mut out,
-        &mut err,
-    ) {
-        0 => has_written_expected_bytes(&out, text.len()) && has_written_expected_bytes(&err, 0),
-        1 => has_written_expected_bytes(&out, 0)
-            && has_written_expected_bytes(&err, NO_MEMORY.len()),
+    let mut out = nothing_kept();
+    let mut err = nothing_kept();
+    match run_program(rt, words, &mut out, &mut err) {
+        0 => has_kept(&out, text) && has_kept(&err, b""),
+        1 => has_kept(&out, b"") && has_kept(&err, NO_MEMORY),
+        _ => false,
+    }
+}
+
+// Words of a run whose image is missing, which is to be explained.
+const MISSING: &[&str] = &["--explain", "-l", "memory/none"];
+
+// Why there is no image.
+const EXPLAINED: &[u8] = b"error: input\nmemory/none: No such file or directory (os error 2)\n";
+
+// Memory ran out where that was to be noted or written.
+const NOT_EXPLAINED: &[u8] = b"error: input\nnot explained: error: NoMemory (12)\n";
+
+// Whether the missing image is explained, or it is told that memory ran out.
+fn is_missing_image_explained_or_without_memory<R: Files + AllocGlobal + Clone + Drop>(
+    rt: &R,
+) -> bool {
+    let Ok(words) = program_words(rt.alloc(), MISSING) else {
+        return true;
+    };
+    let mut out = nothing_kept();
+    let mut err = nothing_kept();
+    match run_program(rt, words, &mut out, &mut err) {
+        3 => has_kept(&out, b"") && (has_kept(&err, EXPLAINED) || has_kept(&err, NOT_EXPLAINED)),
+        1 => has_kept(&err, NO_MEMORY),
         _ => false,
     }
 }
@@ -116,4 +119,9 @@ fn runs_report_missing_memory(rt: HostRuntime) {
         );
     }
     let _ = fs::remove_dir_all(&rt, "memory");
+}
+
+#[test]
+fn missing_image_is_explained_or_memory_is_missing(rt: HostRuntime) {
+    assert!(rt; is_missing_image_explained_or_without_memory(&rt));
 }

@@ -1,17 +1,14 @@
-use Rattle.std.proofs.Common.{◌≡◌, ◌/◌, ◌%◌, inl, inr, refl, subst, sym}
+use Rattle.std.proofs.Common.{◌≡◌, ◌/◌, ◌%◌, Err, ap, inl, inr, refl, subst, sym}
 use Rattle.std.proofs.lemmas.Result.{IfOk-weaker}
 use Rattle.lfs_device.specs.declared.geometry.Geometry.{Geometry}
-use Rattle.lfs_model.specs.Geometry.{IsValidGeometry}
 use Rattle.lfs_tool_line.specs.declared.line.Line.{Line}
+use Rattle.lfs_tool.specs.declared.errors.ToolError.TheVariants.{Fs}
 use Rattle.lfs_tool.specs.RequestedSizes.{IsErrorWhereNoGeometryHasSizes, HasSizesOfCommandLine}
 use Rattle.lfs_tool.proofs.creation_request.create_for_command_line.Goals as goal
 
 sized : (line : Line) (g new : Geometry) → (g.block_size ≡ line.block_size) × (g.page ≡ line.page)
     → (g.block_count ≡ line.size / line.block_size) × (line.size % line.block_size ≡ 0) → new ≡ record g { order = line.order } → HasSizesOfCommandLine line new
 sized line g new sizes count is = subst (HasSizesOfCommandLine line) (sym is) (record { block_size = sizes.0; page = sizes.1; order = refl; block_count = count.0; whole = count.1 })
-
-valid_sizes : (line : Line) (g : Geometry) → HasSizesOfCommandLine line g → IsValidGeometry line.block_size line.page (line.size / line.block_size)
-valid_sizes line g s = rw (← s.block_count, ← s.block_size, ← s.page) g.valid
 
 pub returns-in-Ok-clause-ok : goal.returns-in-Ok-clause-ok
 returns-in-Ok-clause-ok g c =
@@ -23,11 +20,17 @@ returns-in-Ok-clause-beginning g c = λ e.
     let sizes = sized c.args.line.now c.in-Ok.geometry c.with_name_order.result c.in-Ok.ensures.sizes c.in-Ok.ensures.count c.with_name_order.ensures in
     (c.with_name_order.result, (sizes, c.create.ensures.beginning e))
 
--- the geometry that was made is one
-pub returns-in-Ok-clause-unread : goal.returns-in-Ok-clause-unread
-returns-in-Ok-clause-unread g c = λ no.
+pub returns-in-Ok-clause-told : goal.returns-in-Ok-clause-told
+returns-in-Ok-clause-told g c =
     let sizes = sized c.args.line.now c.in-Ok.geometry c.with_name_order.result c.in-Ok.ensures.sizes c.in-Ok.ensures.count c.with_name_order.ensures in
-    absurd (no.none sizes.whole (valid_sizes c.args.line.now c.with_name_order.result sizes))
+    inl (c.with_name_order.result, (sizes, c.create.ensures.told))
+
+pub returns-in-Err-clause-told : goal.returns-in-Err-clause-told
+returns-in-Err-clause-told g c = inr (
+  record { error = refl; none = c.in-Err.ensures.err.1 },
+  ap (λ e. Err (Fs e)) c.in-Err.ensures.err.0,
+  refl,
+)
 
 pub returns-in-Ok-clause-refused : goal.returns-in-Ok-clause-refused
 returns-in-Ok-clause-refused g c = λ e is other.
@@ -37,4 +40,4 @@ returns-in-Ok-clause-refused g c = λ e is other.
 pub returns-in-Err-clause-refused : goal.returns-in-Err-clause-refused
 returns-in-Err-clause-refused g c = λ e is other.
     let same : c.in-Err.error ≡ e = cc in
-    inl (subst (IsErrorWhereNoGeometryHasSizes c.args.line.now) same (record { error = c.in-Err.ensures.err.0; none = c.in-Err.ensures.err.1 }))
+    inl (subst (IsErrorWhereNoGeometryHasSizes c.args.line.now) same (record { error = c.in-Err.ensures.err.0; none = c.in-Err.ensures.err.1 }), refl)

@@ -8,7 +8,7 @@ returns-clause-done g c =
 
 pub returns-clause-told : goal.returns-clause-told
 returns-clause-told g c =
-    on_ok_weaker c.unpack_image.result (λ h. told_read (g.R.ImageInput.remaining c.args.image.now) c.args.block_size c.args.page c.in_ok-bytes.bytes.items _ _ c.in_ok-bytes.ensures.bytes h) c.unpack_image.ensures.told
+    told_read (g.R.ImageInput.remaining c.args.image.now) c.args.block_size c.args.page c.in_ok-bytes.bytes.items c.unpack_image.result _ _ _ _ c.in_ok-bytes.ensures.bytes c.unpack_image.ensures.told
 
 pub returns-clause-failed : goal.returns-clause-failed
 returns-clause-failed g c =

@@ -11,7 +11,7 @@ use Rattle.lfs_tool.specs.Explained.{FailsToCountNeededBlocks, FailsToReadImage}
 use Rattle.lfs_tool.specs.KnownBytes.{IsErrorOfReaderFaultOrNoMemory}
 use Rattle.lfs_tool.specs.Listings.{RefusesToList}
 use Rattle.lfs_tool.specs.MadeImages.{IsToldOfRequestedImage, HasWrittenBeginningOfImage, HasWrittenImageOfSource, ReportsSourceFaults}
-use Rattle.lfs_tool.specs.PlaceEvents.{ImageDiscarded, ImageNotPlaced, ImageOpened, PlaceEvent, WorkEnded}
+use Rattle.lfs_tool.specs.PlaceEvents.{ImageDiscarded, ImageNotPlaced, ImageOpened, PlaceEvent, WorkBegan, WorkEnded}
 use Rattle.lfs_tool.specs.Reports.{IsFlushedOnce, ReportsWriterFaults}
 use Rattle.lfs_tool.specs.RequestedSizes.{HasSizesOfCommandLine}
 use Rattle.lfs_tool.specs.RunsAtPaths.{LeavesNoNewImage, WritesWholeImage}
@@ -50,11 +50,11 @@ refused_known {X} r block_size page known old new e is fails =
 
 -- ---- what an image ends in
 
-module _ {P I N F T R : Type 0} (places : Ghosts P I N F T R) (output : ToolOutputGhosts N) (source : SourceGhosts F) (line : Line) (old opens ends new : P) (folder : List ℕ) (f : F) (i after : N) (before told : Option (List ProgressCall))
-    (opened : places.history opens ≡ ImageOpened line.image.now ∷ places.history old) (ended : places.history ends ≡ WorkEnded told ∷ places.history opens) (nothing : IsToldOfNothing before)
+module _ {P I N F T R : Type 0} (places : Ghosts P I N F T R) (output : ToolOutputGhosts N) (source : SourceGhosts F) (line : Line) (old opens begins ends new : P) (folder : List ℕ) (f : F) (i after : N) (before told : Option (List ProgressCall))
+    (opened : places.history opens ≡ ImageOpened line.image.now ∷ places.history old) (began : places.history begins ≡ WorkBegan ∷ places.history opens) (ended : places.history ends ≡ WorkEnded told ∷ places.history begins) (nothing : IsToldOfNothing before)
     (at : places.folder_path f ≡ folder) (limit : places.folder_limit f ≡ line.size) (path : places.new_image_path i ≡ line.image.now) where
-  history_with : (event : PlaceEvent) → places.history new ≡ event ∷ places.history ends → places.history new ≡ event ∷ WorkEnded told ∷ ImageOpened line.image.now ∷ places.history old
-  history_with event adds = adds ∙ ap (λ events. event ∷ events) (ended ∙ ap (λ events. WorkEnded told ∷ events) opened)
+  history_with : (event : PlaceEvent) → places.history new ≡ event ∷ places.history ends → places.history new ≡ event ∷ WorkEnded told ∷ WorkBegan ∷ ImageOpened line.image.now ∷ places.history old
+  history_with event adds = adds ∙ ap (λ events. event ∷ events) (ended ∙ ap (λ events. WorkEnded told ∷ events) (began ∙ ap (λ events. WorkBegan ∷ events) opened))
 
   -- an image that is whole
   pub whole : (event : Option (List ℕ) → PlaceEvent) → places.history new ≡ event (output.contents after) ∷ places.history ends
@@ -69,7 +69,7 @@ module _ {P I N F T R : Type 0} (places : Ghosts P I N F T R) (output : ToolOutp
   not_placed e (is, adds) made flushed tells = subst (LeavesNoNewImage places output source line old new folder) (sym is) (inr (whole ImageNotPlaced adds made flushed tells))
 
   history_discarded : (faults flushes : ℕ) → places.history new ≡ ImageDiscarded (output.contents after) (output.faults after) (output.flushes after) ∷ places.history ends → output.faults after ≡ faults → output.flushes after ≡ flushes
-      → places.history new ≡ ImageDiscarded (output.contents after) faults flushes ∷ WorkEnded told ∷ ImageOpened line.image.now ∷ places.history old
+      → places.history new ≡ ImageDiscarded (output.contents after) faults flushes ∷ WorkEnded told ∷ WorkBegan ∷ ImageOpened line.image.now ∷ places.history old
   history_discarded faults flushes adds failed flushed =
       history_with (ImageDiscarded (output.contents after) faults flushes) (adds ∙ ap₂ (λ n m. ImageDiscarded (output.contents after) n m ∷ places.history ends) failed flushed)
 
@@ -78,7 +78,7 @@ module _ {P I N F T R : Type 0} (places : Ghosts P I N F T R) (output : ToolOutp
       → places.history new ≡ ImageDiscarded (output.contents after) (output.faults after) (output.flushes after) ∷ places.history ends → ReportsWriterFaults {X = X} output i after (Err e)
       → (IsErrOf {T = X} (Err e) Output → (g : _) × (HasSizesOfCommandLine line g × HasWrittenBeginningOfImage g (source.shown f) (output.contents i) (output.contents after))) → IsToldOfRequestedImage {X = Unit {0}} line (source.shown f) before told (Err e)
       → LeavesNoNewImage places output source line old new folder e
-  discarded X Output sound unflushed adds reports begins tells =
-      inl (f, (at, (limit, (i, (path, (after, told, (history_discarded 1 0 adds (reports.0 ∙ ap suc sound) (reports.1 ∙ unflushed), begins refl, (before, (nothing, tells)))))))))
-  discarded X e sound unflushed adds reports begins tells =
+  discarded X Output sound unflushed adds reports begun tells =
+      inl (f, (at, (limit, (i, (path, (after, told, (history_discarded 1 0 adds (reports.0 ∙ ap suc sound) (reports.1 ∙ unflushed), begun refl, (before, (nothing, tells)))))))))
+  discarded X e sound unflushed adds reports begun tells =
       inr (f, (at, (limit, (i, (path, (after, told, (history_discarded 0 0 adds (ap output.faults reports ∙ sound) (ap output.flushes reports ∙ unflushed), ap output.contents reports, (before, (nothing, tells)))))))))

@@ -19,6 +19,18 @@ pub data ProgressCall : Type 0 where
 abbrev pub IsToldOfNothing : Option (List ProgressCall) → Type 0
 IsToldOfNothing told = IfSome told (λ calls. calls ≡ [])
 
+-- what it was told last of the whole
+abbrev pub whole_told : List ProgressCall → FilesAndBytes
+whole_told [] = no_amount
+whole_told (BeginCalled whole ∷ calls) = whole
+whole_told (AddCalled more ∷ calls) = whole_told calls
+
+-- all that it was told is done
+abbrev pub done_told : List ProgressCall → FilesAndBytes
+done_told [] = no_amount
+done_told (BeginCalled whole ∷ calls) = done_told calls
+done_told (AddCalled more ∷ calls) = sum_of_amounts (done_told calls) more
+
 -- after it is told how much there is to do; the newest call comes first
 abbrev pub told_with_whole : FilesAndBytes → Option (List ProgressCall) → Option (List ProgressCall)
 told_with_whole whole told = option_map (λ calls. BeginCalled whole ∷ calls) told

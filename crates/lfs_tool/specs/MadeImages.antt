@@ -91,7 +91,7 @@ ReportsSourceFaults old new known other = new ≡ old
 
 -- ---- what a follower is told
 
--- The first n entries are copied, and the next one isn't. Unless memory ran out, the error is the first refusal of its operations.
+-- The first n entries can be copied, and there is a next one. Unless memory ran out, the error is the first refusal of its operations.
 pub record StopsAtEntryAfter (n : ℕ) (from : SystemState) (entries : List SourceEntry) (e : Error) : Type 0 where
   pub entry : SourceEntry
   pub others : List SourceEntry
@@ -110,7 +110,7 @@ IsToldOfCopyBeforeError geometry entries old new e =
     ((e ≡ NoMemory) × (new ≡ old)) ⊎ ((from : SystemState) × (SessionBeginsOnFreshDisk geometry from × IsToldOfEntriesBeforeError from entries old new e))
 
 -- A follower was told of the whole, and of each entry, also where the image can't be written. After a refusal it was told of those
--- that were copied before. It was told of nothing where the source wasn't read, or memory ran out before the first entry.
+-- that were copied before. It was told of nothing where the source wasn't read, and maybe where memory ran out.
 abbrev pub IsToldOfEntriesCopied : {X : Type 0} → Geometry → Option TreeSource → Option (List ProgressCall) → Option (List ProgressCall) → Result X ToolError → Type 0
 IsToldOfEntriesCopied geometry known old new (Err Input) = new ≡ old
 IsToldOfEntriesCopied geometry known old new (Err (Fs e)) =

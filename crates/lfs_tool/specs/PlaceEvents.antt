@@ -8,8 +8,9 @@ use Rattle.lfs_tool_folders.specs.declared.fault_log.PathFault.{PathFault}
 
 -- An image is opened at a path. It is put in its place, can't be put there, or is discarded, with the bytes that it is known to
 -- have. Of one that is discarded it is said how many of its calls have failed, and how many flushes have succeeded. A folder is
--- opened at a path. It is closed after the actions that are known to be done there. A work ends, of which its follower was told so
--- much. Asked for a fault, the places answer the first one, that none is known, or that memory wasn't granted to note it.
+-- opened at a path. It is closed after the actions that are known to be done there. A work begins that is followed. It ends, with the
+-- calls that its follower is known to have had. Asked for a fault, the places answer one, that none is known, or that memory wasn't
+-- granted to note it.
 pub data PlaceEvent : Type 0 where
   ImageOpened : (path : List ℕ) → PlaceEvent
   ImagePlaced : (bytes : Option (List ℕ)) → PlaceEvent
@@ -18,4 +19,5 @@ pub data PlaceEvent : Type 0 where
   FolderOpened : (path : List ℕ) → PlaceEvent
   FolderClosed : (done : Option (List UnpackingAction)) → PlaceEvent
   FaultAnswered : (answer : Result (Option PathFault) Error) → PlaceEvent
+  WorkBegan : PlaceEvent
   WorkEnded : (told : Option (List ProgressCall)) → PlaceEvent

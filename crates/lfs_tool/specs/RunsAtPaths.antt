@@ -8,7 +8,7 @@ use Rattle.lfs_tool.specs.KnownBytes.{AppendsBeginningOfBytes}
 use Rattle.lfs_tool.specs.Listings.{IsListingTextOfImage, RefusesToList}
 use Rattle.lfs_tool.specs.MadeImages.{IsToldOfRequestedImage, RefusesCopyOfSource, HasWrittenBeginningOfImage, HasWrittenImageOfSource}
 use Rattle.lfs_tool.specs.AmountsTold.{ProgressCall, IsToldOfNothing}
-use Rattle.lfs_tool.specs.PlaceEvents.{FolderClosed, FolderOpened, ImageDiscarded, ImageNotPlaced, ImageOpened, ImagePlaced, PlaceEvent, WorkEnded}
+use Rattle.lfs_tool.specs.PlaceEvents.{FolderClosed, FolderOpened, ImageDiscarded, ImageNotPlaced, ImageOpened, ImagePlaced, PlaceEvent, WorkBegan, WorkEnded}
 use Rattle.lfs_tool.specs.Reports.{IsFlushedOnce, ReportsWriterFaults}
 use Rattle.lfs_tool.specs.Unpackings.{AreActionsUnpackingImage, FailsToUnpackKnownImage, HasUnpackedImage, IsToldOfActionsDone}
 use Rattle.lfs_tool.specs.CheckResults.{IsCheckResultOfBytes, is_accepted_check_result}
@@ -72,7 +72,7 @@ abbrev pub BeginsToCheckImageAtPath : {I : Type 0} → (I → List ℕ) → (I �
 BeginsToCheckImageAtPath path_of bytes line old new =
     IsTrueOfSomethingAtPath path_of line.image.now (λ i. IfSome (bytes i) (λ image. (checked : CheckResult) × (IsCheckResultOfBytes line.block_size line.page image checked × AppendsBeginningOfBytes old new (check_result_text checked))))
 
--- a work ended that was followed from its beginning
+-- a work ended that was followed from its beginning, where its follower's calls are known
 abbrev pub IsEndOfFollowedWork : (Option (List ProgressCall) → Option (List ProgressCall) → Type 0) → Option (List ProgressCall) → Type 0
 IsEndOfFollowedWork IsTold told = (before : Option (List ProgressCall)) × (IsToldOfNothing before × IsTold before told)
 
@@ -81,7 +81,7 @@ IsEndOfFollowedWork IsTold told = (before : Option (List ProgressCall)) × (IsTo
 abbrev pub WritesWholeImage : {P I N F T R : Type 0} → Ghosts P I N F T R → ToolOutputGhosts N → SourceGhosts F → Line → (Option (List ℕ) → PlaceEvent) → P → P → List ℕ → Type 0
 WritesWholeImage places output source line event old new folder =
     IsTrueOfSomethingAtPath places.folder_path folder (λ f. (places.folder_limit f ≡ line.size) × IsTrueOfSomethingAtPath places.new_image_path line.image.now (λ i. (after : _) × (told : _)
-    × ((places.history new ≡ event (output.contents after) ∷ WorkEnded told ∷ ImageOpened line.image.now ∷ places.history old)
+    × ((places.history new ≡ event (output.contents after) ∷ WorkEnded told ∷ WorkBegan ∷ ImageOpened line.image.now ∷ places.history old)
     × (((g : _) × (HasSizesOfCommandLine line g × HasWrittenImageOfSource g (source.shown f) (output.contents i) (output.contents after))) × IsFlushedOnce output i after)
     × IsEndOfFollowedWork (λ begins ends. IsToldOfRequestedImage line (source.shown f) begins ends (Ok (tt {0}))) told)))
 
@@ -94,7 +94,7 @@ MakesImageAtPath places output source line old new folder = WritesWholeImage pla
 abbrev pub UnpacksImageAtPath : {P I N F T R : Type 0} → Ghosts P I N F T R → ImageInputGhosts I → TargetGhosts T → Line → P → P → List ℕ → Type 0
 UnpacksImageAtPath places input target line old new folder =
     IsTrueOfSomethingAtPath places.image_path line.image.now (λ i. IsTrueOfSomethingAtPath places.new_folder_path folder (λ f. (after : _) × (told : _)
-    × ((places.history new ≡ FolderClosed (target.done after) ∷ WorkEnded told ∷ FolderOpened folder ∷ places.history old)
+    × ((places.history new ≡ FolderClosed (target.done after) ∷ WorkEnded told ∷ WorkBegan ∷ FolderOpened folder ∷ places.history old)
     × IfSome (input.remaining i) (λ image. HasUnpackedImage line.block_size line.page image (target.done f) (target.done after))
     × IsEndOfFollowedWork (λ begins ends. IfSome (input.remaining i) (λ image. IsToldOfActionsDone (AreActionsUnpackingImage line.block_size line.page image) (target.done f) (target.done after) begins ends (Ok (tt {0})))) told)))
 
@@ -114,7 +114,7 @@ IsModeDone places input output source target writer line old new out_old out_new
 abbrev pub DiscardsImage : {P I N F T R : Type 0} → Ghosts P I N F T R → ToolOutputGhosts N → SourceGhosts F → Line → P → P → List ℕ → ToolError → ℕ → (Option TreeSource → Option (List ℕ) → Option (List ℕ) → Type 0) → Type 0
 DiscardsImage places output source line old new folder e faults Holds =
     IsTrueOfSomethingAtPath places.folder_path folder (λ f. (places.folder_limit f ≡ line.size) × IsTrueOfSomethingAtPath places.new_image_path line.image.now (λ i. (after : _) × (told : _)
-    × ((places.history new ≡ ImageDiscarded (output.contents after) faults 0 ∷ WorkEnded told ∷ ImageOpened line.image.now ∷ places.history old)
+    × ((places.history new ≡ ImageDiscarded (output.contents after) faults 0 ∷ WorkEnded told ∷ WorkBegan ∷ ImageOpened line.image.now ∷ places.history old)
     × Holds (source.shown f) (output.contents i) (output.contents after)
     × IsEndOfFollowedWork (λ begins ends. IsToldOfRequestedImage {X = Unit {0}} line (source.shown f) begins ends (Err e)) told)))
 
@@ -140,7 +140,7 @@ abbrev pub LeavesFolderUnfinished : {P I N F T R : Type 0} → Ghosts P I N F T 
 LeavesFolderUnfinished places input target line old new folder e =
     ((e ≡ Fs fs.NoMemory) × (places.history new ≡ places.history old))
     ⊎ IsTrueOfSomethingAtPath places.image_path line.image.now (λ i. IsTrueOfSomethingAtPath places.new_folder_path folder (λ f. (after : _) × (told : _)
-    × ((places.history new ≡ FolderClosed (target.done after) ∷ WorkEnded told ∷ FolderOpened folder ∷ places.history old)
+    × ((places.history new ≡ FolderClosed (target.done after) ∷ WorkEnded told ∷ WorkBegan ∷ FolderOpened folder ∷ places.history old)
     × FailsToUnpackKnownImage line.block_size line.page (input.remaining i) (target.done f) (target.done after) e × (e ≡ Output → target.faults after ≡ suc (target.faults f))
     × IsEndOfFollowedWork (λ begins ends. IfSome (input.remaining i) (λ image. IsToldOfActionsDone {X = Unit {0}} (AreActionsUnpackingImage line.block_size line.page image) (target.done f) (target.done after) begins ends (Err e))) told)))
 

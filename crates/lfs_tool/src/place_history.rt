@@ -1,6 +1,6 @@
 ghost use Rattle.std.specs.Prelude.{◌≡◌, List, [], ◌∷◌};
 ghost use Rattle.std.specs.Borrow.{ftrue};
-ghost use Rattle.lfs_tool.specs.PlaceEvents.{FaultAnswered, FolderClosed, FolderOpened, ImageDiscarded, ImageNotPlaced, ImageOpened, ImagePlaced, PlaceEvent, WorkEnded};
+ghost use Rattle.lfs_tool.specs.PlaceEvents.{FaultAnswered, FolderClosed, FolderOpened, ImageDiscarded, ImageNotPlaced, ImageOpened, ImagePlaced, PlaceEvent, WorkBegan, WorkEnded};
 
 use crate::{FollowsProgress, ToolOutput};
 use lfs_device::Error;
@@ -67,6 +67,13 @@ impl PlaceHistory {
         ensures { result.events ≡ FolderClosed (T.done folder.now) ∷ self.now.events }
     {
         PlaceHistory::with_events_chosen_by_proof(self, folder)
+    }
+
+    /// Adds that a work begins.
+    pub fn with_begun_work(&self) -> PlaceHistory
+        ensures { result.events ≡ WorkBegan ∷ self.now.events }
+    {
+        PlaceHistory::with_events_chosen_by_proof(self, &())
     }
 
     /// Adds that a work has ended.

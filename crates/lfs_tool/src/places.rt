@@ -1,6 +1,6 @@
 ghost use Rattle.std.specs.Prelude.{◌≡◌, ℕ, IfErr, IfOk, List, OnOk, ◌∷◌};
 ghost use Rattle.lfs_tool.specs.AmountsTold.{IsToldOfNothing};
-ghost use Rattle.lfs_tool.specs.PlaceEvents.{FaultAnswered, FolderClosed, FolderOpened, ImageDiscarded, ImageNotPlaced, ImageOpened, ImagePlaced, PlaceEvent, WorkEnded};
+ghost use Rattle.lfs_tool.specs.PlaceEvents.{FaultAnswered, FolderClosed, FolderOpened, ImageDiscarded, ImageNotPlaced, ImageOpened, ImagePlaced, PlaceEvent, WorkBegan, WorkEnded};
 
 use crate::{FollowsProgress, ImageInput, ToolError, ToolOutput};
 use lfs_device::Error;
@@ -10,7 +10,7 @@ use lfs_tool_folders::{PathFault, Source, Target};
 ///
 /// Each call for a file or a folder returns `NoMemory` where memory isn't granted, and no other error.
 /// Give back what is opened to be written when the work ends: an image to `place_image` or to
-/// `discard_image`, a folder to `close_folder`, and what followed the work to `end_progress`. A contract
+/// `discard_image`, a folder to `close_folder`. Give what followed the work to `end_progress`. A contract
 /// sees by that what was done there in all.
 pub trait Places {
     /// An image that is read.
@@ -86,8 +86,9 @@ pub trait Places {
         ensures { history self.new ≡ FolderClosed (Self.NewFolder.done folder) ∷ history self.old };
 
     /// Returns what follows how far the work is that begins now. It was told of nothing yet.
-    fn progress(&self) -> Self::Progress
-        ensures { IsToldOfNothing (Self.Progress.told result) };
+    fn progress(&mut self) -> Self::Progress
+        ensures untold { IsToldOfNothing (Self.Progress.told result) }
+        ensures began { history self.new ≡ WorkBegan ∷ history self.old };
 
     /// Takes back what followed a work that has ended.
     fn end_progress(&mut self, progress: Self::Progress)

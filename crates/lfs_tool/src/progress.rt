@@ -4,7 +4,7 @@ ghost use Rattle.std.specs.Duration.{as_nanos};
 ghost use Rattle.std.specs.Fmt.{decimal};
 ghost use Rattle.arrayvec.specs.ArrayString.{array_string_len};
 ghost use Rattle.lfs_tool.specs.Reports.{WritesTextOrFails};
-ghost use Rattle.lfs_tool.specs.AmountsTold.{AddCalled, BeginCalled, ProgressCall, told_with_more_done, told_with_whole};
+ghost use Rattle.lfs_tool.specs.AmountsTold.{AddCalled, BeginCalled, ProgressCall, done_told, told_with_more_done, told_with_whole, whole_told};
 ghost use Rattle.lfs_tool.specs.ProgressLines.{no_amount, part_of_whole, progress_line, sum_of_amounts};
 
 use crate::{ProgressCalls, ToolOutput, write_bytes_and_flush};
@@ -94,6 +94,7 @@ pub struct Progress<W: ToolOutput + Drop, C: Clock + Drop> {
     done: FilesAndBytes,
     is_shown: bool,
     calls: ProgressCalls,
+    ghost told: { (whole ≡ whole_told calls.calls) × (done ≡ done_told calls.calls) },
     ghost late: { 1_000_000_000 ≤ as_nanos next },
 }
 

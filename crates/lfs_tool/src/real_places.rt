@@ -202,9 +202,10 @@ where
         self.history = self.history.with_closed_folder(&folder);
     }
 
-    fn progress(&self) -> Option<Progress<WatchedStream<E>, C>>
-        ensures shown { is_some result ≡ is_some self.now.terminal }
+    fn progress(&mut self) -> Option<Progress<WatchedStream<E>, C>>
+        ensures shown { is_some result ≡ is_some self.old.terminal }
     {
+        self.history = self.history.with_begun_work();
         match self.terminal {
             Some((out, clock)) => Some(Progress::new(WatchedStream::new(out), clock)),
             None => None,

@@ -1,4 +1,4 @@
-ghost use Rattle.std.specs.Prelude.{◌≡◌, IfOk, is_some};
+ghost use Rattle.std.specs.Prelude.{◌≡◌, IfOk};
 ghost use Rattle.lfs_tool_folders.specs.Paths.{image_path};
 ghost use Rattle.lfs_tool.specs.Paths.{path_of_old_image_file};
 ghost use Rattle.lfs_tool.specs.StandardStreams.{is_standard_stream, is_path_of_standard_stream, path_or_dash_of_file_or_standard};
@@ -202,9 +202,7 @@ where
         self.history = self.history.with_closed_folder(&folder);
     }
 
-    fn progress(&mut self) -> Option<Progress<WatchedStream<E>, C>>
-        ensures shown { is_some result ≡ is_some self.old.terminal }
-    {
+    fn progress(&mut self) -> Option<Progress<WatchedStream<E>, C>> {
         self.history = self.history.with_begun_work();
         match self.terminal {
             Some((out, clock)) => Some(Progress::new(WatchedStream::new(out), clock)),

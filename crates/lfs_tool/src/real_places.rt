@@ -1,4 +1,4 @@
-ghost use Rattle.std.specs.Prelude.{◌≡◌, IfOk};
+ghost use Rattle.std.specs.Prelude.{◌≡◌, IfErr, IfOk};
 ghost use Rattle.lfs_tool_folders.specs.Paths.{image_path};
 ghost use Rattle.lfs_tool.specs.Paths.{path_of_old_image_file};
 ghost use Rattle.lfs_tool.specs.StandardStreams.{is_standard_stream, is_path_of_standard_stream, path_or_dash_of_file_or_standard};
@@ -9,7 +9,7 @@ use crate::{
     WatchedStream,
 };
 use lfs_device::Error;
-use lfs_tool_folders::{FaultLog, Folder, PathFault, TargetFolder};
+use lfs_tool_folders::{FaultLog, Folder, LoggedFaults, PathFault, TargetFolder};
 use std::alloc::AllocError;
 use std::cell::Cell;
 use std::io;
@@ -22,12 +22,12 @@ const READ_AHEAD: usize = 65_536;
 
 /// The files and folders of the real file system, and for the image `-` standard input or output. Each of
 /// these two is used once: the image of a second call fails. What files, folders and streams meet is
-/// noted in a log. The file of an image is beside its path until `place_image` puts it there, as `NewImage`
-/// says.
+/// noted in a log, and `fault` takes it from there. `progress` gives a line exactly where there is a terminal.
+/// The file of an image is beside its path until `place_image` puts it there, as `NewImage` says.
 #[derive(Drop)]
 pub struct RealPlaces<'a, R, I, O, E, C> {
     rt: &'a R,
-    log: &'a FaultLog,
+    faults: LoggedFaults<'a>,
     // The standard streams, until they are used.
     input: Cell<Option<I>>,
     output: Option<O>,
@@ -54,18 +54,25 @@ where
     E: Write + Copy + Drop,
     C: Clock + Copy + Drop,
 {
+    ghost use Rattle.std.specs.Prelude.{[], is_some};
+    ghost use Rattle.lfs_tool.specs.RealPlaceAnswers.{answers_of_log, has_terminal};
+
     /// Makes the places of a runtime, with its standard input and output, and with the terminal and the clock
     /// of a line that says how far the work is, if there is to be one.
     pub fn new(
         rt: &'a R,
-        log: &'a FaultLog,
+        log: &'a mut FaultLog,
         input: I,
         output: O,
         terminal: Option<(E, C)>,
-    ) -> RealPlaces<'a, R, I, O, E, C> {
+    ) -> RealPlaces<'a, R, I, O, E, C>
+        ensures terminal { has_terminal result ≡ is_some terminal }
+        ensures answers { answers_of_log result ≡ [] }
+        ensures history { result.history.events ≡ [] }
+    {
         RealPlaces {
             rt,
-            log,
+            faults: LoggedFaults::new(log),
             input: Cell::new(Some(input)),
             output: Some(output),
             terminal,
@@ -113,8 +120,13 @@ where
     E: Write + Copy + Drop,
     C: Clock + Copy + Drop,
 {
+    ghost use Rattle.std.specs.Prelude.{◌∷◌, Some, is_some};
+    ghost use Rattle.std.specs.Option.{option_and_then};
     ghost use Rattle.lfs_tool_folders.specs.Roots.{root_path_of_source_folder, file_size_read_limit, root_path_of_target_folder};
+    ghost use Rattle.lfs_tool.specs.AmountsTold.{IsToldOfNothing};
     ghost use Rattle.lfs_tool.specs.Paths.{path_of_new_image, path_of_old_image};
+    ghost use Rattle.lfs_tool.specs.PlaceEvents.{FaultAnswered, WorkBegan};
+    ghost use Rattle.lfs_tool.specs.RealPlaceAnswers.{IsAnsweredByLog, answers_of_log, has_terminal};
 
     type Image = WatchedStream<BufReader<NotedStream<'a, FileOrStandard<OldImage<'a, R>, I>>>>;
 
@@ -146,7 +158,7 @@ where
         Error,
     > {
         let image = self.image_input_at_path(path)?;
-        let image = NotedStream::new(self.rt.alloc(), image, path, self.log)?;
+        let image = NotedStream::new(self.rt.alloc(), image, path, self.faults.log())?;
         let Ok(reader) = BufReader::with_capacity(self.rt.alloc(), READ_AHEAD, image) else {
             return Err(Error::NoMemory);
         };
@@ -158,7 +170,7 @@ where
         path: &str,
     ) -> Result<WatchedStream<NotedStream<'a, FileOrStandard<NewImage<'a, R>, O>>>, Error> {
         let image = self.image_output_at_path(path)?;
-        let image = NotedStream::new(self.rt.alloc(), image, path, self.log)?;
+        let image = NotedStream::new(self.rt.alloc(), image, path, self.faults.log())?;
         self.history = self.history.with_opened_image(path);
         Ok(WatchedStream::new(image))
     }
@@ -172,7 +184,9 @@ where
         let unplaced = self.history.with_unplaced_image(&image);
         let (image, path) = image.into_inner().into_parts();
         if let Err(error) = put_file_or_standard_in_place(image) {
-            self.log.note(self.rt.alloc(), path.as_bytes(), &error);
+            self.faults
+                .log()
+                .note(self.rt.alloc(), path.as_bytes(), &error);
             self.history = unplaced;
             return Err(ToolError::Output);
         }
@@ -188,12 +202,12 @@ where
     }
 
     fn folder(&self, path: &str, size: u32) -> Result<Folder<'a, R>, Error> {
-        let folder = Folder::for_image_of_size(self.rt, self.log, path, size)?;
+        let folder = Folder::for_image_of_size(self.rt, self.faults.log(), path, size)?;
         Ok(folder)
     }
 
     fn new_folder(&mut self, path: &str) -> Result<TargetFolder<'a, R>, Error> {
-        let folder = TargetFolder::new(self.rt, self.log, path)?;
+        let folder = TargetFolder::new(self.rt, self.faults.log(), path)?;
         self.history = self.history.with_opened_folder(path);
         Ok(folder)
     }
@@ -202,7 +216,11 @@ where
         self.history = self.history.with_closed_folder(&folder);
     }
 
-    fn progress(&mut self) -> Option<Progress<WatchedStream<E>, C>> {
+    fn progress(&mut self) -> Option<Progress<WatchedStream<E>, C>>
+        ensures untold { IsToldOfNothing (option_and_then (λ p. Some p.calls.calls) result) }
+        ensures began { self.new.history.events ≡ WorkBegan ∷ self.old.history.events }
+        ensures shown { is_some result ≡ has_terminal self.old }
+    {
         self.history = self.history.with_begun_work();
         match self.terminal {
             Some((out, clock)) => Some(Progress::new(WatchedStream::new(out), clock)),
@@ -214,8 +232,12 @@ where
         self.history = self.history.with_ended_work(&progress);
     }
 
-    fn fault(&mut self) -> Result<Option<PathFault>, Error> {
-        let answer = match self.log.take() {
+    fn fault(&mut self) -> Result<Option<PathFault>, Error>
+        ensures answered { self.new.history.events ≡ FaultAnswered result ∷ self.old.history.events }
+        ensures err { IfErr result (λ e. e ≡ Error.NoMemory) }
+        ensures taken { IsAnsweredByLog (answers_of_log self.old) (answers_of_log self.new) result }
+    {
+        let answer = match self.faults.take() {
             Ok(fault) => Ok(fault),
             Err(AllocError) => Err(Error::NoMemory),
         };

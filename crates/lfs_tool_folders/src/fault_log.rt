@@ -15,8 +15,8 @@ pub struct PathFault {
     pub words: Vec<u8>,
 }
 
-/// Keeps the first fault that is noted, or that memory ran out where one was to be noted. No contract says
-/// which that is.
+/// Keeps the first fault that is noted, or that memory ran out where one was to be noted. `LoggedFaults`
+/// takes it from here. No contract says what a log has.
 #[derive(Drop)]
 pub struct FaultLog {
     first: RefCell<Result<Option<PathFault>, AllocError>>,
@@ -57,11 +57,15 @@ impl FaultLog {
         }
     }
 
-    /// Returns what is noted, and forgets it.
-    ///
-    /// # Errors
-    /// Where memory ran out as the first fault was to be noted.
-    pub fn take(&self) -> Result<Option<PathFault>, AllocError> {
+    /// Notes that memory ran out as a fault was to be noted, unless something is noted already.
+    pub fn note_lost_fault(&self) {
+        if self.is_empty() {
+            let _ = self.first.try_replace(Err(AllocError));
+        }
+    }
+
+    // Returns what is noted, and forgets it. `LoggedFaults` calls it.
+    pub(crate) fn take(&self) -> Result<Option<PathFault>, AllocError> {
         match self.first.try_replace(Ok(None)) {
             Ok(first) => first,
             Err(_) => Ok(None),
@@ -73,13 +77,6 @@ impl FaultLog {
         match self.first.try_borrow() {
             Ok(first) => matches!(&*first, Ok(None)),
             Err(_) => false,
-        }
-    }
-
-    // Notes that memory ran out as a fault was to be noted, unless something is noted already.
-    fn note_lost_fault(&self) {
-        if self.is_empty() {
-            let _ = self.first.try_replace(Err(AllocError));
         }
     }
 

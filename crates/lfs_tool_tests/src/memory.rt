@@ -29,10 +29,10 @@ fn run_program<R: Files + AllocGlobal + Clone + Drop>(
     out: &mut Kept,
     err: &mut Kept,
 ) -> u8 {
-    let log = FaultLog::new();
+    let mut log = FaultLog::new();
     let mut places = RealPlaces::new(
         rt,
-        &log,
+        &mut log,
         io::empty(),
         io::sink(),
         None::<(io::Stderr, HostRuntime)>,

@@ -219,7 +219,7 @@ const RUNS: [(&[&str], usize, &str); 4] = [
 // Whether a run ends well and writes no error, with this terminal and this clock.
 fn is_run_successful<'a>(
     rt: &'a HostRuntime,
-    log: &'a FaultLog,
+    log: &'a mut FaultLog,
     out: LimitedTerminal<'a>,
     clock: &'a TickingClock,
     words: &[&str],
@@ -245,12 +245,12 @@ fn is_progress_shown(
     room: usize,
     text: &str,
 ) -> io::Result<bool> {
-    let log = FaultLog::new();
+    let mut log = FaultLog::new();
     let file = File::create(rt, "progress/shown")?;
     let clock = clock_with_step(2000);
     let ends = is_run_successful(
         rt,
-        &log,
+        &mut log,
         LimitedTerminal { file: &file, room },
         &clock,
         words,

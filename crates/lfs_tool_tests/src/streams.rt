@@ -107,9 +107,9 @@ fn ends_so<R: Files + AllocGlobal + Clone + Drop>(
     input: Pipe,
     output: Wanting,
 ) -> Result<bool, AllocError> {
-    let log = FaultLog::new();
+    let mut log = FaultLog::new();
     let terminal = None::<(io::Stderr, HostRuntime)>;
-    let mut places = RealPlaces::new(rt, &log, input, output, terminal);
+    let mut places = RealPlaces::new(rt, &mut log, input, output, terminal);
     let words = program_words(rt.alloc(), ending.words)?;
     let mut out = WatchedStream::new(Vec::new(rt.alloc()));
     let mut err = WatchedStream::new(Vec::new(rt.alloc()));

@@ -25,10 +25,10 @@ fn progress_terminal_and_clock(rt: &HostRuntime) -> Option<(io::Stderr, HostRunt
 fn main(rt: HostRuntime) -> ExitCode {
     let mut out = WatchedStream::new(rt.stdout());
     let mut err = WatchedStream::new(rt.stderr());
-    let log = FaultLog::new();
+    let mut log = FaultLog::new();
     let mut places = RealPlaces::new(
         &rt,
-        &log,
+        &mut log,
         rt.stdin(),
         rt.stdout(),
         progress_terminal_and_clock(&rt),

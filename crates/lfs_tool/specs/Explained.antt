@@ -16,12 +16,14 @@ use Rattle.lfs_tool_line.specs.declared.sizes.SizeRule.{SizeRule}
 use Rattle.lfs_tool_line.specs.declared.sizes.Sizes.{Sizes}
 use Rattle.lfs_tool.specs.CheckResults.{IsCheckResultOfBytes}
 use Rattle.lfs_tool.specs.CheckedLines.{check_result_text}
-use Rattle.lfs_tool.specs.Errors.{tool_error_line}
-use Rattle.lfs_tool.specs.Needed.{IsJustEnoughBlocksForEntries}
+use Rattle.lfs_tool.specs.Errors.{error_line, tool_error_line}
+use Rattle.lfs_tool.specs.Needed.{IsTrueOfEnoughBlocks}
 use Rattle.lfs_tool.specs.PlaceEvents.{FaultAnswered}
 use Rattle.lfs_tool.specs.Reports.{WritesTextOrFails}
 use Rattle.lfs_tool.specs.RequestedSizes.{IsErrorWhereNoGeometryHasSizes}
 use Rattle.lfs_tool.specs.RunsAtPaths.{HasFaultAtPath, FailsToReadFolder, IsTrueOfSomethingAtPath, IsTrueForMode}
+use Rattle.lfs_tool.specs.declared.needed_blocks.EnoughBlocks.{EnoughBlocks}
+use Rattle.lfs_tool.specs.declared.needed_blocks.EnoughBlocks.TheVariants as enough
 use Rattle.lfs_tool.specs.declared.needed_blocks.NeededBlocks.{NeededBlocks}
 use Rattle.lfs_tool.specs.declared.errors.ToolError.{ToolError}
 use Rattle.lfs_tool.specs.declared.errors.ToolError.TheVariants.{Fs, Input, Output}
@@ -42,13 +44,20 @@ abbrev pub broken_size_rule_text : Sizes → Option SizeRule → List ℕ
 broken_size_rule_text sizes None = []
 broken_size_rule_text sizes (Some rule) = broken_size_rule_line sizes rule
 
-abbrev pub enough_blocks_text : Option ℕ → List ℕ
-enough_blocks_text None = []
-enough_blocks_text (Some enough) = codes ", it takes " ++ decimal enough
+-- for which error it isn't known how many blocks are enough
+abbrev pub unknown_enough_blocks_text : Error → List ℕ
+unknown_enough_blocks_text e = codes " blocks were too few, how many it takes isn't known: " ++ error_line e
+
+abbrev pub enough_blocks_text : EnoughBlocks → List ℕ
+enough_blocks_text (enough.Count count) = codes " blocks are too few, it takes " ++ decimal count ++ newline
+enough_blocks_text enough.Given = codes " blocks are enough for what the folder has by now" ++ newline
+enough_blocks_text enough.NoImage = codes " blocks are too few, and no image has enough" ++ newline
+enough_blocks_text (enough.Refused e) = unknown_enough_blocks_text e
+enough_blocks_text enough.OutOfMemory = unknown_enough_blocks_text fs.NoMemory
 
 -- how many blocks there are, and how many it takes
 abbrev pub needed_blocks_text : NeededBlocks → List ℕ
-needed_blocks_text n = decimal n.blocks ++ codes " blocks are too few" ++ enough_blocks_text n.enough ++ newline
+needed_blocks_text n = decimal n.blocks ++ enough_blocks_text n.enough
 
 abbrev pub explanation_text : Explanation → List ℕ
 explanation_text (explanation.Place f) = text_of_fault_met_at_host_path f
@@ -92,13 +101,13 @@ explanation_by_answered_fault (Err e) = Err (Fs e)
 abbrev pub IsFaultAnsweredByPlaces : {P I N F T R : Type 0} → Ghosts P I N F T R → P → P → Result Explanation ToolError → Type 0
 IsFaultAnsweredByPlaces places old new result = (answer : Result (Option PathFault) Error) × ((places.history new ≡ FaultAnswered answer ∷ places.history old) × (result ≡ explanation_by_answered_fault answer))
 
--- An image of the line's folder has too few of these blocks. Where a number is said, an image of so many holds what the folder
--- has, and one of one block less doesn't. Files are read up to the most that an image may have.
+-- The blocks are those of the line's image, and what is said of how many are enough is true of what the folder has. Files are read up
+-- to the most that an image may have.
 abbrev pub ExplainsNeededBlocksOfFolder : {F : Type 0} → (F → List ℕ) → (F → ℕ) → (F → Option TreeSource) → Line → List ℕ → Explanation → Type 0
 ExplainsNeededBlocksOfFolder folder_of limit_of shown line folder (explanation.Blocks needed) =
     (needed.blocks ≡ line.size / line.block_size)
     × IsTrueOfSomethingAtPath folder_of folder (λ f. (limit_of f ≡ 268435456)
-    × ((entries : List SourceEntry) × (AreAllEntriesOfSource (shown f) entries × IfSome needed.enough (IsJustEnoughBlocksForEntries line entries))))
+    × ((entries : List SourceEntry) × (AreAllEntriesOfSource (shown f) entries × IsTrueOfEnoughBlocks line entries needed.blocks needed.enough)))
 ExplainsNeededBlocksOfFolder folder_of limit_of shown line folder other = ⊥
 
 abbrev pub ExplainsTooFewBlocks : {F : Type 0} → (F → List ℕ) → (F → ℕ) → (F → Option TreeSource) → Line → Explanation → Type 0

@@ -1,12 +1,16 @@
 // The cause for which a call failed, and its lines.
 
 ghost use Rattle.std.specs.Prelude.{◌≡◌, ◌++◌, IfOk, OnOk};
-ghost use Rattle.lfs_tool.specs.Explained.{enough_blocks_text, explanation_text, text_of_fault_met_at_host_path, needed_blocks_text, broken_size_rule_text};
+ghost use Rattle.lfs_tool.specs.Explained.{enough_blocks_text, explanation_text, unknown_enough_blocks_text, text_of_fault_met_at_host_path, needed_blocks_text, broken_size_rule_text};
 
 use crate::check_result::CheckResult;
-use crate::checked_lines::{lines_of_check_result, push_labelled_number, push_text};
+use crate::checked_lines::{
+    lines_of_check_result, push_labelled_number, push_line, push_number_line, push_text,
+};
 use crate::escape::push_escaped_path;
-use crate::needed_blocks::NeededBlocks;
+use crate::line_text::line_text_of_library_error;
+use crate::needed_blocks::{EnoughBlocks, NeededBlocks};
+use lfs_device::Error;
 use lfs_tool_folders::PathFault;
 use lfs_tool_line::{SizeRule, Sizes};
 use std::alloc::{AllocError, Global};
@@ -20,7 +24,7 @@ pub enum Explanation {
     Checked(CheckResult),
     /// The sizes, and a rule that they break.
     Sizes(Sizes, Option<SizeRule>),
-    /// The blocks are too few.
+    /// How many blocks the image has, and how many are enough.
     Blocks(NeededBlocks),
     /// No more is known.
     Nothing,
@@ -51,24 +55,41 @@ fn push_broken_size_rule(
     }
 }
 
+// Adds the error for which it isn't known how many blocks are enough.
+fn push_error_of_trial(text: &mut Vec<u8>, error: Error) -> Result<(), AllocError>
+    ensures { OnOk result (text.new.items ≡ text.old.items ++ unknown_enough_blocks_text error) }
+{
+    push_text(
+        text,
+        " blocks were too few, how many it takes isn't known: ",
+    )?;
+    push_text(text, line_text_of_library_error(error).as_str())?;
+    Ok(())
+}
+
 // Adds how many blocks are enough.
-fn push_enough_blocks(text: &mut Vec<u8>, enough: Option<u32>) -> Result<(), AllocError>
+fn push_enough_blocks(text: &mut Vec<u8>, enough: EnoughBlocks) -> Result<(), AllocError>
     ensures { OnOk result (text.new.items ≡ text.old.items ++ enough_blocks_text enough) }
 {
     match enough {
-        Some(enough) => push_labelled_number(text, ", it takes ", enough as usize),
-        None => Ok(()),
+        EnoughBlocks::Count(count) => {
+            push_number_line(text, " blocks are too few, it takes ", count as usize)
+        }
+        EnoughBlocks::Given => {
+            push_line(text, " blocks are enough for what the folder has by now")
+        }
+        EnoughBlocks::NoImage => push_line(text, " blocks are too few, and no image has enough"),
+        EnoughBlocks::Refused(error) => push_error_of_trial(text, error),
+        EnoughBlocks::OutOfMemory => push_error_of_trial(text, Error::NoMemory),
     }
 }
 
-// Adds the line of blocks that are too few.
+// Adds the line that says how many blocks there are, and how many are enough.
 fn push_needed_blocks(text: &mut Vec<u8>, needed: NeededBlocks) -> Result<(), AllocError>
     ensures { OnOk result (text.new.items ≡ text.old.items ++ needed_blocks_text needed) }
 {
     push_labelled_number(text, "", needed.blocks as usize)?;
-    push_text(text, " blocks are too few")?;
     push_enough_blocks(text, needed.enough)?;
-    text.push(b'\n')?;
     Ok(())
 }
 

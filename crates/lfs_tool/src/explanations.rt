@@ -8,7 +8,7 @@ ghost use Rattle.lfs_tool.specs.RunsAtPaths.{IsTrueOfSomethingAtPath, IsTrueForM
 use crate::creation::read_source_entries;
 use crate::explanation::{Explanation, explanation_lines};
 use crate::input::{IMAGE_MAX, read_image};
-use crate::needed_blocks::{NeededBlocks, just_enough_block_count_for_entries};
+use crate::needed_blocks::{NeededBlocks, enough_blocks_for_entries};
 use crate::{
     Line, Mode, Places, ToolError, ToolOutput, check_result_of_image, geometry_of_image_sizes,
     write_bytes_and_flush,
@@ -107,7 +107,7 @@ fn explanation_by_needed_blocks<P: Places>(
     let mut source = places.folder(folder, IMAGE_MAX as u32)?;
     let entries = read_source_entries(alloc, &mut source)?;
     let blocks = geometry.block_count;
-    let enough = just_enough_block_count_for_entries(alloc, line, entries.as_slice(), blocks);
+    let enough = enough_blocks_for_entries(alloc, line, entries.as_slice(), blocks);
     Ok(Explanation::Blocks(NeededBlocks { blocks, enough }))
 }
 
@@ -131,7 +131,7 @@ fn explanation_of_too_few_blocks<P: Places>(
 ///
 /// # Errors
 /// `Input` where the image or the folder is read again and that fails, or a folder has bad names.
-/// `Fs(NoMemory)` where memory isn't granted, or wasn't to note a fault. `Fs(Invalid)` where the error is
+/// `Fs(NoMemory)` where memory isn't granted, but for a trial, or wasn't to note a fault. `Fs(Invalid)` where the error is
 /// `NoSpace` and no image has the line's sizes. Where the error is another one than `Invalid`, `Corrupt` and
 /// `NoSpace`, none comes but `Fs(NoMemory)` at `Input` and `Output`.
 pub fn explanation_of_error<P: Places>(

@@ -2,8 +2,12 @@
 
 use crate::images::{BELOW, ENTRIES};
 use crate::sources::{Items, is_source_read_as_items};
+use lfs_device::Error;
 use lfs_fixtures::{BlockFilling, FixtureEntries, image_with_second_commit};
-use lfs_tool::{RealPlaces, WatchedStream, run_and_return_exit_status};
+use lfs_tool::{
+    EnoughBlocks, Explanation, NeededBlocks, RealPlaces, ToolError, WatchedStream,
+    explanation_of_error, read_line, run_and_return_exit_status,
+};
 use lfs_tool_folders::{FaultLog, Folder};
 use std::alloc::{AllocError, Global};
 use std::fs::OpenFile;
@@ -680,10 +684,10 @@ pub(crate) fn is_program_answer_as_expected<R: Files + AllocGlobal + Clone + Dro
 ) -> bool {
     let mut written = WatchedStream::new(Vec::new(rt.alloc()));
     let mut told = WatchedStream::new(Vec::new(rt.alloc()));
-    let log = FaultLog::new();
+    let mut log = FaultLog::new();
     let mut places = RealPlaces::new(
         rt,
-        &log,
+        &mut log,
         io::empty(),
         io::sink(),
         None::<(io::Stderr, HostRuntime)>,
@@ -856,6 +860,55 @@ fn is_long_file_refused<R: Files + AllocGlobal + Clone + Drop>(rt: &R) -> io::Re
     Ok(is_program_answer_as_expected(rt, Ok(words), 1, "", "error: NoSpace (28)\n"))
 }
 
+// Words of a run whose folder has a file that is longer than any image of such blocks.
+const LARGER: &[&str] = &[
+    "--explain",
+    "-c",
+    "runs/larger",
+    "-b",
+    "1024",
+    "-p",
+    "128",
+    "-s",
+    "4096",
+    "i",
+];
+
+// Whether it is explained that no image has blocks enough.
+fn is_folder_without_image_explained<R: Files + AllocGlobal + Clone + Drop>(
+    rt: &R,
+) -> io::Result<bool> {
+    fs::create_dir(rt, "runs/larger")?;
+    fs::File::create(rt, "runs/larger/c")?.set_len(70_000_000)?;
+    let words = program_words(rt.alloc(), LARGER)?;
+    let err = "error: NoSpace (28)\n4 blocks are too few, and no image has enough\n";
+    Ok(is_program_answer_as_expected(rt, Ok(words), 1, "", err))
+}
+
+// Words of a run that is done.
+const FITTING: &[&str] = &["mklittlefs", "-c", "runs/files", "i"];
+
+// Whether it is explained that the folder has less by now, where its image has room.
+fn is_folder_that_fits_by_now_explained<R: Files + AllocGlobal + Clone + Drop>(
+    rt: &R,
+) -> io::Result<bool> {
+    let mut log = FaultLog::new();
+    let terminal = None::<(io::Stderr, HostRuntime)>;
+    let mut places = RealPlaces::new(rt, &mut log, io::empty(), io::sink(), terminal);
+    let Ok(line) = read_line(rt.alloc(), FITTING) else {
+        return Ok(false);
+    };
+    let error = ToolError::Fs(Error::NoSpace);
+    let given = NeededBlocks {
+        blocks: 16,
+        enough: EnoughBlocks::Given,
+    };
+    match explanation_of_error(rt.alloc(), &mut places, &line, error) {
+        Ok(Explanation::Blocks(needed)) => Ok(needed == given),
+        _ => Ok(false),
+    }
+}
+
 // Whether the errors of the runs above are explained so.
 fn are_run_errors_explained<R: Files + AllocGlobal + Clone + Drop>(rt: &R) -> io::Result<bool> {
     make_files_before_runs(rt, &ABOUT)?;
@@ -890,6 +943,8 @@ fn program_runs_are_as_expected(rt: HostRuntime) -> Result<(), Fail> {
     assert!(rt; are_replace_runs_as_expected(&rt)?);
     assert!(rt; are_run_errors_explained(&rt)?);
     assert!(rt; is_long_file_refused(&rt)?);
+    assert!(rt; is_folder_without_image_explained(&rt)?);
+    assert!(rt; is_folder_that_fits_by_now_explained(&rt)?);
     fs::remove_dir_all(&rt, "runs")?;
     Ok(())
 }

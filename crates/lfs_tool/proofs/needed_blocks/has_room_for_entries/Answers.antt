@@ -23,9 +23,22 @@ returns-in-Ok-clause-room c = λ _. record {
   left = c.in-Ok.ensures.ok;
 }
 
-pub returns-in-Err-NoSpace-clause-small : goal.returns-in-Err-NoSpace-clause-small
-returns-in-Err-NoSpace-clause-small c = λ _. record {
+pub returns-in-NoSpace-clause-small : goal.returns-in-NoSpace-clause-small
+returns-in-NoSpace-clause-small c = λ _. record {
   geometry = c.with_name_order.result;
   sizes = sized c.args.line.now c.args.count c.in_ok-geometry.geometry c.with_name_order.result c.in_ok-geometry.ensures c.with_name_order.ensures;
-  refused = subst (λ e. e ≢ NoMemory → RefusesCopyOfEntries c.with_name_order.result c.args.entries.now e) c.in-Err-NoSpace.field-0-is c.in-Err-NoSpace.ensures.err no_memory;
+  refused = subst (λ e. e ≢ NoMemory → RefusesCopyOfEntries c.with_name_order.result c.args.entries.now e) c.in-NoSpace.is c.in-Err.ensures.err no_memory;
+}
+
+pub returns-in_default : goal.returns-in_default
+returns-in_default c = record {
+  room = tt;
+  small = tt;
+  err = λ no. record {
+    count = c.args.count;
+    geometry = c.with_name_order.result;
+    sizes = sized c.args.line.now c.args.count c.in_ok-geometry.geometry c.with_name_order.result c.in_ok-geometry.ensures c.with_name_order.ensures;
+    refused = c.in-Err.ensures.err no;
+    other = c.in_default.not-NoSpace;
+  };
 }

@@ -9,7 +9,8 @@ ones whose newest log has one more commit, or that are checked with other sizes.
 - Of an image that the reader (image_reader.py) accepts, all lines, as check_lines.py works them out from what the reader reads.
 - Of any other one, `corrupt` and a line that has to be true. check_lines.py makes each line that is true of the image, from the
   addresses, logs and slots that the reader finds in it. That of PROGRAM has to be one of these, and of the first part that
-  has any: the superblock in block 0 or 1 by its place, the sizes, the thread, the superblock's chain, the other slots.
+  has any: the superblock in block 0 or 1 by its place, the sizes, the thread, the superblock's chain, the other slots,
+  the order of names in the directories that are reached, the move, the lists of files.
   `no single rule was found` has to come exactly where no line is true.
 
 Prints for each kind of image how many were accepted, and for each kind of line how often it came, how often the reader stopped

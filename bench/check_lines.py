@@ -8,7 +8,7 @@ import collections
 from dataclasses import dataclass
 
 import image_reader
-from image_reader import CREATE, DELETE, FILE, FOLDER, INLINE, LIST, NONE, PAIR_STRUCT, SUPERBLOCK
+from image_reader import CREATE, DELETE, FILE, FOLDER, INLINE, LIST, NONE, PAIR_STRUCT, SET_MOVE, SUPERBLOCK
 
 VERSION = 0x00020000
 LIMITS = (255, 2147483647, 1022)
@@ -25,11 +25,16 @@ LINES_OF = {
     "commit": {"no commit"},
     "entry": {"malformed"},
     "fields": {"no superblock", "no fields", "other fields"},
+    "superblock's name": {"other name"},
     "second superblock": {"second superblock"},
     "struct": {"other struct"},
     "name": {"bad name"},
+    "move": {"bad move"},
+    "list": {"bad list", "in pair and file", "in two files"},
+    "owned": {"in pair and file", "in two files", "bad list"},
 }
-PARTLY = {"first entry": {"no superblock"}, "superblock's name": {"no superblock"}, "same fields": {"no fields", "other fields"}}
+PARTLY = {"first entry": {"no superblock", "other name"}, "same fields": {"no fields", "other fields", "other superblock"},
+          "order": {"out of order"}}
 INCOMPLETE = {"no name", "no struct"}  # the reader looks for these behind the thread; the search doesn't go on there
 
 
@@ -208,6 +213,22 @@ def wrong_chain(pairs, root, block_size, count):
                 yield "other fields", "pair %d %d, %s" % (*pair.address, text)
 
 
+def wrong_others(pairs, root):
+    """Superblocks of the chain that differ from the root directory's."""
+    for pair in filter(is_headed, pairs[:root] if is_headed(pairs[root]) else []):
+        one, other = pair.slots[0].struct, pairs[root].slots[0].struct
+        if one[0] == other[0] == INLINE and one != other:
+            yield "other superblock", "pair %d %d, superblock: another one than in pair %d %d" % (*pair.address, *pairs[root].address)
+
+
+def wrong_superblock_name(pairs):
+    for pair in pairs:
+        if pair.slots:
+            if pair.slots[0].name != b"littlefs":
+                yield "other name", place(pair.address, 0, pair.slots[0]) + " isn't the name of a superblock"
+            return
+
+
 def is_name(name):
     return 1 <= len(name) <= 255 and name not in (b".", b"..") and not set(name) & set(b"\0/")
 
@@ -227,6 +248,89 @@ def wrong_slots(pairs, root):
                 yield "bad name", where + " is no name"
 
 
+def global_state(pairs):
+    """The kind, id and pair of the move that is set."""
+    state = bytes(12)
+    for pair in pairs:
+        state = bytes(a ^ b for a, b in zip(state, pair.move))
+    word = image_reader.word(state)
+    return word >> 20 & 0x7ff, word >> 10 & 0x3ff, image_reader.words(state[4:])
+
+
+def moved_slots(pairs):
+    """The places (index of the pair, id) that count as moved away: one at most."""
+    kind, ident, address = global_state(pairs)
+    return {(index, ident) for index, pair in enumerate(pairs) if kind == SET_MOVE and set(pair.address) == set(address)}
+
+
+def entries_from(pairs, index, moved):
+    """The entries of the directory that begins at a pair, and their places."""
+    entries = []
+    while True:
+        for ident, slot in enumerate(pairs[index].slots):
+            if slot.kind != SUPERBLOCK and (index, ident) not in moved:
+                entries.append((slot, place(pairs[index].address, ident, slot)))
+        if not pairs[index].tail[0] or index + 1 == len(pairs):
+            return entries
+        index += 1
+
+
+def reached_directories(pairs, root, moved):
+    """The entries of each directory to which a path leads. Of entries of one name the first is on the path."""
+    begins = {}
+    for index in range(root, len(pairs)):
+        if index == root or not pairs[index - 1].tail[0]:
+            begins.setdefault(frozenset(pairs[index].address), index)
+    firsts = [root]
+    for first in firsts:
+        entries = entries_from(pairs, first, moved)
+        yield entries
+        named = {}
+        for slot, _ in entries:
+            named.setdefault(slot.name, slot)
+        branches = [slot.struct[1] for slot in named.values() if slot.struct[0] == PAIR_STRUCT]
+        nexts = [begins.get(frozenset(image_reader.words(branch))) for branch in branches]
+        firsts += [index for index in dict.fromkeys(nexts) if index is not None and index not in firsts]
+
+
+def wrong_order(pairs, root, moved):
+    """Neighbours in a directory to which a path leads, whose names are in neither order."""
+    for entries in reached_directories(pairs, root, moved):
+        for (one, _), (other, where) in zip(entries, entries[1:]):
+            if not image_reader.shorter_first(one.name, other.name) and not image_reader.longer_first(one.name, other.name):
+                yield "out of order", '%s stands behind "%s"' % (where, image_reader.escaped(one.name).decode())
+
+
+def wrong_move(pairs):
+    kind, ident, address = global_state(pairs)
+    slots = [slot for pair in pairs if set(pair.address) == set(address) for slot in pair.slots[ident : ident + 1]]
+    is_entry = kind == SET_MOVE and any(slot.kind != SUPERBLOCK for slot in slots)
+    if not is_entry and (kind, ident, address) != (0, 0, (0, 0)):
+        yield "bad move", "global state: its move names no entry"
+
+
+def wrong_lists(blocks, pairs, moved):
+    """Lists that aren't well formed, and blocks that are owned twice."""
+    lists = []
+    for index, pair in enumerate(pairs):
+        for ident, slot in enumerate(pair.slots):
+            if slot.struct[0] != LIST or (index, ident) in moved:
+                continue
+            where = place(pair.address, ident, slot)
+            try:
+                lists.append((where, image_reader.list_blocks(blocks, *image_reader.words(slot.struct[1]))))
+            except image_reader.Refused:
+                yield "bad list", where + " has a list with a wrong size, block or pointer"
+    for number, (where, owned) in enumerate(lists):
+        for block in owned:
+            for pair in pairs:
+                if block in pair.address:
+                    yield "in pair and file", "block %d: in pair %d %d and in a file, %s" % (block, *pair.address, where)
+            for other, before in lists[:number]:
+                if block in before:
+                    yield "in two files", "block %d: in two files, %s and %s" % (block, other, where)
+
+
 def true_lines(image, block_size, page):
     """The parts in the order of the search, each with the lines that are true. What is behind a broken thread isn't known."""
     parts = [list(wrong_by_place(image, block_size)), list(wrong_sizes(image, block_size, page))]
@@ -236,8 +340,10 @@ def true_lines(image, block_size, page):
     pairs, wrong = follow(blocks)
     if wrong:
         return parts + [wrong]
-    root = image_reader.last_superblock(pairs)
-    return parts + [list(wrong_chain(pairs, root, block_size, len(blocks))), list(wrong_slots(pairs, root))]
+    root, moved = image_reader.last_superblock(pairs), moved_slots(pairs)
+    chain = [wrong_chain(pairs, root, block_size, len(blocks)), wrong_others(pairs, root), wrong_superblock_name(pairs)]
+    rest = [wrong_slots(pairs, root), wrong_order(pairs, root, moved), wrong_move(pairs), wrong_lists(blocks, pairs, moved)]
+    return parts + [list(part) for part in chain + rest]
 
 
 def known_of(image, geometry):

@@ -4,6 +4,9 @@ pub mod Along
 pub mod Looking
 pub mod RootPlaces
 pub mod HeldPlaces
+pub mod FileLists
+pub mod PlacedEntries
+pub mod ReachedDirectories
 pub mod Counts
 pub mod Reordered
 pub mod Judged
@@ -17,6 +20,8 @@ mod Decimals
 mod KnownBytes
 pub mod Writers
 mod BlockReads
+mod BlockCounts
+mod ValidMoves
 mod Images
 mod Checks
 mod Mounts

@@ -1,11 +1,13 @@
 -- Which rules are broken by the pairs of a thread, without the attributes of their slots.
-use Rattle.std.specs.Prelude.{ℕ, ◌≡◌, ◌⊎◌, ◌<◌, ◌≤◌, true, false, List, length, slice_get, Some}
+use Rattle.std.specs.Prelude.{ℕ, ◌≡◌, ◌≢◌, ◌⊎◌, ◌<◌, ◌≤◌, true, false, List, codes, length, slice_get, Some}
 use Rattle.lfs_model.specs.Disk.{Disk, block_count}
 use Rattle.lfs_model.specs.EntryTypes.{SuperblockFields, superblock_fields_of_struct_bytes}
 use Rattle.lfs_model.specs.Names.{is_valid_name}
 use Rattle.lfs_model.specs.Slots.{Branch, Ctz, Inline, Slot, Struct, pair_address_of_array, is_superblock}
-use Rattle.lfs_model.specs.Thread.{Pair, pairs_from_root_directory_on, starts_with_superblock, pair_count_before_root}
-use Rattle.lfs_model.specs.View.{IsStructOfKind, first_pair_slots}
+use Rattle.lfs_model.specs.Thread.{Pair, first_pair_address, gstate_of_pairs, pairs_from_first_with_slots, pairs_from_root_directory_on, starts_with_superblock, pair_count_before_root}
+use Rattle.lfs_model.specs.View.{HasValidMoveOrNone, IsStructOfKind, first_pair_slots, first_slot_name}
+use Rattle.lfs_tool.specs.BrokenLists.{IsBlockInPairAndFile, IsBlockInTwoFiles, IsSlotWithBadList}
+use Rattle.lfs_tool.specs.BrokenOrder.{IsNameOutOfOrder}
 use Rattle.lfs_tool.specs.declared.findings.Finding.{Finding}
 use Rattle.lfs_tool.specs.declared.findings.Finding.TheVariants as finding
 use Rattle.lfs_tool.specs.declared.findings.NamedSlot.{NamedSlot}
@@ -35,6 +37,13 @@ pub record IsFirstStructOfSuperblockChainPair (ps : List Pair) (at : ℕ × ℕ)
   pub first : slice_get pair.content.slots 0 ≡ Some slot
   pub struct : slot.struct ≡ s
 
+-- slot 0 of the first pair that has a slot, with another name than a superblock's
+pub record IsFirstSlotWithOtherName (ps : List Pair) (place : NamedSlot) : Type 0 where
+  pub pair : first_pair_address (pairs_from_first_with_slots ps) ≡ pair_address_of_array place.pair
+  pub slot : place.slot ≡ 0
+  pub named : first_slot_name (pairs_from_first_with_slots ps) ≡ Some place.name.items
+  pub other : place.name.items ≢ codes "littlefs"
+
 -- ---- entries
 
 -- a slot that has to be an entry: any one but slot 0 of the pairs of the superblock's chain
@@ -58,7 +67,15 @@ BreaksRuleOfFinding disk ps finding.NoSuperblock = starts_with_superblock (first
 BreaksRuleOfFinding disk ps (finding.NoFields pair) = (s : Struct) × (IsFirstStructOfSuperblockChainPair ps (pair_address_of_array pair) s × ((fields : SuperblockFields) → ¬ HasSuperblockFields s fields))
 BreaksRuleOfFinding disk ps (finding.OtherFields pair stated) =
     (s : Struct) × (IsFirstStructOfSuperblockChainPair ps (pair_address_of_array pair) s × ((fields : SuperblockFields) × (HasSuperblockFields s fields × IsWrongSuperblockFieldForDisk disk fields stated)))
+BreaksRuleOfFinding disk ps (finding.OtherSuperblock pair root) =
+    (s : Struct) × (IsFirstStructOfSuperblockChainPair ps (pair_address_of_array pair) s × ((t : Struct) × (IsFirstStructOfSuperblockChainPair ps (pair_address_of_array root) t × (s ≢ t))))
+BreaksRuleOfFinding disk ps (finding.OtherName place) = IsFirstSlotWithOtherName ps place
 BreaksRuleOfFinding disk ps (finding.SecondSuperblock place) = IsTrueOfNamedEntrySlot (λ s. is_superblock s ≡ true) ps place
 BreaksRuleOfFinding disk ps (finding.OtherStruct place) = IsTrueOfNamedEntrySlot (λ s. ¬ IsStructOfKind s.kind s.struct) ps place
 BreaksRuleOfFinding disk ps (finding.BadName place) = IsTrueOfNamedEntrySlot (λ s. is_valid_name s.name ≡ false) ps place
+BreaksRuleOfFinding disk ps (finding.OutOfOrder place name) = IsNameOutOfOrder ps place name.items
+BreaksRuleOfFinding disk ps finding.BadMove = ¬ HasValidMoveOrNone ps (gstate_of_pairs ps)
+BreaksRuleOfFinding disk ps (finding.BadList place) = IsSlotWithBadList disk ps place
+BreaksRuleOfFinding disk ps (finding.InPairAndFile block pair place) = IsBlockInPairAndFile disk ps block (pair_address_of_array pair) place
+BreaksRuleOfFinding disk ps (finding.InTwoFiles block place other) = IsBlockInTwoFiles disk ps block place other
 BreaksRuleOfFinding disk ps _ = ⊥

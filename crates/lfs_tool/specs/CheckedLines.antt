@@ -77,6 +77,26 @@ block_numbers_of_pair_text at = codes "" ++ decimal at.0 ++ codes " " ++ decimal
 abbrev pub block_in_two_pairs_text : ℕ → ℕ × ℕ → ℕ × ℕ → List ℕ
 block_in_two_pairs_text block other at = (codes "block " ++ decimal block) ++ codes ": in two pairs, " ++ block_numbers_of_pair_text other ++ codes " and " ++ block_numbers_of_pair_text at
 
+-- the name between quotes
+abbrev pub quoted_name_text : List ℕ → List ℕ
+quoted_name_text name = codes "\"" ++ escaped_text name ++ codes "\""
+
+-- `pair A B, slot N: "NAME" stands behind "NAME"`
+abbrev pub name_out_of_order_text : NamedSlot → List ℕ → List ℕ
+name_out_of_order_text place name = (named_slot_text place ++ codes " stands behind ") ++ quoted_name_text name
+
+-- `pair A B, superblock: another one than in pair C D`
+abbrev pub other_superblock_text : ℕ × ℕ → ℕ × ℕ → List ℕ
+other_superblock_text at root = (pair_text at ++ codes ", superblock: another one than in ") ++ pair_text root
+
+-- `block N: in pair A B and in a file, pair C D, slot M: "NAME"`
+abbrev pub block_in_pair_and_file_text : ℕ → ℕ × ℕ → NamedSlot → List ℕ
+block_in_pair_and_file_text block at place = (codes "block " ++ decimal block) ++ codes ": in " ++ (pair_text at ++ codes " and in a file, ") ++ named_slot_text place
+
+-- `block N: in two files, pair A B, slot N: "NAME" and pair C D, slot M: "NAME"`
+abbrev pub block_in_two_files_text : ℕ → NamedSlot → NamedSlot → List ℕ
+block_in_two_files_text block other place = (codes "block " ++ decimal block) ++ codes ": in two files, " ++ named_slot_text other ++ codes " and " ++ named_slot_text place
+
 abbrev pub finding_text : GivenSizes → Finding → List ℕ
 finding_text given (finding.OutOfRange pair block) = block_out_of_range_text (pair_address_of_array pair) block
 finding_text given (finding.OneBlock pair) = pair_text (pair_address_of_array pair) ++ codes ": one block twice"
@@ -88,9 +108,16 @@ finding_text given (finding.NoStruct place) = named_slot_text place ++ codes " h
 finding_text given finding.NoSuperblock = codes "superblock: the root directory doesn't begin with one"
 finding_text given (finding.NoFields pair) = slot_text (pair_address_of_array pair) 0 ++ codes ": no superblock's struct"
 finding_text given (finding.OtherFields pair stated) = pair_text (pair_address_of_array pair) ++ codes ", " ++ wrong_superblock_number_text given stated
+finding_text given (finding.OtherSuperblock pair root) = other_superblock_text (pair_address_of_array pair) (pair_address_of_array root)
+finding_text given (finding.OtherName place) = named_slot_text place ++ codes " isn't the name of a superblock"
 finding_text given (finding.SecondSuperblock place) = named_slot_text place ++ codes " is a second superblock"
 finding_text given (finding.OtherStruct place) = named_slot_text place ++ codes " has another kind's struct"
 finding_text given (finding.BadName place) = named_slot_text place ++ codes " is no name"
+finding_text given (finding.OutOfOrder place name) = name_out_of_order_text place name.items
+finding_text given finding.BadMove = codes "global state: its move names no entry"
+finding_text given (finding.BadList place) = named_slot_text place ++ codes " has a list with a wrong size, block or pointer"
+finding_text given (finding.InPairAndFile block pair place) = block_in_pair_and_file_text block (pair_address_of_array pair) place
+finding_text given (finding.InTwoFiles block place other) = block_in_two_files_text block other place
 
 abbrev pub no_image_text : GivenSizes → List ℕ
 no_image_text given = codes "no image of blocks of " ++ decimal given.block_size ++ codes " bytes and pages of " ++ decimal given.page

@@ -2,6 +2,12 @@ pub mod OwnedSlots
 pub mod OwnedSlotView
 pub mod ThreadBeginnings
 pub mod WrongNumbers
+pub mod SlotsInThread
+pub mod FileLists
+pub mod EntryPlaces
+pub mod Moves
+pub mod BrokenLists
+pub mod BrokenOrder
 pub mod BrokenRules
 pub mod Entries
 pub mod Explained
@@ -15,6 +21,7 @@ pub mod RequestedSizes
 pub mod RunEnds
 pub mod Paths
 pub mod PlaceEvents
+pub mod RealPlaceAnswers
 pub mod RunsAtPaths
 pub mod Excerpt
 pub mod ExcerptBlocks

@@ -33,7 +33,7 @@ pub(crate) fn finding_on_two_addresses_of_one_pair(count: u32, pair: [u32; 2]) -
 }
 
 // Returns whether one of the two addresses is that block's.
-fn pair_has_block(pair: [u32; 2], block: u32) -> bool
+pub(crate) fn pair_has_block(pair: [u32; 2], block: u32) -> bool
     ensures { IsTrue result ↔ PairAddressHasBlock (pair_address_of_array pair) block }
 {
     pair[0] == block || pair[1] == block

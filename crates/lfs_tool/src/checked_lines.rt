@@ -4,7 +4,7 @@ ghost use Rattle.std.specs.Prelude.{◌≡◌, ◌++◌, IfOk, OnOk, codes};
 ghost use Rattle.lfs_model.specs.Listing.{newline};
 ghost use Rattle.lfs_model.specs.Slots.{pair_address_of_array};
 ghost use Rattle.std.specs.Fmt.{decimal};
-ghost use Rattle.lfs_tool.specs.CheckedLines.{block_numbers_of_pair_text, used_and_free_blocks_text, labelled_number_line, finding_text, no_image_text, accepted_name_orders_line, pair_text, named_slot_text, block_out_of_range_text, unaccepted_reason_text, needs_recovery_line, slot_text, wrong_superblock_number_text, summary_text, block_in_two_pairs_text, used_blocks_line, check_result_text, writable_line};
+ghost use Rattle.lfs_tool.specs.CheckedLines.{block_numbers_of_pair_text, used_and_free_blocks_text, labelled_number_line, finding_text, no_image_text, accepted_name_orders_line, pair_text, named_slot_text, block_out_of_range_text, unaccepted_reason_text, needs_recovery_line, slot_text, wrong_superblock_number_text, summary_text, block_in_pair_and_file_text, block_in_two_files_text, block_in_two_pairs_text, name_out_of_order_text, other_superblock_text, quoted_name_text, used_blocks_line, check_result_text, writable_line};
 
 use crate::check_result::{CheckResult, GivenSizes, RefusalReason};
 use crate::escape::push_escaped_path;
@@ -24,7 +24,7 @@ pub(crate) fn push_text(text: &mut Vec<u8>, add: &str) -> Result<(), AllocError>
 }
 
 // Adds a line.
-fn push_line(text: &mut Vec<u8>, line: &str) -> Result<(), AllocError>
+pub(crate) fn push_line(text: &mut Vec<u8>, line: &str) -> Result<(), AllocError>
     ensures { OnOk result (text.new.items ≡ text.old.items ++ (line.now ++ newline)) }
 {
     text.extend_from_slice(line.as_bytes())?;
@@ -48,7 +48,11 @@ pub(crate) fn push_labelled_number(
 }
 
 // Adds a line with a number after a text.
-fn push_number_line(text: &mut Vec<u8>, label: &str, count: usize) -> Result<(), AllocError>
+pub(crate) fn push_number_line(
+    text: &mut Vec<u8>,
+    label: &str,
+    count: usize,
+) -> Result<(), AllocError>
     ensures { OnOk result (text.new.items ≡ text.old.items ++ labelled_number_line label.now count) }
 {
     push_labelled_number(text, label, count)?;
@@ -257,6 +261,70 @@ fn push_two_addresses_of_pair(text: &mut Vec<u8>, pair: [u32; 2]) -> Result<(), 
     push_two_labelled_numbers(text, "", pair[0] as usize, " ", pair[1] as usize)
 }
 
+fn push_other_superblock(
+    text: &mut Vec<u8>,
+    pair: [u32; 2],
+    root: [u32; 2],
+) -> Result<(), AllocError>
+    ensures { OnOk result (text.new.items ≡ text.old.items ++ other_superblock_text (pair_address_of_array pair) (pair_address_of_array root)) }
+{
+    push_pair_message(text, pair, ", superblock: another one than in ")?;
+    push_pair_text(text, root)?;
+    Ok(())
+}
+
+// Adds a name between quotes.
+fn push_quoted_name(text: &mut Vec<u8>, name: &[u8]) -> Result<(), AllocError>
+    ensures { OnOk result (text.new.items ≡ text.old.items ++ quoted_name_text name.now) }
+{
+    text.push(b'"')?;
+    push_escaped_path(text, name)?;
+    text.push(b'"')?;
+    Ok(())
+}
+
+fn push_name_out_of_order(
+    text: &mut Vec<u8>,
+    place: &NamedSlot,
+    name: &[u8],
+) -> Result<(), AllocError>
+    ensures { OnOk result (text.new.items ≡ text.old.items ++ name_out_of_order_text place.now name.now) }
+{
+    push_named_slot_message(text, place, " stands behind ")?;
+    push_quoted_name(text, name)?;
+    Ok(())
+}
+
+fn push_block_in_pair_and_file(
+    text: &mut Vec<u8>,
+    block: u32,
+    pair: [u32; 2],
+    place: &NamedSlot,
+) -> Result<(), AllocError>
+    ensures { OnOk result (text.new.items ≡ text.old.items ++ block_in_pair_and_file_text block (pair_address_of_array pair) place.now) }
+{
+    push_labelled_number(text, "block ", block as usize)?;
+    push_text(text, ": in ")?;
+    push_pair_message(text, pair, " and in a file, ")?;
+    push_named_slot_text(text, place)?;
+    Ok(())
+}
+
+fn push_block_in_two_files(
+    text: &mut Vec<u8>,
+    block: u32,
+    other: &NamedSlot,
+    place: &NamedSlot,
+) -> Result<(), AllocError>
+    ensures { OnOk result (text.new.items ≡ text.old.items ++ block_in_two_files_text block other.now place.now) }
+{
+    push_labelled_number(text, "block ", block as usize)?;
+    push_text(text, ": in two files, ")?;
+    push_named_slot_text(text, other)?;
+    push_text(text, " and ")?;
+    push_named_slot_text(text, place)
+}
+
 fn push_pair_with_wrong_number(
     text: &mut Vec<u8>,
     given: &GivenSizes,
@@ -301,6 +369,12 @@ fn push_finding_text(
         Finding::OtherFields { pair, stated } => push_pair_with_wrong_number(
             text, given, *pair, *stated,
         ),
+        Finding::OtherSuperblock { pair, root } => push_other_superblock(text, *pair, *root),
+        Finding::OtherName(place) => push_named_slot_message(
+            text,
+            place,
+            " isn't the name of a superblock",
+        ),
         Finding::SecondSuperblock(place) => push_named_slot_message(
             text,
             place,
@@ -312,6 +386,21 @@ fn push_finding_text(
             " has another kind's struct",
         ),
         Finding::BadName(place) => push_named_slot_message(text, place, " is no name"),
+        Finding::OutOfOrder { place, name } => push_name_out_of_order(text, place, name),
+        Finding::BadMove => push_text(text, "global state: its move names no entry"),
+        Finding::BadList(place) => push_named_slot_message(
+            text,
+            place,
+            " has a list with a wrong size, block or pointer",
+        ),
+        Finding::InPairAndFile { block, pair, place } => push_block_in_pair_and_file(
+            text, *block, *pair, place,
+        ),
+        Finding::InTwoFiles {
+            block,
+            place,
+            other,
+        } => push_block_in_two_files(text, *block, other, place),
     }
 }
 

@@ -71,6 +71,13 @@ pub enum Finding {
         pair: [u32; 2],
         stated: WrongNumber,
     },
+    /// The superblock of a pair of the chain isn't that of the root directory.
+    OtherSuperblock {
+        pair: [u32; 2],
+        root: [u32; 2],
+    },
+    /// The first slot of the thread has another name than a superblock's.
+    OtherName(NamedSlot),
 
     // ---- entries
     /// A superblock is elsewhere than in slot 0 of the chain.
@@ -80,4 +87,30 @@ pub enum Finding {
     /// An entry has a name that isn't allowed: an empty one, or one of more than 255 bytes, with a
     /// byte 0 or a slash, or `.` or `..`.
     BadName(NamedSlot),
+    /// The names of two neighbours in a directory are in neither order: the later one, and the name
+    /// before it.
+    OutOfOrder {
+        place: NamedSlot,
+        name: Vec<u8>,
+    },
+
+    // ---- the global state
+    /// A move is set that names no entry, or something else than a move.
+    BadMove,
+
+    // ---- the lists of files
+    /// The list of a file has a wrong size, block or pointer.
+    BadList(NamedSlot),
+    /// A block of a pair is in the list of a file.
+    InPairAndFile {
+        block: u32,
+        pair: [u32; 2],
+        place: NamedSlot,
+    },
+    /// A block is in the lists of two files: in the other one, and then in the one at the place.
+    InTwoFiles {
+        block: u32,
+        place: NamedSlot,
+        other: NamedSlot,
+    },
 }

@@ -1,8 +1,9 @@
 // What is wrong with the image of a device.
 
-ghost use Rattle.std.specs.Prelude.{◌≡◌, IfErr, IfOk, IfSome};
+ghost use Rattle.std.specs.Prelude.{◌≡◌, ◌<◌, IfOk, IfSome, length};
 ghost use Rattle.lfs_device.specs.Shown.{disk_of_geometry_and_blocks};
 ghost use Rattle.lfs_model.specs.Disk.{Disk};
+ghost use Rattle.lfs_model.specs.Thread.{pair_count_before_root};
 ghost use Rattle.lfs_tool.specs.BrokenRules.{BreaksRuleOfFinding};
 ghost use Rattle.lfs_tool.specs.Device.{HasSizesOfGeometry, OnlyReadsDevice};
 ghost use Rattle.lfs_tool.specs.Findings.{IsTrueFindingOfDisk};
@@ -10,13 +11,48 @@ ghost use Rattle.lfs_tool.specs.OwnedSlotView.{owned_pairs_view};
 ghost use Rattle.lfs_tool.specs.PairReads.{AreAllThreadPairsOrFinding};
 
 use crate::findings::Finding;
+use crate::list_checks::finding_on_lists;
+use crate::moves::is_move_none_or_of_entry;
+use crate::order_checks::finding_on_name_order;
 use crate::owned_parts::OwnedPair;
 use crate::roots::root_pair_index;
 use crate::slots::finding_on_entry_slots;
 use crate::superblock_checks::finding_on_superblock_chain;
+use crate::superblock_names::finding_on_superblock_name;
 use crate::thread_walk::{FollowedThread, read_pairs_of_thread};
 use lfs_device::{BlockDevice, Error, Geometry};
 use std::alloc::{AllocError, Global};
+
+// Returns the first rule that the superblock's name breaks, the slots of pairs, or the order of their
+// names. So many pairs are before the root directory.
+fn finding_on_slots_and_names(
+    alloc: Global,
+    pairs: &[OwnedPair],
+    root: usize,
+) -> Result<Option<Finding>, AllocError>
+    requires root { root ≡ pair_count_before_root (owned_pairs_view pairs.now) }
+    requires below { root < length pairs.now }
+    ensures { IfOk result (λ found. IfSome found (λ f. (disk : Disk) → BreaksRuleOfFinding disk (owned_pairs_view pairs.now) f)) }
+{
+    if let Some(finding) = finding_on_superblock_name(alloc, pairs)? {
+        return Ok(Some(finding));
+    }
+    if let Some(finding) = finding_on_entry_slots(alloc, pairs, root)? {
+        return Ok(Some(finding));
+    }
+    finding_on_name_order(alloc, pairs, root)
+}
+
+// Returns what is wrong with the move that pairs set.
+fn finding_on_move(pairs: &[OwnedPair]) -> Option<Finding>
+    ensures { IfSome result (λ f. (disk : Disk) → BreaksRuleOfFinding disk (owned_pairs_view pairs.now) f) }
+{
+    if is_move_none_or_of_entry(pairs) {
+        None
+    } else {
+        Some(Finding::BadMove)
+    }
+}
 
 // Returns the first rule that the pairs of a thread break.
 fn finding_on_pairs(
@@ -33,30 +69,48 @@ fn finding_on_pairs(
     if let Some(finding) = finding_on_superblock_chain(geometry, pairs, root) {
         return Ok(Some(finding));
     }
-    finding_on_entry_slots(alloc, pairs, root)
+    if let Some(finding) = finding_on_slots_and_names(alloc, pairs, root)? {
+        return Ok(Some(finding));
+    }
+    Ok(finding_on_move(pairs))
+}
+
+// Returns the first rule that the pairs of a thread break, or the lists of their files.
+fn finding_on_pairs_and_lists<D: BlockDevice>(
+    alloc: Global,
+    device: &mut D,
+    pairs: &[OwnedPair],
+) -> Result<Option<Finding>, Error>
+    ensures found { IfOk result (λ found. IfSome found (BreaksRuleOfFinding (disk_of_geometry_and_blocks (D.geometry device.old) (D.blocks device.old)) (owned_pairs_view pairs.now))) }
+    ensures looks { OnlyReadsDevice D.BlockDevice device.old device.new result }
+{
+    let geometry = device.geometry();
+    match finding_on_pairs(alloc, &geometry, pairs)? {
+        Some(finding) => Ok(Some(finding)),
+        None => finding_on_lists(alloc, device, pairs),
+    }
 }
 
 // Returns the first rule that a thread breaks, after it was followed.
-fn finding_on_followed_thread(
+fn finding_on_followed_thread<D: BlockDevice>(
     alloc: Global,
-    geometry: &Geometry,
+    device: &mut D,
     followed: FollowedThread,
 ) -> Result<Option<Finding>, Error>
-    ensures found { IfOk result (λ found. IfSome found (λ f. (disk : Disk) → HasSizesOfGeometry disk geometry.now → AreAllThreadPairsOrFinding disk followed → IsTrueFindingOfDisk disk f)) }
-    ensures errors { IfErr result (λ e. e ≡ Error.NoMemory) }
+    requires { AreAllThreadPairsOrFinding (disk_of_geometry_and_blocks (D.geometry device.old) (D.blocks device.old)) followed }
+    ensures found { IfOk result (λ found. IfSome found (IsTrueFindingOfDisk (disk_of_geometry_and_blocks (D.geometry device.old) (D.blocks device.old)))) }
+    ensures looks { OnlyReadsDevice D.BlockDevice device.old device.new result }
 {
     match followed {
-        FollowedThread::Whole(pairs) => {
-            let finding = finding_on_pairs(alloc, geometry, &pairs)?;
-            Ok(finding)
-        }
+        FollowedThread::Whole(pairs) => finding_on_pairs_and_lists(alloc, device, &pairs),
         FollowedThread::Broken(finding) => Ok(Some(finding)),
     }
 }
 
 /// Returns the first rule that an image breaks, and where. First come the addresses and logs of the
-/// pairs, from the pair {0, 1} on by the tails. Then come the superblock's sizes and version, and
-/// then the slots of the pairs. Only reads are made, one of each block of a pair.
+/// pairs, from the pair {0, 1} on by the tails. Then come the superblock's sizes and version, the
+/// slots of the pairs, the order of their names and the move, and last the lists of files. Only reads
+/// are made.
 ///
 /// Returns None where the image breaks no rule that the search looks for. The image may still not
 /// be accepted then.
@@ -69,9 +123,8 @@ pub fn find_broken_rule_on_device<D: BlockDevice>(
     ensures found { IfOk result (λ found. IfSome found (IsTrueFindingOfDisk (disk_of_geometry_and_blocks (D.geometry device.old) (D.blocks device.old)))) }
     ensures looks { OnlyReadsDevice D.BlockDevice device.old device.new result }
 {
-    let geometry = device.geometry();
     match read_pairs_of_thread(alloc, device)? {
-        Some(followed) => finding_on_followed_thread(alloc, &geometry, followed),
+        Some(followed) => finding_on_followed_thread(alloc, device, followed),
         None => Ok(None),
     }
 }

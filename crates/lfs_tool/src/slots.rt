@@ -52,7 +52,7 @@ fn entry_defect_of_slot(slot: &OwnedSlot) -> Option<EntryDefect>
 }
 
 // Returns a slot by its pair, its number and its name.
-fn named_slot_of_owned_slot(
+pub(crate) fn named_slot_of_owned_slot(
     alloc: Global,
     pair: [u32; 2],
     slot: usize,

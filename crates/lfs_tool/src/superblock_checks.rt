@@ -1,6 +1,6 @@
 // The superblock's chain.
 
-ghost use Rattle.std.specs.Prelude.{◌≡◌, ◌<◌, ◌≤◌, ℕ, IfSome, List, None, Some, length, slice_get};
+ghost use Rattle.std.specs.Prelude.{◌≡◌, ◌≢◌, ◌<◌, ◌≤◌, ℕ, IfSome, List, None, Some, false, length, slice_get};
 ghost use Rattle.lfs_model.specs.Disk.{Disk};
 ghost use Rattle.lfs_model.specs.EntryTypes.{SuperblockFields};
 ghost use Rattle.lfs_model.specs.Slots.{Inline, Struct as ModelStruct, pair_address_of_array};
@@ -105,6 +105,47 @@ fn finding_on_chain_superblocks(
     None
 }
 
+// Returns whether two structs of superblocks have the same bytes, or one of them isn't a superblock's.
+fn has_same_bytes(one: &OwnedStruct, other: &OwnedStruct) -> bool
+    ensures { result ≡ false → owned_struct_view one.now ≢ owned_struct_view other.now }
+{
+    match (one, other) {
+        (OwnedStruct::Inline(one), OwnedStruct::Inline(other)) => one == other,
+        _ => true,
+    }
+}
+
+// Returns what is wrong with the superblock in a pair of the chain beside the one of the root directory.
+fn finding_on_two_superblocks(pair: &OwnedPair, root: &OwnedPair) -> Option<Finding>
+    ensures { IfSome result (λ f. (disk : Disk) (ps : List Pair) (index : ℕ) (last : ℕ) → slice_get ps index ≡ Some (owned_pair_view pair.now) → index ≤ pair_count_before_root ps
+        → slice_get ps last ≡ Some (owned_pair_view root.now) → last ≤ pair_count_before_root ps → BreaksRuleOfFinding disk ps f) }
+{
+    let (Some(one), Some(other)) = (pair.slots.first(), root.slots.first()) else {
+        return None;
+    };
+    if has_same_bytes(&one.structure, &other.structure) {
+        return None;
+    }
+    Some(Finding::OtherSuperblock {
+        pair: pair.at,
+        root: root.at,
+    })
+}
+
+// Returns what is wrong with the superblocks of the chain beside one another.
+fn finding_on_other_superblocks(pairs: &[OwnedPair], root: usize) -> Option<Finding>
+    requires below { root < length pairs.now }
+    requires root { root ≡ pair_count_before_root (owned_pairs_view pairs.now) }
+    ensures { IfSome result (λ f. (disk : Disk) → BreaksRuleOfFinding disk (owned_pairs_view pairs.now) f) }
+{
+    for index in 0..root {
+        if let Some(finding) = finding_on_two_superblocks(&pairs[index], &pairs[root]) {
+            return Some(finding);
+        }
+    }
+    None
+}
+
 // Returns what is wrong with the superblock's chain, of which so many pairs are before the root
 // directory (SPEC.md of littlefs, "0x0ff LFS_TYPE_SUPERBLOCK").
 pub(crate) fn finding_on_superblock_chain(
@@ -119,5 +160,8 @@ pub(crate) fn finding_on_superblock_chain(
     if !starts_with_superblock(&pairs[root].slots) {
         return Some(Finding::NoSuperblock);
     }
-    finding_on_chain_superblocks(geometry, pairs, root)
+    if let Some(finding) = finding_on_chain_superblocks(geometry, pairs, root) {
+        return Some(finding);
+    }
+    finding_on_other_superblocks(pairs, root)
 }

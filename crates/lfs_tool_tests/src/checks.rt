@@ -91,8 +91,11 @@ const ACCEPTED: [Row<'static>; 6] = [
     ),
 ];
 
+const BAD_LIST: &str =
+    "corrupt\npair 0 1, slot 1: \"a\" has a list with a wrong size, block or pointer\n";
+
 // An image for each finding, and some that break a rule which no finding has.
-const REFUSED: [Row<'static>; 16] = [
+const REFUSED: [Row<'static>; 32] = [
     // the thread
     (
         &[(SOFT_TAIL, FAR)],
@@ -153,6 +156,24 @@ const REFUSED: [Row<'static>; 16] = [
         &[],
         "corrupt\npair 0 1, superblock: block size 8192, given 4096\n",
     ),
+    (
+        &[(0x0010_0008, b"littlefs")],
+        &[],
+        "corrupt\nsuperblock: the root directory doesn't begin with one\n",
+    ),
+    (
+        &[(HARD_TAIL, PAIR)],
+        &[(
+            2,
+            BlockFilling::Commit(&[(0x0ff0_0008, b"littlefs"), (0x2010_0018, SHORT_NAMES)]),
+        )],
+        "corrupt\npair 0 1, superblock: another one than in pair 2 3\n",
+    ),
+    (
+        &[(0x0ff0_0008, b"LITTLEFS")],
+        &[],
+        "corrupt\npair 0 1, slot 0: \"LITTLEFS\" isn't the name of a superblock\n",
+    ),
     // entries
     (
         &[(0x0ff0_0408, b"littlefs"), (0x2010_0400, b"")],
@@ -169,7 +190,17 @@ const REFUSED: [Row<'static>; 16] = [
         &[],
         "corrupt\npair 0 1, slot 1: \"a/\\x0a\" is no name\n",
     ),
-    // a name twice, and a block of two files
+    // a name behind a later one, a name twice, and a name in the next pair
+    (
+        &[
+            (0x0010_0401, b"b"),
+            (0x2010_0400, b""),
+            (0x0010_0801, b"a"),
+            (0x2010_0800, b""),
+        ],
+        &[],
+        "corrupt\npair 0 1, slot 2: \"a\" stands behind \"b\"\n",
+    ),
     (
         &[
             (0x0010_0401, b"a"),
@@ -178,7 +209,115 @@ const REFUSED: [Row<'static>; 16] = [
             (0x2010_0800, b""),
         ],
         &[],
+        "corrupt\npair 0 1, slot 2: \"a\" stands behind \"a\"\n",
+    ),
+    (
+        &[(0x0010_0401, b"b"), (0x2010_0400, b""), (HARD_TAIL, PAIR)],
+        &[(
+            2,
+            BlockFilling::Commit(&[(0x0010_0001, b"a"), (0x2010_0000, b"")]),
+        )],
+        "corrupt\npair 2 3, slot 0: \"a\" stands behind \"b\"\n",
+    ),
+    // in a directory beneath the root
+    (
+        &[(0x0020_0401, b"d"), (0x2000_0408, PAIR), (SOFT_TAIL, PAIR)],
+        &[(
+            2,
+            BlockFilling::Commit(&[
+                (0x0010_0001, b"b"),
+                (0x2010_0000, b""),
+                (0x0010_0401, b"a"),
+                (0x2010_0400, b""),
+            ]),
+        )],
+        "corrupt\npair 2 3, slot 1: \"a\" stands behind \"b\"\n",
+    ),
+    // a directory beneath it that names itself
+    (
+        &[(0x0020_0401, b"d"), (0x2000_0408, PAIR), (SOFT_TAIL, PAIR)],
+        &[(
+            2,
+            BlockFilling::Commit(&[(0x0020_0001, b"b"), (0x2000_0008, PAIR)]),
+        )],
         "corrupt\nno single rule was found\n",
+    ),
+    // where no path leads
+    (
+        &[(SOFT_TAIL, PAIR)],
+        &[(
+            2,
+            BlockFilling::Commit(&[
+                (0x0010_0001, b"b"),
+                (0x2010_0000, b""),
+                (0x0010_0401, b"a"),
+                (0x2010_0400, b""),
+            ]),
+        )],
+        "corrupt\nno single rule was found\n",
+    ),
+    // without a slot that is moved away
+    (
+        &[
+            (0x0010_0401, b"b"),
+            (0x2010_0400, b""),
+            (0x0010_0801, b"a"),
+            (0x2010_0800, b""),
+            (0x0010_0c01, b"b"),
+            (0x2010_0c00, b""),
+            (MOVE_STATE, &[0, 8, 0xf0, 0x4f, 0, 0, 0, 0, 1, 0, 0, 0]),
+        ],
+        &[],
+        "corrupt\npair 0 1, slot 3: \"b\" stands behind \"b\"\n",
+    ),
+    // one name is a beginning of the other, in both orders
+    (
+        &[
+            (0x0010_0401, b"a"),
+            (0x2010_0400, b""),
+            (0x0010_0802, b"ab"),
+            (0x2010_0800, b""),
+            (0x0010_0c01, b"a"),
+            (0x2010_0c00, b""),
+        ],
+        &[],
+        "corrupt\nno single rule was found\n",
+    ),
+    // a move of the superblock, and a slot's number without a move
+    (
+        &[(MOVE_STATE, &[0, 0, 0xf0, 0x4f, 0, 0, 0, 0, 1, 0, 0, 0])],
+        &[],
+        "corrupt\nglobal state: its move names no entry\n",
+    ),
+    (
+        &[(MOVE_STATE, &[0, 4, 0, 0, 0, 0, 0, 0, 0, 0, 0, 0])],
+        &[],
+        "corrupt\nglobal state: its move names no entry\n",
+    ),
+    // a list whose head isn't in the image, one without bytes, one on a block of a pair, and two of one block
+    (
+        &[
+            (0x0010_0401, b"a"),
+            (0x2020_0408, &[16, 0, 0, 0, 3, 0, 0, 0]),
+        ],
+        &[],
+        BAD_LIST,
+    ),
+    (
+        &[
+            (0x0010_0401, b"a"),
+            (0x2020_0408, &[2, 0, 0, 0, 0, 0, 0, 0]),
+        ],
+        &[],
+        BAD_LIST,
+    ),
+    (
+        &[
+            (0x0010_0401, b"a"),
+            (0x2020_0408, &[1, 0, 0, 0, 3, 0, 0, 0]),
+        ],
+        &[],
+        "corrupt\nblock 1: in pair 0 1 and in a file, pair 0 1, slot 1: \"a\"\n",
     ),
     (
         &[
@@ -187,6 +326,12 @@ const REFUSED: [Row<'static>; 16] = [
             (0x0010_0801, b"b"),
             (0x2020_0808, &[2, 0, 0, 0, 3, 0, 0, 0]),
         ],
+        &[],
+        "corrupt\nblock 2: in two files, pair 0 1, slot 1: \"a\" and pair 0 1, slot 2: \"b\"\n",
+    ),
+    // a directory that is the root, of which there is no finding
+    (
+        &[(0x0020_0401, b"d"), (0x2000_0408, FIRST)],
         &[],
         "corrupt\nno single rule was found\n",
     ),

@@ -8,6 +8,8 @@ mod creations;
 #[cfg(test)]
 mod disk;
 #[cfg(test)]
+mod faults;
+#[cfg(test)]
 mod faulty_streams;
 #[cfg(test)]
 mod files;

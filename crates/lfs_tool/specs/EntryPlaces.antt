@@ -1,0 +1,73 @@
+-- The entries of directories, by their places in the pairs of a thread.
+use Rattle.std.specs.Prelude.{ℕ, ◌≡◌, ◌+◌, ◌==◌, ◌&&◌, Bool, false, not, if◌then◌else◌, List, [], ◌∷◌, map, drop, slice_get, Option, Some, None}
+use Rattle.std.specs.List.{flat_map}
+use Rattle.std.specs.Option.{option_and_then}
+use Rattle.lfs_model.specs.Shown.{IsPathToDirectory, entries_by_directory_in_thread}
+use Rattle.lfs_model.specs.Slots.{Slot, is_superblock}
+use Rattle.lfs_model.specs.Thread.{Pair, gstate_of_pairs, entries_not_moved}
+use Rattle.lfs_model.specs.Tree.{Path}
+use Rattle.lfs_lookup.specs.Listed.{hard_tail_joined_pairs}
+use Rattle.lfs_tool.specs.declared.entry_places.EntryPlace.{EntryPlace}
+
+-- ---- in a pair
+
+-- the slot of that number is moved away
+abbrev pub is_moved_slot : Option ℕ → ℕ → Bool
+is_moved_slot None id = false
+is_moved_slot (Some moved) id = moved == id
+
+-- the slot of that number is an entry
+abbrev pub is_unmoved_entry_slot : Option ℕ → ℕ → Slot → Bool
+is_unmoved_entry_slot moved id s = not (is_moved_slot moved id) && not (is_superblock s)
+
+-- the entries among the slots of a pair from a number on
+abbrev pub entry_slots_from : Option ℕ → ℕ → List Slot → List Slot
+entry_slots_from moved id [] = []
+entry_slots_from moved id (s ∷ slots) = if is_unmoved_entry_slot moved id s then s ∷ entry_slots_from moved (id + 1) slots else entry_slots_from moved (id + 1) slots
+
+-- ---- in a directory
+
+-- the slot at a place
+abbrev pub slot_at_place : List Pair → EntryPlace → Option Slot
+slot_at_place ps place = option_and_then (λ p. slice_get p.content.slots place.slot) (slice_get ps place.pair)
+
+-- the slots at these places, in order
+abbrev pub slots_at_places : List Pair → List EntryPlace → List (Option Slot)
+slots_at_places ps places = map (slot_at_place ps) places
+
+-- these are the places of those entries
+abbrev pub ArePlacesOfEntries : List Pair → List EntryPlace → List Slot → Type 0
+ArePlacesOfEntries ps places entries = slots_at_places ps places ≡ map (λ s. Some s) entries
+
+-- the entries of the directory that begins with the pair of number `first`
+abbrev pub entries_from_pair : List Pair → ℕ → List Slot
+entries_from_pair ps first = flat_map (entries_not_moved (gstate_of_pairs ps)) (hard_tail_joined_pairs (drop first ps))
+
+-- ---- in the directories to which paths lead
+
+-- such a directory is at that address
+abbrev pub IsAddressOfReachedDirectory : List Pair → ℕ × ℕ → Type 0
+IsAddressOfReachedDirectory ps at = (path : Path) × IsPathToDirectory ps path at
+
+-- these are the places of the entries of such a directory
+pub record AreEntryPlacesOfReachedDirectory (ps : List Pair) (places : List EntryPlace) : Type 0 where
+  pub path : Path
+  pub at : ℕ × ℕ
+  pub reached : IsPathToDirectory ps path at
+  pub are : ArePlacesOfEntries ps places (entries_by_directory_in_thread ps at)
+
+-- such a directory has an entry at the one place, and the next at the other
+pub record AreNeighboursInReachedDirectory (ps : List Pair) (earlier later : EntryPlace) : Type 0 where
+  pub path : Path
+  pub at : ℕ × ℕ
+  pub reached : IsPathToDirectory ps path at
+  pub index : ℕ
+  pub first : slice_get (entries_by_directory_in_thread ps at) index ≡ slot_at_place ps earlier
+  pub next : slice_get (entries_by_directory_in_thread ps at) (index + 1) ≡ slot_at_place ps later
+
+-- such a directory begins with the pair of number `first`
+pub record IsFirstPairOfReachedDirectory (ps : List Pair) (first : ℕ) : Type 0 where
+  pub path : Path
+  pub at : ℕ × ℕ
+  pub reached : IsPathToDirectory ps path at
+  pub entries : entries_by_directory_in_thread ps at ≡ entries_from_pair ps first

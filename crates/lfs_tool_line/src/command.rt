@@ -39,6 +39,12 @@ Order:
   longer or the shorter comes first: ORDER is longer-first, as in images of
   littlefs itself, or shorter-first. -l, -u and --check read both.
 
+Files:
+  -c writes an image beside IMAGE and puts it in its place once it is whole, so
+  that an old one stays where that fails. A file longer than the image isn't
+  read. -u makes the folders above DIR. With --explain both say where they
+  stopped.
+
 Progress:
   At a terminal -c and -u show how much is done, once a second has gone by.";
 
@@ -164,7 +170,7 @@ fn arg_of_explain_option<'a>(alloc: Global) -> Arg<'a>
     Arg::new(alloc, "explain")
         .long("explain")
         .action(ArgAction::SetTrue)
-        .help("Say why behind the line of an error")
+        .help("Say why after the line of an error")
 }
 
 fn add_explain_option_to_command<'a>(

@@ -34,7 +34,7 @@ pub struct Line<'a> {
     pub size: u32,
     /// The order of the names in the image, for `Mode::Create`.
     pub order: NameOrder,
-    /// Whether further lines are to say why, behind the line of an error.
+    /// Whether further lines are to say why, after the line of an error.
     pub explain: bool,
     /// The path of the image.
     pub image: &'a str,

@@ -7,7 +7,31 @@ use std::alloc::{AllocError, Global};
 use std::test::Fail;
 
 // The words of command lines, and what they say.
-const LINES: [(&[&str], Line<'static>); 7] = [
+const LINES: [(&[&str], Line<'static>); 9] = [
+    (
+        &["mklittlefs", "--list", "disk.img"],
+        Line {
+            mode: Mode::List,
+            block_size: 4096,
+            page: 256,
+            size: 65536,
+            order: NameOrder::LongerFirst,
+            explain: false,
+            image: "disk.img",
+        },
+    ),
+    (
+        &["mklittlefs", "--unpack", "dir", "-"],
+        Line {
+            mode: Mode::Unpack("dir"),
+            block_size: 4096,
+            page: 256,
+            size: 65536,
+            order: NameOrder::LongerFirst,
+            explain: false,
+            image: "-",
+        },
+    ),
     (
         &["mklittlefs", "--check", "-b1024", "disk.img"],
         Line {
@@ -157,7 +181,7 @@ Options:
   -p, --page <N>       Size of a page in bytes [default: 256]
   -s, --size <N>       Size of the image in bytes, with -c [default: 65536]
       --order <ORDER>  Order of names in the image that -c makes [default: longer-first]
-      --explain        Say why behind the line of an error
+      --explain        Say why after the line of an error
   -h, --help           Print help
   -V, --version        Print version
 
@@ -185,13 +209,19 @@ Order:
   longer or the shorter comes first: ORDER is longer-first, as in images of
   littlefs itself, or shorter-first. -l, -u and --check read both.
 
+Files:
+  -c writes an image beside IMAGE and puts it in its place once it is whole, so
+  that an old one stays where that fails. A file longer than the image isn't
+  read. -u makes the folders above DIR. With --explain both say where they
+  stopped.
+
 Progress:
   At a terminal -c and -u show how much is done, once a second has gone by.
 ";
 
 // Words that are no line: the status, what goes to `out`, and what to `err`, if that isn't the parser's
 // own text.
-const REFUSED: [(&[&str], u8, &str, Option<&str>); 17] = [
+const REFUSED: [(&[&str], u8, &str, Option<&str>); 18] = [
     // not exactly one mode
     (&["mklittlefs", "i"], 2, "", Some(MODES)),
     (&["mklittlefs", "-p", "256", "i", "-b0"], 2, "", Some(MODES)),
@@ -224,6 +254,7 @@ const REFUSED: [(&[&str], u8, &str, Option<&str>); 17] = [
     (&["mklittlefs", "-l", "-h"], 0, HELP, Some("")),
     // and for the version
     (&["mklittlefs", "--version"], 0, VERSION, Some("")),
+    (&["mklittlefs", "-V"], 0, VERSION, Some("")),
 ];
 
 // Whether a fault is shown so, which is its own text too.

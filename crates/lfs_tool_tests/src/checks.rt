@@ -91,11 +91,8 @@ const ACCEPTED: [Row<'static>; 6] = [
     ),
 ];
 
-const BAD_LIST: &str =
-    "corrupt\npair 0 1, slot 1: \"a\" has a list with a wrong size, block or pointer\n";
-
-// An image for each finding, and some that break a rule which no finding has.
-const REFUSED: [Row<'static>; 32] = [
+// Images that break a rule of the thread or of the superblock's chain, for each finding on these.
+const REFUSED: [Row<'static>; 14] = [
     // the thread
     (
         &[(SOFT_TAIL, FAR)],
@@ -174,6 +171,10 @@ const REFUSED: [Row<'static>; 32] = [
         &[],
         "corrupt\npair 0 1, slot 0: \"LITTLEFS\" isn't the name of a superblock\n",
     ),
+];
+
+// Images with slots that are no entries, and with names in no order. Two rows have no finding.
+const UNORDERED: [Row<'static>; 11] = [
     // entries
     (
         &[(0x0ff0_0408, b"littlefs"), (0x2010_0400, b"")],
@@ -283,6 +284,14 @@ const REFUSED: [Row<'static>; 32] = [
         &[],
         "corrupt\nno single rule was found\n",
     ),
+];
+
+const BAD_LIST: &str =
+    "corrupt\npair 0 1, slot 1: \"a\" has a list with a wrong size, block or pointer\n";
+
+// Images with a bad move, with lists that aren't well formed, and with blocks of two owners. The last row has
+// no finding.
+const MISUSED: [Row<'static>; 7] = [
     // a move of the superblock, and a slot's number without a move
     (
         &[(MOVE_STATE, &[0, 0, 0xf0, 0x4f, 0, 0, 0, 0, 1, 0, 0, 0])],
@@ -349,6 +358,16 @@ fn has_expected_check_text(alloc: Global, row: Row<'_>) -> Result<bool, AllocErr
 #[test]
 fn images_are_checked(rt: HostRuntime) -> Result<(), Fail> {
     for rows in [ACCEPTED.as_slice(), REFUSED.as_slice()] {
+        for row in rows {
+            assert!(rt; has_expected_check_text(rt.alloc(), *row)?, "{:?}", row.0);
+        }
+    }
+    Ok(())
+}
+
+#[test]
+fn entries_moves_and_lists_are_checked(rt: HostRuntime) -> Result<(), Fail> {
+    for rows in [UNORDERED.as_slice(), MISUSED.as_slice()] {
         for row in rows {
             assert!(rt; has_expected_check_text(rt.alloc(), *row)?, "{:?}", row.0);
         }

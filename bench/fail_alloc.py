@@ -7,7 +7,7 @@ A program is the one that `rt run` built (out/CRATE), with the words given, else
 with its data, each time with another refused call of malloc or realloc, up to the last one that it makes or the N-th. Tests are
 those of a module `memory` in what `rt test` built (out/CRATE_tests), each run by itself in the same way. It shows that no refused allocation changes an answer: a program
 either does what it does with memory enough, or prints nothing but that there is none, with status 1, and leaves each file as
-it was. After the line of another error with `--explain` it may say so in place of the cause. And each test of a module `memory` passes, which holds whichever allocation fails (other tests want memory for their
+it was. After the line of another error with `--explain` it may say so in place of the cause, or of the number of blocks. And each test of a module `memory` passes, which holds whichever allocation fails (other tests want memory for their
 own data). Prints a line for each answer and how often it came. Fails where one is another.
 """
 import argparse
@@ -20,6 +20,7 @@ import tempfile
 
 NO_MEMORY = (1, b"", b"error: NoMemory (12)\n")
 NOT_EXPLAINED = b"not explained: error: NoMemory (12)\n"
+UNKNOWN_BLOCKS = b" blocks were too few, how many it takes isn't known: error: NoMemory (12)\n"
 SHIM = r"""
 #define _GNU_SOURCE
 #include <dlfcn.h>
@@ -76,8 +77,10 @@ def program(refusing, folder, name, words, last):
     call = [refusing, os.path.join(folder, "out", name), words, os.path.join(folder, "data")]
     plain, _ = answer(*call, 0)
     (status, out, err), kept = plain
-    unexplained = (status, out, err.split(b"\n")[0] + b"\n" + NOT_EXPLAINED), kept
-    right = [plain, (NO_MEMORY, True)] + ([unexplained] if "--explain" in words else [])
+    line, _, cause = err.partition(b"\n")
+    causes = [NOT_EXPLAINED] + ([cause.split()[0] + UNKNOWN_BLOCKS] if b" blocks are too few" in cause else [])
+    unexplained = [((status, out, line + b"\n" + other), kept) for other in causes]
+    right = [plain, (NO_MEMORY, True)] + (unexplained if "--explain" in words else [])
     for at in range(1, last + 1):
         told, is_refused = answer(*call, at)
         if not is_refused:

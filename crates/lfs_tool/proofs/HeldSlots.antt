@@ -24,7 +24,7 @@ parts_of f (x ∷ xs) (suc i) d h l = parts_of f xs i d h.1 (omega arith)
 pub parts_at : {X : Type 0} (f : X → RawSlot) (xs : List X) (i : ℕ) (x : X) → AreWellFormedRawSlots (map f xs) → i < length xs → x ≡ get_or xs i x → IsWellFormedRawSlot (f x)
 parts_at f xs i x h l at = subst (λ z. IsWellFormedRawSlot (f z)) (sym at) (parts_of f xs i x h l)
 
-plain_complete : (raw : List RawSlot) (all : List Slot) → slots_if_names_and_structs_present raw ≡ Some all → complete_slots_of_raw_slots raw ≡ map slot_without_attributes all
+pub plain_complete : (raw : List RawSlot) (all : List Slot) → slots_if_names_and_structs_present raw ≡ Some all → complete_slots_of_raw_slots raw ≡ map slot_without_attributes all
 plain_complete [] all h = ap (map slot_without_attributes) (same_Some [] all h)
 plain_complete (x ∷ xs) all h =
     let p = complete_parts x xs all h in

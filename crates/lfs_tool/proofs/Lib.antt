@@ -7,6 +7,11 @@ pub mod HeldPlaces
 pub mod FileLists
 pub mod PlacedEntries
 pub mod ReachedDirectories
+pub mod ReachedAddresses
+pub mod NamesBehindNames
+pub mod Branches
+pub mod OutsideProfile
+pub mod ProfileCauses
 pub mod Counts
 pub mod Reordered
 pub mod Judged

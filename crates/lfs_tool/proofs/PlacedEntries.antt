@@ -4,7 +4,7 @@ use Rattle.std.specs.Prelude.{IsSome, is_some, slice_get}
 use Rattle.std.specs.List.{remove}
 use Rattle.std.specs.Option.{option_and_then}
 use Rattle.std.proofs.lemmas.Bool.Decides.{eqb_tells}
-use Rattle.std.proofs.lemmas.List.{map-append}
+use Rattle.std.proofs.lemmas.List.{length-map, map-append}
 use Rattle.std.proofs.lemmas.Option.{same_Some, slice_get_within}
 use Rattle.lfs_model.specs.Slots.{Gstate, Slot, is_superblock, pair_address_of_array, same_pair}
 use Rattle.lfs_model.specs.Thread.{Pair, entries_not_moved, gstate_of_pairs, id_of_moved_slot_in_pair, is_hard_tail}
@@ -62,7 +62,7 @@ from_there (y ∷ xs) (suc i) x e =
     let n : suc i + 1 ≡ suc (i + 1) = omega arith in
     from_there xs i x e ∙ ap (λ (k : ℕ). x ∷ drop k (y ∷ xs)) (sym n)
 
-none_from : {X : Type 0} (xs : List X) (i : ℕ) → length xs ≤ i → drop i xs ≡ []
+pub none_from : {X : Type 0} (xs : List X) (i : ℕ) → length xs ≤ i → drop i xs ≡ []
 none_from [] zero l = refl
 none_from [] (suc i) l = refl
 none_from (x ∷ xs) zero l = absurd (omega arith)
@@ -204,3 +204,7 @@ entry_is_some ps (w ∷ places) (s ∷ entries) (suc i) d h l =
     let both : slot_at_place ps w ∷ slots_at_places ps places ≡ Some s ∷ map (λ z. Some z) entries = h in
     let others : slots_at_places ps places ≡ map (λ z. Some z) entries = cc in
     entry_is_some ps places entries i d others (omega arith)
+
+-- there are as many entries as places
+pub places_length : (ps : List Pair) (places : List EntryPlace) (entries : List Slot) → ArePlacesOfEntries ps places entries → length entries ≡ length places
+places_length ps places entries h = sym (length-map entries (λ s. Some s)) ∙ sym (ap length h) ∙ length-map places (slot_at_place ps)

@@ -1,19 +1,23 @@
 -- The entries of the directories to which paths lead.
-use Rattle.std.proofs.Common.{ℕ, ◌≡◌, ◌+◌, ◌&&◌, ◌-◌, ◌<◌, ◌≤◌, ◌∙◌, Bool, true, false, not, cond, List, [], ◌∷◌, ◌++◌, flat_map, drop, get_or, length, Option, Some, None, refl, sym, ap, subst, arith, append-nil}
-use Rattle.std.specs.Prelude.{IfSome, slice_get}
-use Rattle.std.specs.Option.{option_and_then, option_map}
+use Rattle.std.proofs.Common.{ℕ, ◌≡◌, ◌+◌, ◌&&◌, ◌-◌, ◌<◌, ◌≤◌, ◌∙◌, Bool, true, false, not, cond, List, [], ◌∷◌, ◌++◌, flat_map, drop, get_or, inl, inr, length, zero, suc, Some, None, refl, sym, ap, subst, arith, append-nil}
+use Rattle.std.specs.Prelude.{slice_get}
+use Rattle.std.specs.Option.{option_and_then}
+use Rattle.std.proofs.lemmas.List.Elements.{All-cons, All-nil, All-same}
 use Rattle.lfs_model.specs.Names.{Name, same_name}
 use Rattle.lfs_model.specs.Slots.{Gstate, Slot, pair_address_of_array, same_pair}
-use Rattle.lfs_model.specs.Thread.{Pair, ThreadDirectory, directories_of_pairs, directories_with_pair_prepended, entries_not_moved, entries_of_directory, first_pair_address, gstate_of_pairs, is_hard_tail, pair_count_before_root, root_directory_address_of_pairs}
-use Rattle.lfs_model.specs.Shown.{IsPathToDirectory, entries_by_directory_in_thread}
+use Rattle.lfs_model.specs.Thread.{IsAddressOfDirectoryFirstPair, Pair, ThreadDirectory, directories_of_pairs, directories_with_pair_prepended, entries_not_moved, entries_of_directory, first_pair_address, gstate_of_pairs, is_hard_tail, pair_count_before_root, root_directory_address_of_pairs}
+use Rattle.lfs_model.specs.Shown.{IsPathToDirectory, directories_in_thread, entries_by_directory_in_thread}
 use Rattle.lfs_model.specs.Tree.{Path, branch_address_of_struct, directory_address_at_path_from_slot, entry_of_name, root_slot}
 use Rattle.lfs_model.proofs.Listings.{entries_first, listing}
 use Rattle.lfs_model.proofs.Pairs.{pair_itself}
+use Rattle.lfs_model.proofs.Sites.{IsTrueOfSomeElement, among_from, any_from}
 use Rattle.lfs_model.proofs.Walks.{leads_below}
 use Rattle.lfs_lookup.specs.Listed.{hard_tail_joined_pairs}
-use Rattle.lfs_tool.specs.EntryPlaces.{AreEntryPlacesOfReachedDirectory, AreNeighboursInReachedDirectory, IsAddressOfReachedDirectory, IsFirstPairOfReachedDirectory, entries_from_pair, slot_at_place}
+use Rattle.lfs_tool.specs.EntryPlaces.{AreEntryPlacesOfReachedDirectory, AreNeighboursInReachedDirectory, ArePlacesOfEntries, entries_from_pair, slot_at_place}
+use Rattle.lfs_tool.specs.ReachedDirectories.{AreReachedDirectories, IsReachedDirectory, LeadsEntryTo}
 use Rattle.lfs_tool.specs.declared.entry_places.EntryPlace.{EntryPlace}
-use Rattle.lfs_tool.proofs.PlacedEntries.{entry_at, from_there}
+use Rattle.lfs_tool.specs.declared.reached_directories.ReachedDirectory.{ReachedDirectory}
+use Rattle.lfs_tool.proofs.PlacedEntries.{entry_at, from_there, none_from}
 
 -- the directories without the first
 abbrev pub after_first : List ThreadDirectory → List ThreadDirectory
@@ -54,14 +58,33 @@ first_entries g (p ∷ ps) =
     ap (λ ds. entries_of_directory ds p.at) (first_directory g p ps)
     ∙ entries_first (listing p.at (flat_map (entries_not_moved g) (hard_tail_joined_pairs (p ∷ ps)))) (directories_behind (is_hard_tail p.content.tail) (directories_of_pairs g ps)) p.at (pair_itself p.at)
 
+-- the root directory's address
+pub root_address : (ps : List Pair) (root : ℕ) (p : Pair) → root ≡ pair_count_before_root ps → slice_get ps root ≡ Some p → root_directory_address_of_pairs ps ≡ p.at
+root_address ps root p e there = ap (λ n. first_pair_address (drop n ps)) (sym e) ∙ ap first_pair_address (from_there ps root p there)
+
 -- the root directory is reached by the empty path
-pub root_reached : (ps : List Pair) (root : ℕ) → root ≡ pair_count_before_root ps → IsFirstPairOfReachedDirectory ps root
-root_reached ps root e = record {
-  path = [];
-  at = root_directory_address_of_pairs ps;
-  reached = refl;
-  entries = first_entries (gstate_of_pairs ps) (drop (pair_count_before_root ps) ps) ∙ ap (entries_from_pair ps) (sym e);
-}
+pub root_reached : (ps : List Pair) (root : ℕ) (at : List ℕ) (p : Pair) → root ≡ pair_count_before_root ps → slice_get ps root ≡ Some p → p.at ≡ pair_address_of_array at →
+    IsReachedDirectory ps (record { first = root; at = at; entry = None })
+root_reached ps root at p e there same =
+    let is : root_directory_address_of_pairs ps ≡ pair_address_of_array at = root_address ps root p e there ∙ same in
+    record {
+      path = [];
+      reached = ap (λ a. Some a) is;
+      entries = ap (entries_by_directory_in_thread ps) (sym is) ∙ first_entries (gstate_of_pairs ps) (drop (pair_count_before_root ps) ps) ∙ ap (entries_from_pair ps) (sym e);
+      by = refl;
+    }
+
+-- so it's all that is reached at first
+pub root_alone : (ps : List Pair) (root : ℕ) (at : List ℕ) (p : Pair) (ds : List ReachedDirectory) → root ≡ pair_count_before_root ps → slice_get ps root ≡ Some p → p.at ≡ pair_address_of_array at →
+    ds ≡ record { first = root; at = at; entry = None } ∷ [] → AreReachedDirectories ps 0 ds
+root_alone ps root at p ds e there same are =
+    let d : ReachedDirectory = record { first = root; at = at; entry = None } in
+    let is : root_directory_address_of_pairs ps ≡ pair_address_of_array at = root_address ps root p e there ∙ same in
+    record {
+      root = (0, d, (ap (λ xs. slice_get xs 0) are, subst (λ (x : ℕ × ℕ). same_pair x (root_directory_address_of_pairs ps) ≡ true) is (pair_itself (root_directory_address_of_pairs ps))));
+      reached = All-same (IsReachedDirectory ps) ds (d ∷ []) are (All-cons (IsReachedDirectory ps) d [] (root_reached ps root at p e there same) (All-nil (IsReachedDirectory ps)));
+      closed = λ i x l at_i. absurd (omega arith);
+    }
 
 -- two neighbours in such a directory
 pub neighbours_reached : (ps : List Pair) (places : List EntryPlace) (i : ℕ) (d : EntryPlace) → AreEntryPlacesOfReachedDirectory ps places → 1 ≤ i → i < length places → AreNeighboursInReachedDirectory ps (get_or places (i - 1) d) (get_or places i d)
@@ -79,19 +102,18 @@ neighbours_reached ps places i d r some within =
 
 -- ---- other directories
 
--- the first entry of a name leads on
-child_reached : (ps : List Pair) (path : Path) (at : ℕ × ℕ) (name : Name) (s : Slot) (to : ℕ × ℕ) → IsPathToDirectory ps path at → entry_of_name name (entries_by_directory_in_thread ps at) ≡ Some s → branch_address_of_struct s.struct ≡ Some to →
-    IsAddressOfReachedDirectory ps to
-child_reached ps path at name s to reached named branch = (
-  path ++ name ∷ [],
-  leads_below (entries_by_directory_in_thread ps) (root_slot (root_directory_address_of_pairs ps)) path at reached name []
-      ∙ ap (option_and_then (λ u. directory_address_at_path_from_slot (entries_by_directory_in_thread ps) u [])) named ∙ branch,
+-- the first entry of its name leads on
+pub entry_leads : (ps : List Pair) (parent : List ℕ) (place : EntryPlace) (path : Path) (s : Slot) (to : ℕ × ℕ) → IsPathToDirectory ps path (pair_address_of_array parent)
+    → entry_of_name s.name (entries_by_directory_in_thread ps (pair_address_of_array parent)) ≡ Some s → slot_at_place ps place ≡ Some s → branch_address_of_struct s.struct ≡ Some to
+    → LeadsEntryTo ps (record { parent = parent; place = place }) to
+entry_leads ps parent place path s to reached first there branch = (
+  path ++ s.name ∷ [],
+  (
+    record { before = path; slot = s; reached = reached; first = first; there = there; path_is = refl },
+    leads_below (entries_by_directory_in_thread ps) (root_slot (root_directory_address_of_pairs ps)) path (pair_address_of_array parent) reached s.name []
+        ∙ ap (option_and_then (λ u. directory_address_at_path_from_slot (entries_by_directory_in_thread ps) u [])) first ∙ branch,
+  ),
 )
-
-pub branch_reached : (ps : List Pair) (path : Path) (at : ℕ × ℕ) (name : Name) (s : Slot) (branch : Option (List ℕ)) → IsPathToDirectory ps path at → entry_of_name name (entries_by_directory_in_thread ps at) ≡ Some s →
-    option_map pair_address_of_array branch ≡ branch_address_of_struct s.struct → IfSome branch (λ to. IsAddressOfReachedDirectory ps (pair_address_of_array to))
-branch_reached ps path at name s None reached named is = tt
-branch_reached ps path at name s (Some to) reached named is = child_reached ps path at name s (pair_address_of_array to) reached named (sym is)
 
 -- the directories from a pair on
 from_pair : (g : Gstate) (ps : List Pair) (i : ℕ) (p : Pair) → slice_get ps i ≡ Some p →
@@ -133,6 +155,96 @@ search_goes_on ps at begins next i p there other is before =
     go true = refl
     go false = refl
 
+-- ---- where no directory begins
+
+-- the directory at an address begins with one of the pairs from a number on, or with none
+abbrev pub BeginsFromPairOn : List Pair → ℕ × ℕ → Bool → ℕ → Type 0
+BeginsFromPairOn ps at begins i = IsAddressOfDirectoryFirstPair (directories_in_thread ps) at → IsAddressOfDirectoryFirstPair (directories_behind (not begins) (directories_of_pairs (gstate_of_pairs ps) (drop i ps))) at
+
+pub beginnings_begin : (ps : List Pair) (at : ℕ × ℕ) (root : ℕ) → root ≡ pair_count_before_root ps → BeginsFromPairOn ps at true root
+beginnings_begin ps at root e h = subst (λ n. IsAddressOfDirectoryFirstPair (directories_of_pairs (gstate_of_pairs ps) (drop n ps)) at) (sym e) h
+
+-- the first of them isn't it
+behind_first : (d : ThreadDirectory) (ds : List ThreadDirectory) (at : ℕ × ℕ) → same_pair d.at at ≡ false → IsAddressOfDirectoryFirstPair (d ∷ ds) at → IsAddressOfDirectoryFirstPair ds at
+behind_first d ds at other h = go (among_from (λ (x : ThreadDirectory). same_pair x.at at ≡ true) (d ∷ ds) h)
+  where
+    go : IsTrueOfSomeElement (λ (x : ThreadDirectory). same_pair x.at at ≡ true) (d ∷ ds) → IsAddressOfDirectoryFirstPair ds at
+    go (inl same) = absurd (cc)
+    go (inr more) = any_from (λ (x : ThreadDirectory). same_pair x.at at ≡ true) ds more
+
+pub beginnings_go_on : (ps : List Pair) (at : ℕ × ℕ) (begins next : Bool) (i : ℕ) (p : Pair) → slice_get ps i ≡ Some p → (begins && same_pair p.at at) ≡ false → next ≡ not (is_hard_tail p.content.tail) → BeginsFromPairOn ps at begins i →
+    BeginsFromPairOn ps at next (i + 1)
+beginnings_go_on ps at begins next i p there other is before h =
+    subst (λ b. IsAddressOfDirectoryFirstPair (directories_behind (not b) later) at) (sym is) (go (is_hard_tail p.content.tail) (past begins other (before h)))
+  where
+    later : List ThreadDirectory
+    later = directories_of_pairs (gstate_of_pairs ps) (drop (i + 1) ps)
+
+    first : ThreadDirectory
+    first = listing p.at (flat_map (entries_not_moved (gstate_of_pairs ps)) (hard_tail_joined_pairs (p ∷ drop (i + 1) ps)))
+
+    past : (b : Bool) → (b && same_pair p.at at) ≡ false → IsAddressOfDirectoryFirstPair (directories_behind (not b) (directories_of_pairs (gstate_of_pairs ps) (drop i ps))) at
+        → IsAddressOfDirectoryFirstPair (directories_behind (is_hard_tail p.content.tail) later) at
+    past true e k = behind_first first (directories_behind (is_hard_tail p.content.tail) later) at e (subst (λ ds. IsAddressOfDirectoryFirstPair ds at) (from_pair (gstate_of_pairs ps) ps i p there) k)
+    past false e k = subst (λ ds. IsAddressOfDirectoryFirstPair (after_first ds) at) (from_pair (gstate_of_pairs ps) ps i p there) k
+
+    go : (b : Bool) → IsAddressOfDirectoryFirstPair (directories_behind b later) at → IsAddressOfDirectoryFirstPair (directories_behind (not (not b)) later) at
+    go true k = k
+    go false k = k
+
+-- no pair is left
+pub beginnings_end : (ps : List Pair) (at : ℕ × ℕ) (begins : Bool) (i : ℕ) → length ps ≤ i → BeginsFromPairOn ps at begins i → ¬ IsAddressOfDirectoryFirstPair (directories_in_thread ps) at
+beginnings_end ps at begins i l before h =
+    none (not begins) (subst (λ qs. IsAddressOfDirectoryFirstPair (directories_behind (not begins) (directories_of_pairs (gstate_of_pairs ps) qs)) at) (none_from ps i l) (before h))
+  where
+    none : (b : Bool) → IsAddressOfDirectoryFirstPair (directories_behind b []) at → ⊥
+    none true k = absurd (among_from (λ (x : ThreadDirectory). same_pair x.at at ≡ true) [] k)
+    none false k = absurd (among_from (λ (x : ThreadDirectory). same_pair x.at at ≡ true) [] k)
+
+-- ---- all directories, one by one
+
+-- the directories from a number on are those of the pairs from a number on
+abbrev pub AreDirectoriesFromPairOn : List Pair → Bool → ℕ → Type 0
+AreDirectoriesFromPairOn ps begins i = (k : ℕ) × (drop k (directories_in_thread ps) ≡ directories_behind (not begins) (directories_of_pairs (gstate_of_pairs ps) (drop i ps)))
+
+pub directories_begin : (ps : List Pair) (root : ℕ) → root ≡ pair_count_before_root ps → AreDirectoriesFromPairOn ps true root
+directories_begin ps root e = (0, ap (λ n. directories_of_pairs (gstate_of_pairs ps) (drop n ps)) (sym e))
+
+first_of_rest : {X : Type 0} (xs : List X) (k : ℕ) (x : X) (rest : List X) → drop k xs ≡ x ∷ rest → (slice_get xs k ≡ Some x) × (drop (k + 1) xs ≡ rest)
+first_of_rest [] zero x rest e = absurd (cc)
+first_of_rest [] (suc k) x rest e = absurd (cc)
+first_of_rest (y ∷ xs) zero x rest e = (let f : y ≡ x = cc in ap (λ z. Some z) f, (let f : xs ≡ rest = cc in f))
+first_of_rest (y ∷ xs) (suc k) x rest e =
+    let n : suc k + 1 ≡ suc (k + 1) = omega arith in
+    let r = first_of_rest xs k x rest e in
+    (r.0, ap (λ m. drop m (y ∷ xs)) n ∙ r.1)
+
+-- the pair begins the directory of that number
+pub directory_begins : (ps : List Pair) (i : ℕ) (p : Pair) → slice_get ps i ≡ Some p → AreDirectoriesFromPairOn ps true i → (k : ℕ) × (d : ThreadDirectory) × ((slice_get (directories_in_thread ps) k ≡ Some d) × (d.at ≡ p.at))
+directory_begins ps i p there before =
+    let d = listing p.at (flat_map (entries_not_moved (gstate_of_pairs ps)) (hard_tail_joined_pairs (p ∷ drop (i + 1) ps))) in
+    let r = first_of_rest (directories_in_thread ps) before.0 d (directories_behind (is_hard_tail p.content.tail) (directories_of_pairs (gstate_of_pairs ps) (drop (i + 1) ps))) (before.1 ∙ from_pair (gstate_of_pairs ps) ps i p there) in
+    (before.0, d, (r.0, refl))
+
+pub directories_go_on : (ps : List Pair) (begins next : Bool) (i : ℕ) (p : Pair) → slice_get ps i ≡ Some p → next ≡ not (is_hard_tail p.content.tail) → AreDirectoriesFromPairOn ps begins i → AreDirectoriesFromPairOn ps next (i + 1)
+directories_go_on ps begins next i p there is before =
+    let r = past begins before in
+    (r.0, r.1 ∙ go (is_hard_tail p.content.tail) ∙ ap (λ b. directories_behind (not b) later) (sym is))
+  where
+    later : List ThreadDirectory
+    later = directories_of_pairs (gstate_of_pairs ps) (drop (i + 1) ps)
+
+    first : ThreadDirectory
+    first = listing p.at (flat_map (entries_not_moved (gstate_of_pairs ps)) (hard_tail_joined_pairs (p ∷ drop (i + 1) ps)))
+
+    past : (b : Bool) → AreDirectoriesFromPairOn ps b i → (k : ℕ) × (drop k (directories_in_thread ps) ≡ directories_behind (is_hard_tail p.content.tail) later)
+    past true h = (h.0 + 1, (first_of_rest (directories_in_thread ps) h.0 first (directories_behind (is_hard_tail p.content.tail) later) (h.1 ∙ from_pair (gstate_of_pairs ps) ps i p there)).1)
+    past false h = (h.0, h.1 ∙ ap after_first (from_pair (gstate_of_pairs ps) ps i p there))
+
+    go : (b : Bool) → directories_behind b later ≡ directories_behind (not (not b)) later
+    go true = refl
+    go false = refl
+
 -- ---- an entry by its name
 
 pub name_begins : (name : Name) (entries : List Slot) (i : ℕ) (s : Slot) → slice_get entries i ≡ Some s → same_name name s.name ≡ true → entry_of_name name (drop i entries) ≡ Some s
@@ -140,3 +252,12 @@ name_begins name entries i s there same = ap (entry_of_name name) (from_there en
 
 pub name_goes_on : (name : Name) (entries : List Slot) (i : ℕ) (s : Slot) → slice_get entries i ≡ Some s → same_name name s.name ≡ false → entry_of_name name (drop i entries) ≡ entry_of_name name (drop (i + 1) entries)
 name_goes_on name entries i s there other = ap (entry_of_name name) (from_there entries i s there) ∙ ap (λ b. cond b (Some s) (entry_of_name name (drop (i + 1) entries))) other
+
+-- the places of the entries of a directory that is reached
+pub places_reached : (ps : List Pair) (d : ReachedDirectory) (places : List EntryPlace) → IsReachedDirectory ps d → ArePlacesOfEntries ps places (entries_from_pair ps d.first) → AreEntryPlacesOfReachedDirectory ps places
+places_reached ps d places r are = record {
+  path = r.path;
+  at = pair_address_of_array d.at;
+  reached = r.reached;
+  are = subst (ArePlacesOfEntries ps places) (sym r.entries) are;
+}

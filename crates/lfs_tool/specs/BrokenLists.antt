@@ -2,15 +2,15 @@
 use Rattle.std.specs.Prelude.{ℕ, ◌≡◌, ◌≢◌, ◌⊎◌, List, slice_get, Some}
 use Rattle.lfs_model.specs.Disk.{Disk}
 use Rattle.lfs_model.specs.Shown.{skip_list_blocks_of_struct}
-use Rattle.lfs_model.specs.Slots.{Slot, pair_address_of_array}
+use Rattle.lfs_model.specs.Slots.{Struct, pair_address_of_array}
 use Rattle.lfs_model.specs.Thread.{Pair}
 use Rattle.lfs_model.specs.View.{IsSkipListIfCtzStruct}
 use Rattle.lfs_tool.specs.SlotsInThread.{IsTrueOfUnmovedSlot}
 use Rattle.lfs_tool.specs.declared.findings.NamedSlot.{NamedSlot}
 
--- the block is one of the list of a slot
-abbrev pub HasBlockInList : Disk → ℕ → Slot → Type 0
-HasBlockInList disk block s = (i : ℕ) × (slice_get (skip_list_blocks_of_struct disk s.struct) i ≡ Some block)
+-- the block is one of the list of a struct
+abbrev pub HasBlockInList : Disk → ℕ → Struct → Type 0
+HasBlockInList disk block s = (i : ℕ) × (slice_get (skip_list_blocks_of_struct disk s) i ≡ Some block)
 
 -- a file's list isn't well formed
 abbrev pub IsSlotWithBadList : Disk → List Pair → NamedSlot → Type 0
@@ -26,10 +26,10 @@ pub record IsPairInThreadWithBlock (ps : List Pair) (at : ℕ × ℕ) (block : �
 
 -- a block of a pair is in a file's list
 abbrev pub IsBlockInPairAndFile : Disk → List Pair → ℕ → ℕ × ℕ → NamedSlot → Type 0
-IsBlockInPairAndFile disk ps block at place = IsPairInThreadWithBlock ps at block × IsTrueOfUnmovedSlot (HasBlockInList disk block) ps place
+IsBlockInPairAndFile disk ps block at place = IsPairInThreadWithBlock ps at block × IsTrueOfUnmovedSlot (λ s. HasBlockInList disk block s.struct) ps place
 
 -- a block is in the lists of two files, which are at two places
 abbrev pub IsBlockInTwoFiles : Disk → List Pair → ℕ → NamedSlot → NamedSlot → Type 0
 IsBlockInTwoFiles disk ps block place other =
-    IsTrueOfUnmovedSlot (HasBlockInList disk block) ps place × IsTrueOfUnmovedSlot (HasBlockInList disk block) ps other
+    IsTrueOfUnmovedSlot (λ s. HasBlockInList disk block s.struct) ps place × IsTrueOfUnmovedSlot (λ s. HasBlockInList disk block s.struct) ps other
     × (pair_address_of_array place.pair ≡ pair_address_of_array other.pair → place.slot ≢ other.slot)

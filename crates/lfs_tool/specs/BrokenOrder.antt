@@ -7,16 +7,27 @@ use Rattle.lfs_model.specs.Slots.{Slot, pair_address_of_array}
 use Rattle.lfs_model.specs.Thread.{Pair}
 use Rattle.lfs_model.specs.Tree.{Path}
 use Rattle.lfs_model.specs.declared.order.NameOrder.{NameOrder}
+use Rattle.lfs_model.specs.declared.order.NameOrder.TheVariants.{LongerFirst, ShorterFirst}
+use Rattle.lfs_tool.specs.EntryPlaces.{name_at_place}
 use Rattle.lfs_tool.specs.SlotsInThread.{IsSlotOfPairInThread}
-use Rattle.lfs_tool.specs.declared.findings.NamedSlot.{NamedSlot}
+use Rattle.lfs_tool.specs.declared.entry_places.EntryPlace.{EntryPlace}
+use Rattle.lfs_tool.specs.declared.findings.NameBehindName.{NameBehindName}
 
--- in neither order of names does the later one come behind the earlier one
+-- in that order of names the later one doesn't come behind the earlier one
+abbrev pub AreNamesNotInOrder : NameOrder → Name → Name → Type 0
+AreNamesNotInOrder order earlier later = name_cmp order earlier later ≢ Less
+
+-- it does so in neither order of names
 abbrev pub AreNamesInNoOrder : Name → Name → Type 0
-AreNamesInNoOrder earlier later = (order : NameOrder) → name_cmp order earlier later ≢ Less
+AreNamesInNoOrder earlier later = (order : NameOrder) → AreNamesNotInOrder order earlier later
 
--- Two neighbours in a directory to which a path leads, whose names are in no order. The later one is at the place, and the name is
--- the earlier one's.
-pub record IsNameOutOfOrder (ps : List Pair) (place : NamedSlot) (name : Name) : Type 0 where
+-- these are the names at those places
+abbrev pub AreNamesAtPlaces : List Pair → EntryPlace → EntryPlace → Name → Name → Type 0
+AreNamesAtPlaces ps earlier later before name = (before ≡ name_at_place ps earlier) × (name ≡ name_at_place ps later)
+
+-- Two neighbours in a directory to which a path leads, and P holds of their names. The later one is at the place, and the name before
+-- it is the earlier one's.
+pub record IsNameBehindNameInDirectory (P : Name → Name → Type 0) (ps : List Pair) (name : NameBehindName) : Type 0 where
   pub path : Path
   pub at : ℕ × ℕ
   pub reached : IsPathToDirectory ps path at
@@ -25,7 +36,20 @@ pub record IsNameOutOfOrder (ps : List Pair) (place : NamedSlot) (name : Name) :
   pub later : Slot
   pub first : slice_get (entries_by_directory_in_thread ps at) index ≡ Some earlier
   pub next : slice_get (entries_by_directory_in_thread ps at) (index + 1) ≡ Some later
-  pub there : IsSlotOfPairInThread ps (pair_address_of_array place.pair) place.slot later
-  pub named : place.name.items ≡ later.name
-  pub earlier_is : name ≡ earlier.name
-  pub order : AreNamesInNoOrder earlier.name later.name
+  pub there : IsSlotOfPairInThread ps (pair_address_of_array name.place.pair) name.place.slot later
+  pub named : name.place.name.items ≡ later.name
+  pub earlier_is : name.before.items ≡ earlier.name
+  pub holds : P earlier.name later.name
+
+-- two neighbours whose names are in no order
+abbrev pub IsNameOutOfOrder : List Pair → NameBehindName → Type 0
+IsNameOutOfOrder ps name = IsNameBehindNameInDirectory AreNamesInNoOrder ps name
+
+-- the later one comes behind the earlier one in an order of names, and not in the other one
+abbrev pub AreNamesInOneOrder : NameOrder → NameOrder → Name → Name → Type 0
+AreNamesInOneOrder order other earlier later = (name_cmp order earlier later ≡ Less) × AreNamesNotInOrder other earlier later
+
+-- two neighbours whose names are in the order with shorter names first alone, and two whose names are in the other one alone
+abbrev pub AreNamesInTwoOrders : List Pair → NameBehindName → NameBehindName → Type 0
+AreNamesInTwoOrders ps shorter longer =
+    IsNameBehindNameInDirectory (AreNamesInOneOrder ShorterFirst LongerFirst) ps shorter × IsNameBehindNameInDirectory (AreNamesInOneOrder LongerFirst ShorterFirst) ps longer

@@ -1,13 +1,15 @@
 -- Which rules are broken by the pairs of a thread, without the attributes of their slots.
 use Rattle.std.specs.Prelude.{ℕ, ◌≡◌, ◌≢◌, ◌⊎◌, ◌<◌, ◌≤◌, true, false, List, codes, length, slice_get, Some}
+use Rattle.lfs_model.specs.Content.{current_block_of_pair_at}
 use Rattle.lfs_model.specs.Disk.{Disk, block_count}
 use Rattle.lfs_model.specs.EntryTypes.{SuperblockFields, superblock_fields_of_struct_bytes}
 use Rattle.lfs_model.specs.Names.{is_valid_name}
 use Rattle.lfs_model.specs.Slots.{Branch, Ctz, Inline, Slot, Struct, pair_address_of_array, is_superblock}
 use Rattle.lfs_model.specs.Thread.{Pair, first_pair_address, gstate_of_pairs, pairs_from_first_with_slots, pairs_from_root_directory_on, starts_with_superblock, pair_count_before_root}
-use Rattle.lfs_model.specs.View.{HasValidMoveOrNone, IsStructOfKind, first_pair_slots, first_slot_name}
+use Rattle.lfs_model.specs.View.{BeginsWithLogEntry, HasValidMoveOrNone, IsStructOfKind, first_pair_slots, first_slot_name, superblock_name_log_entry}
 use Rattle.lfs_tool.specs.BrokenLists.{IsBlockInPairAndFile, IsBlockInTwoFiles, IsSlotWithBadList}
-use Rattle.lfs_tool.specs.BrokenOrder.{IsNameOutOfOrder}
+use Rattle.lfs_tool.specs.BrokenDirectories.{AreEntriesThatLeadToOneDirectory, IsEntryThatLeadsToNoDirectory, IsEntryThatLeadsToRoot, IsUnreachedDirectory}
+use Rattle.lfs_tool.specs.BrokenOrder.{AreNamesInTwoOrders, IsNameOutOfOrder}
 use Rattle.lfs_tool.specs.declared.findings.Finding.{Finding}
 use Rattle.lfs_tool.specs.declared.findings.Finding.TheVariants as finding
 use Rattle.lfs_tool.specs.declared.findings.NamedSlot.{NamedSlot}
@@ -44,6 +46,10 @@ pub record IsFirstSlotWithOtherName (ps : List Pair) (place : NamedSlot) : Type 
   pub named : first_slot_name (pairs_from_first_with_slots ps) ≡ Some place.name.items
   pub other : place.name.items ≢ codes "littlefs"
 
+-- the first pair that has a slot, with another first entry of its log than the superblock's name
+abbrev pub IsFirstPairWithOtherFirstEntry : Disk → List Pair → ℕ × ℕ → Type 0
+IsFirstPairWithOtherFirstEntry disk ps at = (first_pair_address (pairs_from_first_with_slots ps) ≡ at) × ¬ BeginsWithLogEntry (current_block_of_pair_at disk at) superblock_name_log_entry
+
 -- ---- entries
 
 -- a slot that has to be an entry: any one but slot 0 of the pairs of the superblock's chain
@@ -73,7 +79,13 @@ BreaksRuleOfFinding disk ps (finding.OtherName place) = IsFirstSlotWithOtherName
 BreaksRuleOfFinding disk ps (finding.SecondSuperblock place) = IsTrueOfNamedEntrySlot (λ s. is_superblock s ≡ true) ps place
 BreaksRuleOfFinding disk ps (finding.OtherStruct place) = IsTrueOfNamedEntrySlot (λ s. ¬ IsStructOfKind s.kind s.struct) ps place
 BreaksRuleOfFinding disk ps (finding.BadName place) = IsTrueOfNamedEntrySlot (λ s. is_valid_name s.name ≡ false) ps place
-BreaksRuleOfFinding disk ps (finding.OutOfOrder place name) = IsNameOutOfOrder ps place name.items
+BreaksRuleOfFinding disk ps (finding.OtherFirstEntry pair) = IsFirstPairWithOtherFirstEntry disk ps (pair_address_of_array pair)
+BreaksRuleOfFinding disk ps (finding.OutOfOrder name) = IsNameOutOfOrder ps name
+BreaksRuleOfFinding disk ps (finding.InTwoOrders shorter longer) = AreNamesInTwoOrders ps shorter longer
+BreaksRuleOfFinding disk ps (finding.NoDirectory place to) = IsEntryThatLeadsToNoDirectory ps place (pair_address_of_array to)
+BreaksRuleOfFinding disk ps (finding.LeadsToRoot place) = IsEntryThatLeadsToRoot ps place
+BreaksRuleOfFinding disk ps (finding.LeadsToSameDirectory place other) = AreEntriesThatLeadToOneDirectory ps place other
+BreaksRuleOfFinding disk ps (finding.NotReached pair) = IsUnreachedDirectory ps (pair_address_of_array pair)
 BreaksRuleOfFinding disk ps finding.BadMove = ¬ HasValidMoveOrNone ps (gstate_of_pairs ps)
 BreaksRuleOfFinding disk ps (finding.BadList place) = IsSlotWithBadList disk ps place
 BreaksRuleOfFinding disk ps (finding.InPairAndFile block pair place) = IsBlockInPairAndFile disk ps block (pair_address_of_array pair) place

@@ -4,6 +4,7 @@ use Rattle.std.specs.Fmt.{decimal}
 use Rattle.lfs_tool.specs.declared.findings.Finding.{Finding}
 use Rattle.lfs_tool.specs.declared.findings.Finding.TheVariants as finding
 use Rattle.lfs_tool.specs.declared.findings.NamedSlot.{NamedSlot}
+use Rattle.lfs_tool.specs.declared.findings.NameBehindName.{NameBehindName}
 use Rattle.lfs_tool.specs.declared.findings.WrongNumber.{WrongNumber}
 use Rattle.lfs_tool.specs.declared.findings.WrongNumber.TheVariants as stated
 use Rattle.lfs_model.specs.Listing.{escaped_text, newline}
@@ -14,8 +15,20 @@ use Rattle.lfs_tool.specs.declared.verdict.AcceptedOrders.TheVariants as orders
 use Rattle.lfs_tool.specs.declared.check_result.RefusalReason.{RefusalReason}
 use Rattle.lfs_tool.specs.declared.check_result.RefusalReason.TheVariants as reason
 use Rattle.lfs_tool.specs.declared.verdict.ImageSummary.{ImageSummary}
+use Rattle.lfs_tool.specs.declared.verdict.WritingProfile.{WritingProfile}
+use Rattle.lfs_tool.specs.declared.verdict.WritingProfile.TheVariants as profile
 use Rattle.lfs_tool.specs.declared.check_result.CheckResult.{CheckResult}
 use Rattle.lfs_tool.specs.declared.check_result.CheckResult.TheVariants as checked
+
+-- ---- places
+
+-- `pair A B`
+abbrev pub pair_text : ℕ × ℕ → List ℕ
+pair_text at = codes "pair " ++ decimal at.0 ++ codes " " ++ decimal at.1
+
+-- `pair A B, slot N`
+abbrev pub slot_text : ℕ × ℕ → ℕ → List ℕ
+slot_text at slot = pair_text at ++ (codes ", slot " ++ decimal slot)
 
 -- ---- an accepted image
 
@@ -35,9 +48,16 @@ abbrev pub needs_recovery_line : Bool → List ℕ
 needs_recovery_line true = codes "recover yes" ++ newline
 needs_recovery_line false = codes "recover no" ++ newline
 
-abbrev pub writable_line : Bool → List ℕ
-writable_line true = codes "writable yes" ++ newline
-writable_line false = codes "writable no: beyond what this library writes" ++ newline
+-- why an image isn't in the writing profile
+abbrev pub writing_profile_text : WritingProfile → List ℕ
+writing_profile_text profile.Within = codes "yes"
+writing_profile_text (profile.OtherLimits pair slot) = codes "no: " ++ (slot_text (pair_address_of_array pair) slot ++ codes ": a superblock with other limits than this library writes")
+writing_profile_text (profile.LongInline pair slot) = codes "no: " ++ (slot_text (pair_address_of_array pair) slot ++ codes ": more bytes inline than an eighth of a block")
+writing_profile_text (profile.EmptyPair pair) = codes "no: " ++ (pair_text (pair_address_of_array pair) ++ codes ": no entry, but a directory goes on in it")
+writing_profile_text profile.TooLarge = codes "no: a pair or an entry is larger than this library writes"
+
+abbrev pub writable_line : WritingProfile → List ℕ
+writable_line writable = (codes "writable " ++ writing_profile_text writable) ++ newline
 
 abbrev pub used_and_free_blocks_text : ImageSummary → List ℕ
 used_and_free_blocks_text s = used_blocks_line s.used s.blocks ++ labelled_number_line (codes "free ") (s.blocks - s.used)
@@ -54,15 +74,7 @@ wrong_superblock_number_text given (stated.BlockSize n) = codes "superblock: blo
 wrong_superblock_number_text given (stated.BlockCount n) = codes "superblock: block count " ++ decimal n ++ codes ", given " ++ decimal given.blocks
 wrong_superblock_number_text given (stated.Version n) = codes "superblock: version " ++ decimal (n / 65536) ++ codes "." ++ decimal (n % 65536)
 
--- `pair A B`
-abbrev pub pair_text : ℕ × ℕ → List ℕ
-pair_text at = codes "pair " ++ decimal at.0 ++ codes " " ++ decimal at.1
-
--- `pair A B, slot N`
-abbrev pub slot_text : ℕ × ℕ → ℕ → List ℕ
-slot_text at slot = pair_text at ++ (codes ", slot " ++ decimal slot)
-
--- the same, with the slot's name between quotes
+-- `pair A B, slot N: "NAME"`
 abbrev pub named_slot_text : NamedSlot → List ℕ
 named_slot_text p = slot_text (pair_address_of_array p.pair) p.slot ++ codes ": \"" ++ escaped_text p.name.items ++ codes "\""
 
@@ -82,8 +94,20 @@ abbrev pub quoted_name_text : List ℕ → List ℕ
 quoted_name_text name = codes "\"" ++ escaped_text name ++ codes "\""
 
 -- `pair A B, slot N: "NAME" stands behind "NAME"`
-abbrev pub name_out_of_order_text : NamedSlot → List ℕ → List ℕ
-name_out_of_order_text place name = (named_slot_text place ++ codes " stands behind ") ++ quoted_name_text name
+abbrev pub name_behind_name_text : NameBehindName → List ℕ
+name_behind_name_text n = (named_slot_text n.place ++ codes " stands behind ") ++ quoted_name_text n.before.items
+
+-- `names in two orders: pair A B, slot N: "NAME" stands behind "NAME", and pair C D, slot M: "NAME" stands behind "NAME"`
+abbrev pub names_in_two_orders_text : NameBehindName → NameBehindName → List ℕ
+names_in_two_orders_text shorter longer = codes "names in two orders: " ++ name_behind_name_text shorter ++ codes ", and " ++ name_behind_name_text longer
+
+-- `pair A B, slot N: "NAME" leads to pair C D, where no directory begins`
+abbrev pub no_directory_text : NamedSlot → ℕ × ℕ → List ℕ
+no_directory_text place to = (named_slot_text place ++ codes " leads to ") ++ pair_text to ++ codes ", where no directory begins"
+
+-- `pair A B, slot N: "NAME" leads to the same directory as pair C D, slot M: "NAME"`
+abbrev pub same_directory_text : NamedSlot → NamedSlot → List ℕ
+same_directory_text place other = (named_slot_text place ++ codes " leads to the same directory as ") ++ named_slot_text other
 
 -- `pair A B, superblock: another one than in pair C D`
 abbrev pub other_superblock_text : ℕ × ℕ → ℕ × ℕ → List ℕ
@@ -113,7 +137,13 @@ finding_text given (finding.OtherName place) = named_slot_text place ++ codes " 
 finding_text given (finding.SecondSuperblock place) = named_slot_text place ++ codes " is a second superblock"
 finding_text given (finding.OtherStruct place) = named_slot_text place ++ codes " has another kind's struct"
 finding_text given (finding.BadName place) = named_slot_text place ++ codes " is no name"
-finding_text given (finding.OutOfOrder place name) = name_out_of_order_text place name.items
+finding_text given (finding.OtherFirstEntry pair) = pair_text (pair_address_of_array pair) ++ codes ": its log doesn't begin with the superblock's name"
+finding_text given (finding.OutOfOrder name) = name_behind_name_text name
+finding_text given (finding.InTwoOrders shorter longer) = names_in_two_orders_text shorter longer
+finding_text given (finding.NoDirectory place to) = no_directory_text place (pair_address_of_array to)
+finding_text given (finding.LeadsToRoot place) = named_slot_text place ++ codes " leads to the root directory"
+finding_text given (finding.LeadsToSameDirectory place other) = same_directory_text place other
+finding_text given (finding.NotReached pair) = pair_text (pair_address_of_array pair) ++ codes ": no path leads to its directory, and the sync bit is clear"
 finding_text given finding.BadMove = codes "global state: its move names no entry"
 finding_text given (finding.BadList place) = named_slot_text place ++ codes " has a list with a wrong size, block or pointer"
 finding_text given (finding.InPairAndFile block pair place) = block_in_pair_and_file_text block (pair_address_of_array pair) place

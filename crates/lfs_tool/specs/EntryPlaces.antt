@@ -1,13 +1,16 @@
 -- The entries of directories, by their places in the pairs of a thread.
 use Rattle.std.specs.Prelude.{ℕ, ◌≡◌, ◌+◌, ◌==◌, ◌&&◌, Bool, false, not, if◌then◌else◌, List, [], ◌∷◌, map, drop, slice_get, Option, Some, None}
 use Rattle.std.specs.List.{flat_map}
-use Rattle.std.specs.Option.{option_and_then}
+use Rattle.std.specs.Option.{option_and_then, option_map_or}
+use Rattle.lfs_model.specs.Names.{Name}
 use Rattle.lfs_model.specs.Shown.{IsPathToDirectory, entries_by_directory_in_thread}
-use Rattle.lfs_model.specs.Slots.{Slot, is_superblock}
+use Rattle.lfs_model.specs.Slots.{Slot, is_superblock, pair_address_of_array}
 use Rattle.lfs_model.specs.Thread.{Pair, gstate_of_pairs, entries_not_moved}
 use Rattle.lfs_model.specs.Tree.{Path}
 use Rattle.lfs_lookup.specs.Listed.{hard_tail_joined_pairs}
+use Rattle.lfs_tool.specs.SlotsInThread.{IsSlotOfPairInThread}
 use Rattle.lfs_tool.specs.declared.entry_places.EntryPlace.{EntryPlace}
+use Rattle.lfs_tool.specs.declared.findings.NamedSlot.{NamedSlot}
 
 -- ---- in a pair
 
@@ -30,6 +33,14 @@ entry_slots_from moved id (s ∷ slots) = if is_unmoved_entry_slot moved id s th
 -- the slot at a place
 abbrev pub slot_at_place : List Pair → EntryPlace → Option Slot
 slot_at_place ps place = option_and_then (λ p. slice_get p.content.slots place.slot) (slice_get ps place.pair)
+
+-- its name
+abbrev pub name_at_place : List Pair → EntryPlace → Name
+name_at_place ps place = option_map_or (λ s. s.name) (slot_at_place ps place) []
+
+-- the slot at a place, by its pair's address and its name
+abbrev pub IsNamedSlotAtPlace : List Pair → EntryPlace → NamedSlot → Type 0
+IsNamedSlotAtPlace ps place named = (s : Slot) × ((slot_at_place ps place ≡ Some s) × (IsSlotOfPairInThread ps (pair_address_of_array named.pair) named.slot s × (named.name.items ≡ s.name)))
 
 -- the slots at these places, in order
 abbrev pub slots_at_places : List Pair → List EntryPlace → List (Option Slot)
@@ -64,10 +75,3 @@ pub record AreNeighboursInReachedDirectory (ps : List Pair) (earlier later : Ent
   pub index : ℕ
   pub first : slice_get (entries_by_directory_in_thread ps at) index ≡ slot_at_place ps earlier
   pub next : slice_get (entries_by_directory_in_thread ps at) (index + 1) ≡ slot_at_place ps later
-
--- such a directory begins with the pair of number `first`
-pub record IsFirstPairOfReachedDirectory (ps : List Pair) (first : ℕ) : Type 0 where
-  pub path : Path
-  pub at : ℕ × ℕ
-  pub reached : IsPathToDirectory ps path at
-  pub entries : entries_by_directory_in_thread ps at ≡ entries_from_pair ps first

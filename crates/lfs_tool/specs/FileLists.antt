@@ -1,12 +1,12 @@
 -- The lists of files that a check holds.
 use Rattle.std.specs.Prelude.{ℕ, ◌≡◌, ◌≢◌, List, All, slice_get, Some}
 use Rattle.lfs_model.specs.Disk.{Disk}
-use Rattle.lfs_model.specs.Shown.{skip_list_blocks_of_struct}
 use Rattle.lfs_model.specs.Slots.{Ctz, Struct, pair_address_of_array}
 use Rattle.lfs_model.specs.Thread.{Pair, gstate_of_pairs}
 use Rattle.lfs_model.specs.View.{IsSkipListIfCtzStruct}
 use Rattle.lfs_tag.specs.FieldsView.{move_view}
 use Rattle.lfs_tag.specs.declared.fields.MoveState.{MoveState}
+use Rattle.lfs_tool.specs.BrokenLists.{HasBlockInList}
 use Rattle.lfs_tool.specs.OwnedSlotView.{owned_pair_view, owned_slot_view}
 use Rattle.lfs_tool.specs.SlotsInThread.{IsUnmovedSlotOfPairInThread}
 use Rattle.lfs_tool.specs.declared.file_lists.FileList.{FileList}
@@ -35,14 +35,10 @@ AreFileListsAtTwoPlaces list other = pair_address_of_array list.pair ≡ pair_ad
 
 -- ---- their blocks
 
--- the block is one of the list of a struct
-abbrev pub HasBlockInListOfStruct : Disk → ℕ → Struct → Type 0
-HasBlockInListOfStruct disk block s = (i : ℕ) × (slice_get (skip_list_blocks_of_struct disk s) i ≡ Some block)
-
 abbrev pub struct_of_file_list : FileList → Struct
 struct_of_file_list list = Ctz list.head list.size
 
 -- what is wrong with a list: its form, or that it has a block
 abbrev pub IsDefectOfFileList : Disk → FileList → ListDefect → Type 0
 IsDefectOfFileList disk list defect.NotWellFormed = ¬ IsSkipListIfCtzStruct disk (struct_of_file_list list)
-IsDefectOfFileList disk list (defect.HasMarkedBlock block) = HasBlockInListOfStruct disk block (struct_of_file_list list)
+IsDefectOfFileList disk list (defect.HasMarkedBlock block) = HasBlockInList disk block (struct_of_file_list list)

@@ -1,9 +1,8 @@
 -- What an accepted image has.
-use Rattle.std.specs.Prelude.{◌≡◌, ◌+◌, ◌↔◌, ◌==◌, ◌||◌, not, Bool, true, false, IsTrue, List, length, count_by}
+use Rattle.std.specs.Prelude.{◌≡◌, ◌+◌, ◌==◌, ◌||◌, not, Bool, true, false, List, length, count_by}
 use Rattle.lfs_device.specs.Shown.{disk_with_name_order}
 use Rattle.lfs_model.specs.Disk.{Disk, block_count}
 use Rattle.lfs_model.specs.Listing.{PathAndNode, IsWalkOfTree}
-use Rattle.lfs_model.specs.Profile.{IsWritableImage}
 use Rattle.lfs_model.specs.Shown.{tree_on_disk, used_blocks}
 use Rattle.lfs_model.specs.Slots.{Gstate, Struct, Inline, Ctz, Branch, gstate_kind_of_no_move}
 use Rattle.lfs_model.specs.Thread.{Pair, gstate_of_pairs}
@@ -13,6 +12,7 @@ use Rattle.lfs_model.specs.declared.order.NameOrder.{NameOrder}
 use Rattle.lfs_model.specs.declared.order.NameOrder.TheVariants as order
 use Rattle.lfs_lookup.specs.Items.{owned_struct_view}
 use Rattle.lfs_lookup.specs.declared.walks.TreeItem.{TreeItem}
+use Rattle.lfs_tool.specs.WritingProfiles.{IsWritingProfileOfImage}
 use Rattle.lfs_tool.specs.declared.verdict.ImageSummary.{ImageSummary}
 use Rattle.lfs_tool.specs.declared.verdict.AcceptedOrders.{AcceptedOrders}
 use Rattle.lfs_tool.specs.declared.verdict.AcceptedOrders.TheVariants as orders
@@ -49,7 +49,7 @@ pub record HasImageSummary (disk : Disk) (ps : List Pair) (c : ImageSummary) : T
   pub used : c.used ≡ length (used_blocks disk ps)
   pub blocks : c.blocks ≡ block_count disk
   pub recover : c.recover ≡ has_half_done_operation (gstate_of_pairs ps)
-  pub writable : IsTrue c.writable ↔ IsWritableImage disk ps
+  pub writable : IsWritingProfileOfImage disk ps c.writable
 
 -- ---- orders of names
 

@@ -1,5 +1,5 @@
 -- What the path of an image names: a file, or for `-` a standard stream.
-use Rattle.std.specs.Prelude.{ℕ, Bool, true, false, List, Option, codes, option_and_then}
+use Rattle.std.specs.Prelude.{ℕ, Bool, true, false, if◌then◌else◌, List, [], Option, codes, option_and_then}
 use Rattle.std.specs.Str.{bytes_eq}
 use Rattle.lfs_tool.specs.declared.file_or_standard.FileOrStandard.{FileOrStandard}
 use Rattle.lfs_tool.specs.declared.file_or_standard.FileOrStandard.TheVariants.{File, Standard}
@@ -12,9 +12,9 @@ abbrev pub is_standard_stream : {F S : Type 0} → FileOrStandard F S → Bool
 is_standard_stream (File f) = false
 is_standard_stream (Standard s) = true
 
--- the path of the file, or `-`
+-- the path of the file, or `-` for a standard stream; a file at `-` has none
 abbrev pub path_or_dash_of_file_or_standard : {F S : Type 0} → (F → List ℕ) → FileOrStandard F S → List ℕ
-path_or_dash_of_file_or_standard of_file (File f) = of_file f
+path_or_dash_of_file_or_standard of_file (File f) = if is_path_of_standard_stream (of_file f) then [] else of_file f
 path_or_dash_of_file_or_standard of_file (Standard s) = codes "-"
 
 -- the bytes of the file or the stream, where they are known

@@ -21,7 +21,7 @@ pub enum RefusalReason {
     NoImage,
     /// The image breaks this rule.
     Broken(Finding),
-    /// The image breaks a rule that no finding has.
+    /// The image is refused, and the search found no rule that it breaks.
     Other,
 }
 

@@ -4,12 +4,13 @@ ghost use Rattle.std.specs.Prelude.{◌≡◌, ◌++◌, IfOk, OnOk, codes};
 ghost use Rattle.lfs_model.specs.Listing.{newline};
 ghost use Rattle.lfs_model.specs.Slots.{pair_address_of_array};
 ghost use Rattle.std.specs.Fmt.{decimal};
-ghost use Rattle.lfs_tool.specs.CheckedLines.{block_numbers_of_pair_text, used_and_free_blocks_text, labelled_number_line, finding_text, no_image_text, accepted_name_orders_line, pair_text, named_slot_text, block_out_of_range_text, unaccepted_reason_text, needs_recovery_line, slot_text, wrong_superblock_number_text, summary_text, block_in_pair_and_file_text, block_in_two_files_text, block_in_two_pairs_text, name_out_of_order_text, other_superblock_text, quoted_name_text, used_blocks_line, check_result_text, writable_line};
+ghost use Rattle.lfs_tool.specs.declared.verdict.WritingProfile.TheVariants.{EmptyPair, LongInline, OtherLimits};
+ghost use Rattle.lfs_tool.specs.CheckedLines.{block_numbers_of_pair_text, used_and_free_blocks_text, labelled_number_line, finding_text, no_image_text, accepted_name_orders_line, pair_text, named_slot_text, block_out_of_range_text, unaccepted_reason_text, needs_recovery_line, slot_text, wrong_superblock_number_text, summary_text, block_in_pair_and_file_text, block_in_two_files_text, block_in_two_pairs_text, name_behind_name_text, names_in_two_orders_text, no_directory_text, same_directory_text, other_superblock_text, quoted_name_text, used_blocks_line, check_result_text, writable_line, writing_profile_text};
 
 use crate::check_result::{CheckResult, GivenSizes, RefusalReason};
 use crate::escape::push_escaped_path;
-use crate::findings::{Finding, NamedSlot, WrongNumber};
-use crate::verdict::{AcceptedOrders, ImageSummary};
+use crate::findings::{Finding, NameBehindName, NamedSlot, WrongNumber};
+use crate::verdict::{AcceptedOrders, ImageSummary, WritingProfile};
 use std::alloc::{AllocError, Global};
 use std::io::Write;
 
@@ -102,14 +103,62 @@ fn push_needs_recovery_line(text: &mut Vec<u8>, recover: bool) -> Result<(), All
     }
 }
 
-fn push_writable_line(text: &mut Vec<u8>, writable: bool) -> Result<(), AllocError>
-    ensures { OnOk result (text.new.items ≡ text.old.items ++ writable_line writable) }
+fn push_other_limits(text: &mut Vec<u8>, pair: [u32; 2], slot: usize) -> Result<(), AllocError>
+    ensures { OnOk result (text.new.items ≡ text.old.items ++ writing_profile_text (OtherLimits pair slot)) }
 {
-    if writable {
-        push_line(text, "writable yes")
-    } else {
-        push_line(text, "writable no: beyond what this library writes")
+    push_text(text, "no: ")?;
+    push_slot_message(
+        text,
+        pair,
+        slot,
+        ": a superblock with other limits than this library writes",
+    )?;
+    Ok(())
+}
+
+fn push_long_inline(text: &mut Vec<u8>, pair: [u32; 2], slot: usize) -> Result<(), AllocError>
+    ensures { OnOk result (text.new.items ≡ text.old.items ++ writing_profile_text (LongInline pair slot)) }
+{
+    push_text(text, "no: ")?;
+    push_slot_message(
+        text,
+        pair,
+        slot,
+        ": more bytes inline than an eighth of a block",
+    )?;
+    Ok(())
+}
+
+fn push_empty_pair(text: &mut Vec<u8>, pair: [u32; 2]) -> Result<(), AllocError>
+    ensures { OnOk result (text.new.items ≡ text.old.items ++ writing_profile_text (EmptyPair pair)) }
+{
+    push_text(text, "no: ")?;
+    push_pair_message(text, pair, ": no entry, but a directory goes on in it")?;
+    Ok(())
+}
+
+fn push_writing_profile(text: &mut Vec<u8>, profile: WritingProfile) -> Result<(), AllocError>
+    ensures { OnOk result (text.new.items ≡ text.old.items ++ writing_profile_text profile) }
+{
+    match profile {
+        WritingProfile::Within => push_text(text, "yes"),
+        WritingProfile::OtherLimits { pair, slot } => push_other_limits(text, pair, slot),
+        WritingProfile::LongInline { pair, slot } => push_long_inline(text, pair, slot),
+        WritingProfile::EmptyPair { pair } => push_empty_pair(text, pair),
+        WritingProfile::TooLarge => push_text(
+            text,
+            "no: a pair or an entry is larger than this library writes",
+        ),
     }
+}
+
+fn push_writable_line(text: &mut Vec<u8>, profile: WritingProfile) -> Result<(), AllocError>
+    ensures { OnOk result (text.new.items ≡ text.old.items ++ writable_line profile) }
+{
+    push_text(text, "writable ")?;
+    push_writing_profile(text, profile)?;
+    text.push(b'\n')?;
+    Ok(())
 }
 
 // Adds the lines of an accepted image.
@@ -131,6 +180,26 @@ fn push_summary(
 }
 
 // ---- why one isn't accepted
+
+const NO_COMMIT: &str = ": no commit with a right checksum";
+
+const MALFORMED: &str = ": its log has an entry that may not stand there";
+
+const NO_SUPERBLOCK: &str = "superblock: the root directory doesn't begin with one";
+
+const OTHER_NAME: &str = " isn't the name of a superblock";
+
+const OTHER_FIRST_ENTRY: &str = ": its log doesn't begin with the superblock's name";
+
+const SECOND_SUPERBLOCK: &str = " is a second superblock";
+
+const OTHER_STRUCT: &str = " has another kind's struct";
+
+const LEADS_TO_ROOT: &str = " leads to the root directory";
+
+const NOT_REACHED: &str = ": no path leads to its directory, and the sync bit is clear";
+
+const BAD_LIST: &str = " has a list with a wrong size, block or pointer";
 
 // Adds two numbers, each with a text before it.
 fn push_two_labelled_numbers(
@@ -283,15 +352,45 @@ fn push_quoted_name(text: &mut Vec<u8>, name: &[u8]) -> Result<(), AllocError>
     Ok(())
 }
 
-fn push_name_out_of_order(
+fn push_name_behind_name(text: &mut Vec<u8>, name: &NameBehindName) -> Result<(), AllocError>
+    ensures { OnOk result (text.new.items ≡ text.old.items ++ name_behind_name_text name.now) }
+{
+    push_named_slot_message(text, &name.place, " stands behind ")?;
+    push_quoted_name(text, &name.before)?;
+    Ok(())
+}
+
+fn push_names_in_two_orders(
+    text: &mut Vec<u8>,
+    shorter: &NameBehindName,
+    longer: &NameBehindName,
+) -> Result<(), AllocError>
+    ensures { OnOk result (text.new.items ≡ text.old.items ++ names_in_two_orders_text shorter.now longer.now) }
+{
+    push_text(text, "names in two orders: ")?;
+    push_name_behind_name(text, shorter)?;
+    push_text(text, ", and ")?;
+    push_name_behind_name(text, longer)?;
+    Ok(())
+}
+
+fn push_no_directory(text: &mut Vec<u8>, place: &NamedSlot, to: [u32; 2]) -> Result<(), AllocError>
+    ensures { OnOk result (text.new.items ≡ text.old.items ++ no_directory_text place.now (pair_address_of_array to)) }
+{
+    push_named_slot_message(text, place, " leads to ")?;
+    push_pair_message(text, to, ", where no directory begins")?;
+    Ok(())
+}
+
+fn push_same_directory(
     text: &mut Vec<u8>,
     place: &NamedSlot,
-    name: &[u8],
+    other: &NamedSlot,
 ) -> Result<(), AllocError>
-    ensures { OnOk result (text.new.items ≡ text.old.items ++ name_out_of_order_text place.now name.now) }
+    ensures { OnOk result (text.new.items ≡ text.old.items ++ same_directory_text place.now other.now) }
 {
-    push_named_slot_message(text, place, " stands behind ")?;
-    push_quoted_name(text, name)?;
+    push_named_slot_message(text, place, " leads to the same directory as ")?;
+    push_named_slot_text(text, other)?;
     Ok(())
 }
 
@@ -351,48 +450,29 @@ fn push_finding_text(
         Finding::InTwoPairs { block, pair, other } => push_block_in_two_pairs(
             text, *block, *other, *pair,
         ),
-        Finding::NoCommit { pair } => {
-            push_pair_message(text, *pair, ": no commit with a right checksum")
-        }
-        Finding::Malformed { pair } => push_pair_message(
-            text,
-            *pair,
-            ": its log has an entry that may not stand there",
-        ),
+        Finding::NoCommit { pair } => push_pair_message(text, *pair, NO_COMMIT),
+        Finding::Malformed { pair } => push_pair_message(text, *pair, MALFORMED),
         Finding::NoName { pair, slot } => push_slot_message(text, *pair, *slot, ": no name"),
         Finding::NoStruct(place) => push_named_slot_message(text, place, " has no struct"),
-        Finding::NoSuperblock => push_text(
-            text,
-            "superblock: the root directory doesn't begin with one",
-        ),
+        Finding::NoSuperblock => push_text(text, NO_SUPERBLOCK),
         Finding::NoFields { pair } => push_slot_message(text, *pair, 0, ": no superblock's struct"),
         Finding::OtherFields { pair, stated } => push_pair_with_wrong_number(
             text, given, *pair, *stated,
         ),
         Finding::OtherSuperblock { pair, root } => push_other_superblock(text, *pair, *root),
-        Finding::OtherName(place) => push_named_slot_message(
-            text,
-            place,
-            " isn't the name of a superblock",
-        ),
-        Finding::SecondSuperblock(place) => push_named_slot_message(
-            text,
-            place,
-            " is a second superblock",
-        ),
-        Finding::OtherStruct(place) => push_named_slot_message(
-            text,
-            place,
-            " has another kind's struct",
-        ),
+        Finding::OtherName(place) => push_named_slot_message(text, place, OTHER_NAME),
+        Finding::SecondSuperblock(place) => push_named_slot_message(text, place, SECOND_SUPERBLOCK),
+        Finding::OtherStruct(place) => push_named_slot_message(text, place, OTHER_STRUCT),
         Finding::BadName(place) => push_named_slot_message(text, place, " is no name"),
-        Finding::OutOfOrder { place, name } => push_name_out_of_order(text, place, name),
+        Finding::OtherFirstEntry { pair } => push_pair_message(text, *pair, OTHER_FIRST_ENTRY),
+        Finding::OutOfOrder(name) => push_name_behind_name(text, name),
+        Finding::InTwoOrders { shorter, longer } => push_names_in_two_orders(text, shorter, longer),
+        Finding::NoDirectory { place, to } => push_no_directory(text, place, *to),
+        Finding::LeadsToRoot(place) => push_named_slot_message(text, place, LEADS_TO_ROOT),
+        Finding::LeadsToSameDirectory { place, other } => push_same_directory(text, place, other),
+        Finding::NotReached { pair } => push_pair_message(text, *pair, NOT_REACHED),
         Finding::BadMove => push_text(text, "global state: its move names no entry"),
-        Finding::BadList(place) => push_named_slot_message(
-            text,
-            place,
-            " has a list with a wrong size, block or pointer",
-        ),
+        Finding::BadList(place) => push_named_slot_message(text, place, BAD_LIST),
         Finding::InPairAndFile { block, pair, place } => push_block_in_pair_and_file(
             text, *block, *pair, place,
         ),

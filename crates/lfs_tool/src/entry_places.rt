@@ -3,11 +3,13 @@
 ghost use Rattle.std.specs.Prelude.{◌≡◌, ◌++◌, ◌∷◌, [], IfOk, IsSome, List, OnOk, Some, if◌then◌else◌, map, slice_get};
 ghost use Rattle.lfs_model.specs.Thread.{Pair, entries_not_moved, gstate_of_pairs};
 ghost use Rattle.lfs_tag.specs.FieldsView.{move_view};
-ghost use Rattle.lfs_tool.specs.EntryPlaces.{ArePlacesOfEntries, entries_from_pair, is_unmoved_entry_slot, is_moved_slot, slot_at_place, slots_at_places};
+ghost use Rattle.lfs_tool.specs.EntryPlaces.{ArePlacesOfEntries, IsNamedSlotAtPlace, entries_from_pair, is_unmoved_entry_slot, is_moved_slot, slot_at_place, slots_at_places};
 ghost use Rattle.lfs_tool.specs.OwnedSlotView.{owned_pair_view, owned_pairs_view, owned_slot_view};
 
+use crate::findings::NamedSlot;
 use crate::moves::moved_slot_id;
 use crate::owned_parts::{OwnedPair, OwnedSlot};
+use crate::slots::named_slot_of_owned_slot;
 use lfs_tag::{MoveState, has_hard_tail};
 use std::alloc::{AllocError, Global};
 
@@ -88,4 +90,17 @@ pub(crate) fn slot_at_place(pairs: &[OwnedPair], place: EntryPlace) -> &OwnedSlo
     ensures { slot_at_place (owned_pairs_view pairs.now) place ≡ Some (owned_slot_view result.now) }
 {
     &pairs[place.pair].slots[place.slot]
+}
+
+// Returns the slot at a place with its name.
+pub(crate) fn named_slot_at_place(
+    alloc: Global,
+    pairs: &[OwnedPair],
+    place: EntryPlace,
+) -> Result<NamedSlot, AllocError>
+    requires { IsSome (slot_at_place (owned_pairs_view pairs.now) place) }
+    ensures { IfOk result (IsNamedSlotAtPlace (owned_pairs_view pairs.now) place) }
+{
+    let slot = slot_at_place(pairs, place);
+    named_slot_of_owned_slot(alloc, pairs[place.pair].at, place.slot, slot)
 }

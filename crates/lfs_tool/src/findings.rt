@@ -11,6 +11,15 @@ pub struct NamedSlot {
     pub name: Vec<u8>,
 }
 
+/// A slot whose name stands right behind another one in a directory.
+#[derive(Drop)]
+pub struct NameBehindName {
+    /// The later name, and where it is.
+    pub place: NamedSlot,
+    /// The bytes of the name before it.
+    pub before: Vec<u8>,
+}
+
 /// A number in a superblock's struct that is wrong for its image (SPEC.md of littlefs, "0x0ff
 /// LFS_TYPE_SUPERBLOCK").
 #[derive(Clone, Copy, Debug, PartialEq, Eq, Drop)]
@@ -78,6 +87,10 @@ pub enum Finding {
     },
     /// The first slot of the thread has another name than a superblock's.
     OtherName(NamedSlot),
+    /// The log of the first pair that has a slot doesn't begin with the superblock's name.
+    OtherFirstEntry {
+        pair: [u32; 2],
+    },
 
     // ---- entries
     /// A superblock is elsewhere than in slot 0 of the chain.
@@ -89,9 +102,30 @@ pub enum Finding {
     BadName(NamedSlot),
     /// The names of two neighbours in a directory are in neither order: the later one, and the name
     /// before it.
-    OutOfOrder {
+    OutOfOrder(NameBehindName),
+    /// Two neighbours are in the order with shorter names first alone, and two others in the one with
+    /// longer names first alone.
+    InTwoOrders {
+        shorter: NameBehindName,
+        longer: NameBehindName,
+    },
+
+    // ---- the directories to which paths lead
+    /// An entry leads to a pair with which no directory begins.
+    NoDirectory {
         place: NamedSlot,
-        name: Vec<u8>,
+        to: [u32; 2],
+    },
+    /// An entry leads to the root directory.
+    LeadsToRoot(NamedSlot),
+    /// Two entries lead to one directory: the other one, and then the one at the place.
+    LeadsToSameDirectory {
+        place: NamedSlot,
+        other: NamedSlot,
+    },
+    /// No path leads to the directory that begins with the pair, and the sync bit is clear.
+    NotReached {
+        pair: [u32; 2],
     },
 
     // ---- the global state

@@ -10,7 +10,8 @@ ghost use Rattle.lfs_model.specs.View.{IsSkipListIfCtzStruct};
 ghost use Rattle.lfs_tool.specs.BrokenLists.{IsPairInThreadWithBlock};
 ghost use Rattle.lfs_tool.specs.BrokenRules.{BreaksRuleOfFinding};
 ghost use Rattle.lfs_tool.specs.Device.{OnlyReadsDevice};
-ghost use Rattle.lfs_tool.specs.FileLists.{AreFileListsAtTwoPlaces, AreFileListsOfThread, HasBlockInListOfStruct, IsFileListOfThread, struct_of_file_list};
+ghost use Rattle.lfs_tool.specs.BrokenLists.{HasBlockInList};
+ghost use Rattle.lfs_tool.specs.FileLists.{AreFileListsAtTwoPlaces, AreFileListsOfThread, IsFileListOfThread, struct_of_file_list};
 ghost use Rattle.lfs_tool.specs.OwnedSlotView.{owned_pairs_view};
 
 use crate::addresses::pair_has_block;
@@ -40,7 +41,7 @@ fn finding_of_block_in_pair_and_list(
     list: &FileList<'_>,
 ) -> Result<Finding, AllocError>
     ensures { IfOk result (λ f. (disk : Disk) (ps : List Pair) → IsPairInThreadWithBlock ps (pair_address_of_array pair) block → IsFileListOfThread ps list.now
-        → HasBlockInListOfStruct disk block (struct_of_file_list list.now) → BreaksRuleOfFinding disk ps f) }
+        → HasBlockInList disk block (struct_of_file_list list.now) → BreaksRuleOfFinding disk ps f) }
 {
     let place = named_slot_of_owned_slot(alloc, list.pair, list.id, list.slot)?;
     Ok(Finding::InPairAndFile { block, pair, place })
@@ -53,8 +54,8 @@ fn finding_of_block_in_two_lists(
     list: &FileList<'_>,
     other: &FileList<'_>,
 ) -> Result<Finding, AllocError>
-    ensures { IfOk result (λ f. (disk : Disk) (ps : List Pair) → IsFileListOfThread ps list.now → HasBlockInListOfStruct disk block (struct_of_file_list list.now) → IsFileListOfThread ps other.now
-        → HasBlockInListOfStruct disk block (struct_of_file_list other.now) → AreFileListsAtTwoPlaces list.now other.now → BreaksRuleOfFinding disk ps f) }
+    ensures { IfOk result (λ f. (disk : Disk) (ps : List Pair) → IsFileListOfThread ps list.now → HasBlockInList disk block (struct_of_file_list list.now) → IsFileListOfThread ps other.now
+        → HasBlockInList disk block (struct_of_file_list other.now) → AreFileListsAtTwoPlaces list.now other.now → BreaksRuleOfFinding disk ps f) }
 {
     let place = named_slot_of_owned_slot(alloc, list.pair, list.id, list.slot)?;
     let other = named_slot_of_owned_slot(alloc, other.pair, other.id, other.slot)?;
@@ -85,7 +86,7 @@ fn is_block_in_other_list<D: BlockDevice>(
     block: u32,
 ) -> Result<bool, Error>
     ensures other { result ≡ Ok true → AreFileListsAtTwoPlaces list.now other.now }
-    ensures has { result ≡ Ok true → HasBlockInListOfStruct (disk_of_geometry_and_blocks (D.geometry device.old) (D.blocks device.old)) block (struct_of_file_list other.now) }
+    ensures has { result ≡ Ok true → HasBlockInList (disk_of_geometry_and_blocks (D.geometry device.old) (D.blocks device.old)) block (struct_of_file_list other.now) }
     ensures looks { OnlyReadsDevice D.BlockDevice device.old device.new result }
 {
     if is_list_of_same_slot(list, other) {
@@ -102,7 +103,7 @@ fn other_list_with_block<'a, D: BlockDevice>(
     block: u32,
 ) -> Result<Option<FileList<'a>>, Error>
     ensures other { IfOk result (λ found. IfSome found (λ other. Contains lists.now other × AreFileListsAtTwoPlaces list.now other
-        × HasBlockInListOfStruct (disk_of_geometry_and_blocks (D.geometry device.old) (D.blocks device.old)) block (struct_of_file_list other))) }
+        × HasBlockInList (disk_of_geometry_and_blocks (D.geometry device.old) (D.blocks device.old)) block (struct_of_file_list other))) }
     ensures looks { OnlyReadsDevice D.BlockDevice device.old device.new result }
 {
     for other in lists {
@@ -124,7 +125,7 @@ fn finding_on_shared_block<D: BlockDevice>(
 ) -> Result<Option<Finding>, Error>
     requires lists { AreFileListsOfThread (owned_pairs_view pairs.now) lists.now }
     requires list { IsFileListOfThread (owned_pairs_view pairs.now) list.now }
-    requires block { HasBlockInListOfStruct (disk_of_geometry_and_blocks (D.geometry device.old) (D.blocks device.old)) block (struct_of_file_list list.now) }
+    requires block { HasBlockInList (disk_of_geometry_and_blocks (D.geometry device.old) (D.blocks device.old)) block (struct_of_file_list list.now) }
     ensures found { IfOk result (λ found. IfSome found (BreaksRuleOfFinding (disk_of_geometry_and_blocks (D.geometry device.old) (D.blocks device.old)) (owned_pairs_view pairs.now))) }
     ensures looks { OnlyReadsDevice D.BlockDevice device.old device.new result }
 {

@@ -5,7 +5,8 @@ ghost use Rattle.lfs_ctz.specs.Calls.{OnlyReadsAndReportsIoOrCorrupt};
 ghost use Rattle.lfs_device.specs.Shown.{disk_of_geometry_and_blocks};
 ghost use Rattle.lfs_model.specs.View.{IsSkipListIfCtzStruct};
 ghost use Rattle.lfs_tool.specs.Device.{OnlyReadsDevice};
-ghost use Rattle.lfs_tool.specs.FileLists.{HasBlockInListOfStruct, IsDefectOfFileList, struct_of_file_list};
+ghost use Rattle.lfs_tool.specs.BrokenLists.{HasBlockInList};
+ghost use Rattle.lfs_tool.specs.FileLists.{IsDefectOfFileList, struct_of_file_list};
 
 use crate::file_lists::FileList;
 use crate::owned_parts::OwnedPair;
@@ -54,7 +55,7 @@ fn first_marked_block_of_list<D: BlockDevice>(
     marks: &mut Vec<bool>,
     list: &FileList<'_>,
 ) -> Result<Option<u32>, Error>
-    ensures marked { IfOk result (λ found. IfSome found (λ block. HasBlockInListOfStruct (disk_of_geometry_and_blocks (D.geometry device.old) (D.blocks device.old)) block (struct_of_file_list list.now))) }
+    ensures marked { IfOk result (λ found. IfSome found (λ block. HasBlockInList (disk_of_geometry_and_blocks (D.geometry device.old) (D.blocks device.old)) block (struct_of_file_list list.now))) }
     ensures corrupt { IsErrOf result Error.Corrupt → ¬ IsSkipListIfCtzStruct (disk_of_geometry_and_blocks (D.geometry device.old) (D.blocks device.old)) (struct_of_file_list list.now) }
     ensures reading { OnlyReadsAndReportsIoOrCorrupt D.BlockDevice device.old device.new result }
 {
@@ -97,7 +98,7 @@ fn block_in_list<D: BlockDevice>(
     list: &FileList<'_>,
     wanted: u32,
 ) -> Result<Option<u32>, Error>
-    ensures met { IfOk result (λ found. IfSome found (λ block. HasBlockInListOfStruct (disk_of_geometry_and_blocks (D.geometry device.old) (D.blocks device.old)) block (struct_of_file_list list.now))) }
+    ensures met { IfOk result (λ found. IfSome found (λ block. HasBlockInList (disk_of_geometry_and_blocks (D.geometry device.old) (D.blocks device.old)) block (struct_of_file_list list.now))) }
     ensures reading { OnlyReadsAndReportsIoOrCorrupt D.BlockDevice device.old device.new result }
 {
     let mut met = None;
@@ -122,7 +123,7 @@ pub(crate) fn has_list_block<D: BlockDevice>(
     list: &FileList<'_>,
     wanted: u32,
 ) -> Result<bool, Error>
-    ensures has { result ≡ Ok true → HasBlockInListOfStruct (disk_of_geometry_and_blocks (D.geometry device.old) (D.blocks device.old)) wanted (struct_of_file_list list.now) }
+    ensures has { result ≡ Ok true → HasBlockInList (disk_of_geometry_and_blocks (D.geometry device.old) (D.blocks device.old)) wanted (struct_of_file_list list.now) }
     ensures looks { OnlyReadsDevice D.BlockDevice device.old device.new result }
 {
     match block_in_list(device, list, wanted) {

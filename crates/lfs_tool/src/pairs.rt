@@ -28,7 +28,7 @@ pub(crate) enum ReadPair {
 }
 
 // Returns the block of a pair that holds.
-fn current_block_of_pair<'a>(first: &'a [u8], second: &'a [u8]) -> Option<&'a [u8]>
+pub(crate) fn current_block_of_pair<'a>(first: &'a [u8], second: &'a [u8]) -> Option<&'a [u8]>
     ensures { option_map (λ b. b.now) result ≡ current_block_of_two first.now second.now }
 {
     let log = Log::read(first);

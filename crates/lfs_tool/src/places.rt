@@ -1,4 +1,4 @@
-ghost use Rattle.std.specs.Prelude.{◌≡◌, ℕ, IfErr, IfOk, List, OnOk, ◌∷◌};
+ghost use Rattle.std.specs.Prelude.{◌≡◌, ℕ, Bool, false, IfErr, IfOk, List, OnOk, ◌∷◌};
 ghost use Rattle.lfs_tool.specs.AmountsTold.{IsToldOfNothing};
 ghost use Rattle.lfs_tool.specs.PlaceEvents.{FaultAnswered, FolderClosed, FolderOpened, ImageDiscarded, ImageNotPlaced, ImageOpened, ImagePlaced, PlaceEvent, WorkBegan, WorkEnded};
 
@@ -44,6 +44,9 @@ pub trait Places {
     // answered, the newest first.
     ghost history: { Self → List PlaceEvent };
 
+    // Whether a work that begins is shown to somebody. No call changes that.
+    ghost shows: { Self → Bool } = { λ _. false };
+
     /// Returns the image at a path, to be read.
     fn image(&self, path: &str) -> Result<Self::Image, Error>
         ensures path { IfOk result (λ i. image_path i ≡ path.now) }
@@ -54,7 +57,8 @@ pub trait Places {
         ensures path { IfOk result (λ i. new_image_path i ≡ path.now) }
         ensures fresh { IfOk result (λ i. (Self.NewImage.faults i ≡ 0) × (Self.NewImage.pending i ≡ 0) × (Self.NewImage.flushes i ≡ 0)) }
         ensures opened { OnOk result (history self.new ≡ ImageOpened path.now ∷ history self.old) }
-        ensures err { IfErr result (λ e. (e ≡ Error.NoMemory) × (history self.new ≡ history self.old)) };
+        ensures err { IfErr result (λ e. (e ≡ Error.NoMemory) × (history self.new ≡ history self.old)) }
+        ensures shows { shows self.new ≡ shows self.old };
 
     /// Puts an image in its place: no call of it has failed, and it was flushed once, when all was written.
     ///
@@ -63,11 +67,13 @@ pub trait Places {
     fn place_image(&mut self, image: Self::NewImage) -> Result<(), ToolError>
         requires whole { (Self.NewImage.faults image ≡ 0) × (Self.NewImage.pending image ≡ 0) × (Self.NewImage.flushes image ≡ 1) }
         ensures placed { OnOk result (history self.new ≡ ImagePlaced (Self.NewImage.contents image) ∷ history self.old) }
-        ensures err { IfErr result (λ e. (e ≡ ToolError.Output) × (history self.new ≡ ImageNotPlaced (Self.NewImage.contents image) ∷ history self.old)) };
+        ensures err { IfErr result (λ e. (e ≡ ToolError.Output) × (history self.new ≡ ImageNotPlaced (Self.NewImage.contents image) ∷ history self.old)) }
+        ensures shows { shows self.new ≡ shows self.old };
 
     /// Drops an image that isn't to be put in its place.
     fn discard_image(&mut self, image: Self::NewImage)
-        ensures { history self.new ≡ ImageDiscarded (Self.NewImage.contents image) (Self.NewImage.faults image) (Self.NewImage.flushes image) ∷ history self.old };
+        ensures discarded { history self.new ≡ ImageDiscarded (Self.NewImage.contents image) (Self.NewImage.faults image) (Self.NewImage.flushes image) ∷ history self.old }
+        ensures shows { shows self.new ≡ shows self.old };
 
     /// Returns the folder at a path, to be read for an image of so many bytes.
     fn folder(&self, path: &str, size: u32) -> Result<Self::Folder, Error>
@@ -79,20 +85,24 @@ pub trait Places {
     fn new_folder(&mut self, path: &str) -> Result<Self::NewFolder, Error>
         ensures path { IfOk result (λ f. new_folder_path f ≡ path.now) }
         ensures opened { OnOk result (history self.new ≡ FolderOpened path.now ∷ history self.old) }
-        ensures err { IfErr result (λ e. (e ≡ Error.NoMemory) × (history self.new ≡ history self.old)) };
+        ensures err { IfErr result (λ e. (e ≡ Error.NoMemory) × (history self.new ≡ history self.old)) }
+        ensures shows { shows self.new ≡ shows self.old };
 
     /// Takes a folder back to which nothing more is written.
     fn close_folder(&mut self, folder: Self::NewFolder)
-        ensures { history self.new ≡ FolderClosed (Self.NewFolder.done folder) ∷ history self.old };
+        ensures closed { history self.new ≡ FolderClosed (Self.NewFolder.done folder) ∷ history self.old }
+        ensures shows { shows self.new ≡ shows self.old };
 
     /// Returns what follows how far the work is that begins now. It was told of nothing yet.
     fn progress(&mut self) -> Self::Progress
         ensures untold { IsToldOfNothing (Self.Progress.told result) }
-        ensures began { history self.new ≡ WorkBegan ∷ history self.old };
+        ensures began { history self.new ≡ WorkBegan ∷ history self.old }
+        ensures shows { shows self.new ≡ shows self.old };
 
     /// Takes back what followed a work that has ended.
     fn end_progress(&mut self, progress: Self::Progress)
-        ensures { history self.new ≡ WorkEnded (Self.Progress.told progress) ∷ history self.old };
+        ensures ended { history self.new ≡ WorkEnded (Self.Progress.told progress) ∷ history self.old }
+        ensures shows { shows self.new ≡ shows self.old };
 
     /// Returns the first fault that one of these met since the last call, where one is known, and forgets
     /// it. No contract says which it is.
@@ -101,5 +111,6 @@ pub trait Places {
     /// `NoMemory` where memory wasn't granted to note it.
     fn fault(&mut self) -> Result<Option<PathFault>, Error>
         ensures answered { history self.new ≡ FaultAnswered result ∷ history self.old }
-        ensures err { IfErr result (λ e. e ≡ Error.NoMemory) };
+        ensures err { IfErr result (λ e. e ≡ Error.NoMemory) }
+        ensures shows { shows self.new ≡ shows self.old };
 }

@@ -1,5 +1,6 @@
-ghost use Rattle.std.specs.Prelude.{◌≡◌, IfErr, IfOk};
+ghost use Rattle.std.specs.Prelude.{◌≡◌, IfErr, IfOk, map};
 ghost use Rattle.lfs_tool_folders.specs.Paths.{image_path};
+ghost use Rattle.lfs_tool.specs.LoggedAnswers.{answer_by_log, answers_in_events};
 ghost use Rattle.lfs_tool.specs.Paths.{path_of_old_image_file};
 ghost use Rattle.lfs_tool.specs.StandardStreams.{is_standard_stream, is_path_of_standard_stream, path_or_dash_of_file_or_standard};
 
@@ -34,6 +35,8 @@ pub struct RealPlaces<'a, R, I, O, E, C> {
     // A terminal and a clock, if it is told how far the work is.
     terminal: Option<(E, C)>,
     history: PlaceHistory,
+    // Each time the log was asked, what it gave was answered.
+    ghost answered: { map answer_by_log faults.answers.list ≡ answers_in_events history.events },
 }
 
 // Puts the file of an image at its path. A standard stream has its bytes already.
@@ -103,6 +106,7 @@ where
         ensures path { IfOk result (λ i. path_or_dash_of_file_or_standard image_path i ≡ path.now) }
         ensures kind { IfOk result (λ i. is_standard_stream i ≡ is_path_of_standard_stream path.now) }
         ensures history { self.new.history ≡ self.old.history }
+        ensures terminal { has_terminal self.new ≡ has_terminal self.old }
     {
         if is_standard_stream_path(path) {
             return Ok(FileOrStandard::Standard(self.output.take()));
@@ -149,6 +153,8 @@ where
     ghost new_folder_path = { root_path_of_target_folder };
 
     ghost history = { λ p. p.history.events };
+
+    ghost shows = { has_terminal };
 
     fn image(
         &self,
@@ -219,6 +225,7 @@ where
     fn progress(&mut self) -> Option<Progress<WatchedStream<E>, C>>
         ensures untold { IsToldOfNothing (option_and_then (λ p. Some p.calls.calls) result) }
         ensures began { self.new.history.events ≡ WorkBegan ∷ self.old.history.events }
+        ensures shows { has_terminal self.new ≡ has_terminal self.old }
         ensures shown { is_some result ≡ has_terminal self.old }
     {
         self.history = self.history.with_begun_work();
@@ -235,6 +242,7 @@ where
     fn fault(&mut self) -> Result<Option<PathFault>, Error>
         ensures answered { self.new.history.events ≡ FaultAnswered result ∷ self.old.history.events }
         ensures err { IfErr result (λ e. e ≡ Error.NoMemory) }
+        ensures shows { has_terminal self.new ≡ has_terminal self.old }
         ensures taken { IsAnsweredByLog (answers_of_log self.old) (answers_of_log self.new) result }
     {
         let answer = match self.faults.take() {

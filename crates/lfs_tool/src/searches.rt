@@ -10,10 +10,11 @@ ghost use Rattle.lfs_tool.specs.Findings.{IsTrueFindingOfDisk};
 ghost use Rattle.lfs_tool.specs.OwnedSlotView.{owned_pairs_view};
 ghost use Rattle.lfs_tool.specs.PairReads.{AreAllThreadPairsOrFinding};
 
+use crate::directory_checks::finding_on_directories;
 use crate::findings::Finding;
+use crate::first_entries::finding_on_first_entry;
 use crate::list_checks::finding_on_lists;
 use crate::moves::is_move_none_or_of_entry;
-use crate::order_checks::finding_on_name_order;
 use crate::owned_parts::OwnedPair;
 use crate::roots::root_pair_index;
 use crate::slots::finding_on_entry_slots;
@@ -23,9 +24,9 @@ use crate::thread_walk::{FollowedThread, read_pairs_of_thread};
 use lfs_device::{BlockDevice, Error, Geometry};
 use std::alloc::{AllocError, Global};
 
-// Returns the first rule that the superblock's name breaks, the slots of pairs, or the order of their
-// names. So many pairs are before the root directory.
-fn finding_on_slots_and_names(
+// Returns the first rule that the superblock's name breaks, the slots of pairs, or the directories.
+// So many pairs are before the root directory.
+fn finding_on_slots_and_directories(
     alloc: Global,
     pairs: &[OwnedPair],
     root: usize,
@@ -40,7 +41,7 @@ fn finding_on_slots_and_names(
     if let Some(finding) = finding_on_entry_slots(alloc, pairs, root)? {
         return Ok(Some(finding));
     }
-    finding_on_name_order(alloc, pairs, root)
+    finding_on_directories(alloc, pairs, root)
 }
 
 // Returns what is wrong with the move that pairs set.
@@ -69,7 +70,7 @@ fn finding_on_pairs(
     if let Some(finding) = finding_on_superblock_chain(geometry, pairs, root) {
         return Ok(Some(finding));
     }
-    if let Some(finding) = finding_on_slots_and_names(alloc, pairs, root)? {
+    if let Some(finding) = finding_on_slots_and_directories(alloc, pairs, root)? {
         return Ok(Some(finding));
     }
     Ok(finding_on_move(pairs))
@@ -85,10 +86,13 @@ fn finding_on_pairs_and_lists<D: BlockDevice>(
     ensures looks { OnlyReadsDevice D.BlockDevice device.old device.new result }
 {
     let geometry = device.geometry();
-    match finding_on_pairs(alloc, &geometry, pairs)? {
-        Some(finding) => Ok(Some(finding)),
-        None => finding_on_lists(alloc, device, pairs),
+    if let Some(finding) = finding_on_pairs(alloc, &geometry, pairs)? {
+        return Ok(Some(finding));
     }
+    if let Some(finding) = finding_on_first_entry(alloc, device, pairs)? {
+        return Ok(Some(finding));
+    }
+    finding_on_lists(alloc, device, pairs)
 }
 
 // Returns the first rule that a thread breaks, after it was followed.
@@ -108,9 +112,10 @@ fn finding_on_followed_thread<D: BlockDevice>(
 }
 
 /// Returns the first rule that an image breaks, and where. First come the addresses and logs of the
-/// pairs, from the pair {0, 1} on by the tails. Then come the superblock's sizes and version, the
-/// slots of the pairs, the order of their names and the move, and last the lists of files. Only reads
-/// are made.
+/// pairs, from the pair {0, 1} on by the tails. Then come the superblock's sizes, version and name,
+/// and the slots of the pairs. After these come the directories: the order of their names, where
+/// entries lead, and whether paths lead to all. Last come the move, the first entry of the
+/// superblock's log and the lists of files. Only reads are made.
 ///
 /// Returns None where the image breaks no rule that the search looks for. The image may still not
 /// be accepted then.

@@ -1,8 +1,7 @@
 // What an accepted image in memory has.
 
-ghost use Rattle.std.specs.Prelude.{◌≡◌, ◌↔◌, ◌≤◌, IfErr, IfOk, IsTrue, count_by, false, length};
+ghost use Rattle.std.specs.Prelude.{◌≡◌, ◌≤◌, IfErr, IfOk, count_by, false, length};
 ghost use Rattle.lfs_model.specs.BlockSets.{AreExactlyTheUsedBlocks};
-ghost use Rattle.lfs_model.specs.Profile.{IsWritableImage};
 ghost use Rattle.lfs_model.specs.Shown.{used_blocks};
 ghost use Rattle.lfs_model.specs.Thread.{pair_count_before_root};
 ghost use Rattle.lfs_model.specs.View.{IsAcceptedImage};
@@ -11,10 +10,12 @@ ghost use Rattle.lfs_thread.specs.Steps.{IsThreadOnlyRead};
 ghost use Rattle.lfs_lookup.specs.Items.{owned_struct_view};
 ghost use Rattle.lfs_lookup.specs.Walk.{ArePathsAndStructsOfWalk, tree_items_view};
 ghost use Rattle.lfs_tool.specs.ImageSummaries.{HasImageSummary, is_file_item, is_file_struct, has_half_done_operation};
+ghost use Rattle.lfs_tool.specs.WritingProfiles.{IsWritingProfileOfImage};
 
-use crate::verdict::ImageSummary;
+use crate::verdict::{ImageSummary, WritingProfile};
+use crate::writing_profiles::writing_profile_of_thread;
 use lfs_device::{Error, Ordered, RamDevice};
-use lfs_lookup::{OwnedStruct, TreeItem, find_root, is_writable, walk_tree};
+use lfs_lookup::{OwnedStruct, TreeItem, find_root, walk_tree};
 use lfs_tag::MoveState;
 use lfs_thread::Thread;
 use std::alloc::Global;
@@ -92,21 +93,21 @@ fn root_index_of_thread(
     }
 }
 
-// Returns whether the image may be changed.
-fn is_thread_writable(
+// Returns whether the image may be changed, or what of it isn't in the writing profile.
+fn writing_profile_of_image(
     alloc: Global,
     thread: &mut Thread<Ordered<RamDevice>>,
     root: usize,
-) -> Result<bool, Error>
+) -> Result<WritingProfile, Error>
     requires works { thread.old.failed ≡ false }
     requires accepted { IsAcceptedImage thread.old.kept.disk thread.old.kept.pairs }
     requires root { root ≡ pair_count_before_root thread.old.kept.pairs }
-    ensures is { IfOk result (λ b. IsTrue b ↔ IsWritableImage thread.old.kept.disk thread.old.kept.pairs) }
+    ensures profile { IfOk result (IsWritingProfileOfImage thread.old.kept.disk thread.old.kept.pairs) }
     ensures only { (IsThreadOnlyRead thread.old.kept thread.new.kept) × (thread.new.failed ≡ false) }
     ensures err { IfErr result (λ e. e ≡ Error.NoMemory) }
 {
-    match is_writable(alloc, thread, root) {
-        Ok(writable) => Ok(writable),
+    match writing_profile_of_thread(alloc, thread, root) {
+        Ok(profile) => Ok(profile),
         Err(error) => {
             // The device had no fault, so memory ran out.
             let _device = thread.device();
@@ -129,7 +130,7 @@ pub(crate) fn image_summary_of_thread(
 {
     let items = tree_items_of_thread(alloc, thread)?;
     let root = root_index_of_thread(alloc, thread)?;
-    let writable = is_thread_writable(alloc, thread, root)?;
+    let writable = writing_profile_of_image(alloc, thread, root)?;
     let files = count_files(&items);
     let state = thread.state();
     Ok(ImageSummary {

@@ -11,6 +11,22 @@ pub enum AcceptedOrders {
     Either,
 }
 
+/// Whether an image is in the writing profile, so that it may be changed, or what of it isn't.
+#[derive(Clone, Copy, Debug, PartialEq, Eq, Drop)]
+pub enum WritingProfile {
+    /// Within it.
+    Within,
+    /// A superblock has other limits than those of a fresh image.
+    OtherLimits { pair: [u32; 2], slot: usize },
+    /// A file has more bytes inline than an eighth of a block.
+    LongInline { pair: [u32; 2], slot: usize },
+    /// A pair in which a directory goes on has no slot.
+    EmptyPair { pair: [u32; 2] },
+    /// A pair has more slots or bytes than it may have after a compaction, or an entry takes more than
+    /// half of that.
+    TooLarge,
+}
+
 /// What an accepted image has.
 #[derive(Clone, Copy, Debug, PartialEq, Eq, Drop)]
 pub struct ImageSummary {
@@ -23,8 +39,8 @@ pub struct ImageSummary {
     pub blocks: u32,
     /// Whether a loss of power left something to recover.
     pub recover: bool,
-    /// Whether the image is in the writing profile, so that it may be changed.
-    pub writable: bool,
+    /// Whether the image may be changed, or why not.
+    pub writable: WritingProfile,
 }
 
 /// Whether an image is accepted, and with what, or why not.
@@ -34,6 +50,6 @@ pub enum ImageVerdict {
         summary: ImageSummary,
         orders: AcceptedOrders,
     },
-    /// The rule that the image breaks. None where it breaks one that no finding has.
+    /// A rule that the image breaks. None where the search found none.
     Refused(Option<Finding>),
 }

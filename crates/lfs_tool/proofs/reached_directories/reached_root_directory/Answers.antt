@@ -1,13 +1,17 @@
-use Rattle.std.proofs.Common.{◌∷◌, ◌++◌, ◌∙◌, [], ap}
-use Rattle.std.proofs.lemmas.List.Elements.{All-cons, All-nil, All-same}
-use Rattle.lfs_tool.specs.EntryPlaces.{IsFirstPairOfReachedDirectory}
-use Rattle.lfs_tool.specs.OwnedSlotView.{owned_pairs_view}
-use Rattle.lfs_tool.proofs.ReachedDirectories.{root_reached}
+use Rattle.std.proofs.Common.{◌∷◌, ◌++◌, ◌∙◌, [], None, ap, get_or}
+use Rattle.lfs_model.specs.Slots.{pair_address_of_array}
+use Rattle.lfs_tool.specs.OwnedSlotView.{owned_pair_view, owned_pairs_view}
+use Rattle.lfs_tool.specs.declared.owned_parts.OwnedPair.{OwnedPair}
+use Rattle.lfs_tool.proofs.HeldPlaces.{pair_there}
+use Rattle.lfs_tool.proofs.ReachedDirectories.{root_alone}
 use Rattle.lfs_tool.proofs.reached_directories.reached_root_directory.Goals as goal
 
 pub returns : goal.returns
 returns c =
-    let ps = owned_pairs_view c.args.pairs.now in
-    let P = IsFirstPairOfReachedDirectory ps in
-    All-same P c.push.new.self.items (c.args.root ∷ []) (c.in_ok-push.ensures.items ∙ ap (λ z. z ++ c.args.root ∷ []) c.new-firsts.ensures.items)
-    (All-cons P c.args.root [] (root_reached ps c.args.root c.requires.root) (All-nil P))
+    let pairs = c.args.pairs.now in
+    let root = c.args.root in
+    let p = c.index-pairs-root.result in
+    let at = (get_or pairs root p).at in
+    root_alone (owned_pairs_view pairs) root at (owned_pair_view p) c.push.new.self.items c.requires.root
+    (pair_there pairs root p c.requires.below c.index-pairs-root.is) (ap (λ (q : OwnedPair). pair_address_of_array q.at) c.index-pairs-root.is)
+    (c.in_ok-push.ensures.items ∙ ap (λ z. z ++ (record { first = root; at = at; entry = None }) ∷ []) c.new-all.ensures.items)

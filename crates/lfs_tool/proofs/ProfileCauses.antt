@@ -1,0 +1,157 @@
+-- What of an image isn't in the writing profile, from its pairs without attributes.
+use Rattle.std.proofs.Common.{ℕ, zero, suc, ◌≡◌, ◌+◌, ◌<◌, ◌≤◌, ◌∙◌, ◌&&◌, ◌⊎◌, inl, inr, Bool, false, cond, List, [], ◌∷◌, length, map, take, drop, Some, refl, sym, ap, ap₂, subst, arith}
+use Rattle.std.specs.Prelude.{All, slice_get, slice_index_or}
+use Rattle.std.proofs.lemmas.Bool.{cases_lt}
+use Rattle.std.proofs.lemmas.List.{drop-map, drop_all, get_or-map, length-map, take-append-drop}
+use Rattle.std.proofs.lemmas.List.Elements.{All-append, All-cons, All-nil, All-weaker}
+use Rattle.std.proofs.lemmas.Option.{get_or_from_slice_get, same_Some, slice_get_within}
+use Rattle.lfs_model.specs.Disk.{Disk, inline_limit}
+use Rattle.lfs_model.specs.Profile.{AreNoEmptyPairsAfterHardTails, IsWritableImage}
+use Rattle.lfs_model.specs.Slots.{Slot}
+use Rattle.lfs_model.specs.Thread.{Pair, has_no_slot_or_only_superblock, has_superblock_in_first_nonempty_pair, is_hard_tail, may_superblock_chain_continue_after_pair, pair_count_before_root, pairs_from_root_directory_on, starts_with_superblock, starts_with_superblock_or_default_without_slots}
+use Rattle.lfs_model.specs.View.{HasSuperblockWithInlineBytesIfAnySlot, IsAcceptedImage, IsFileOrDirectoryEntry, first_pair_slots}
+use Rattle.lfs_model.proofs.Superblocks.{entry_is_other}
+use Rattle.lfs_lookup.specs.Profile.{HasSuperblockStructOf24Bytes}
+use Rattle.lfs_tool.specs.OutsideProfile.{HasInlineBytesWithinLimitIfEntry, HasWrittenLimitsIfSuperblock, IsEntrySlotWithLongInlineBytes, IsSuperblockSlotWithOtherLimits, IsTrueOfAllSlots, IsTrueOfSlotInThread}
+use Rattle.lfs_tool.specs.OwnedSlots.{pair_without_attributes, pairs_without_attributes, slot_without_attributes}
+use Rattle.lfs_tool.specs.WritingProfiles.{ArePairsAndEntriesSmallEnough, IsEmptyPairAfterHardTail, IsEntryWithLongInlineBytes, IsSuperblockWithOtherLimits}
+
+-- ---- superblocks have 24 bytes
+
+shaped_entry : (s : Slot) → IsFileOrDirectoryEntry s → HasSuperblockStructOf24Bytes s
+shaped_entry s e k = let other = entry_is_other s e in absurd (cc)
+
+shaped_slots : (bytes : List ℕ) (slots : List Slot) → length bytes ≡ 24 → HasSuperblockWithInlineBytesIfAnySlot bytes slots → All HasSuperblockStructOf24Bytes slots
+shaped_slots bytes [] n h = All-nil HasSuperblockStructOf24Bytes
+shaped_slots bytes (s ∷ slots) n h = All-cons HasSuperblockStructOf24Bytes s slots (λ k. (bytes, (h.1, n))) (All-weaker IsFileOrDirectoryEntry HasSuperblockStructOf24Bytes shaped_entry slots h.2)
+
+shaped_image : (disk : Disk) (ps : List Pair) → IsAcceptedImage disk ps → IsTrueOfAllSlots HasSuperblockStructOf24Bytes ps
+shaped_image disk ps ok =
+    let n = pair_count_before_root ps + 1 in
+    let shaped : Pair → Type 0 = λ p. All HasSuperblockStructOf24Bytes p.content.slots in
+    let (bytes, (is, chain)) = ok.superblock in
+    subst (All shaped) (take-append-drop n ps)
+    (All-append shaped (take n ps) (drop n ps)
+    (All-weaker (λ (p : Pair). HasSuperblockWithInlineBytesIfAnySlot bytes p.content.slots) shaped (λ p. shaped_slots bytes p.content.slots is.len) (take n ps) chain)
+    (All-weaker (λ (p : Pair). All IsFileOrDirectoryEntry p.content.slots) shaped (λ p. All-weaker IsFileOrDirectoryEntry HasSuperblockStructOf24Bytes shaped_entry p.content.slots) (drop n ps) ok.slots))
+
+-- ---- by number
+
+holds_there : {X : Type 0} (P : X → Type 0) (xs : List X) (i : ℕ) (x : X) → All P xs → slice_get xs i ≡ Some x → P x
+holds_there P xs i x h e = subst P (get_or_from_slice_get xs i x x e) (h i x (slice_get_within xs i x e))
+
+before_map : {X Y : Type 0} (f : X → Y) (xs : List X) (i : ℕ) (y : Y) → slice_get (map f xs) i ≡ Some y → (x : X) × ((slice_get xs i ≡ Some x) × (f x ≡ y))
+before_map f [] i y e = absurd (cc)
+before_map f (x ∷ xs) zero y e = (x, (refl, same_Some (f x) y e))
+before_map f (x ∷ xs) (suc i) y e = before_map f xs i y e
+
+-- P holds of what a map makes of each
+of_each : {X Y : Type 0} (f : X → Y) (P : Y → Type 0) (xs : List X) → All P (map f xs) → All (λ x. P (f x)) xs
+of_each f P xs h k d l =
+    let n = length-map xs f in
+    subst P (get_or-map f xs k d (f d) l) (h k (f d) (omega (arith, n, l)))
+
+-- ---- places
+
+-- a slot without attributes is one of the slots with them
+with_attributes : (P : Slot → Type 0) (ps : List Pair) (at : ℕ × ℕ) (id : ℕ) → IsTrueOfSlotInThread P (pairs_without_attributes ps) at id → IsTrueOfSlotInThread (λ s. P (slot_without_attributes s)) ps at id
+with_attributes P ps at id (s, (is, holds)) =
+    let (p, (there, same)) = before_map pair_without_attributes ps is.index is.pair is.there in
+    let slot = subst (λ (q : Pair). slice_get q.content.slots id ≡ Some s) (sym same) is.slot in
+    let (whole, (at_id, bare)) = before_map slot_without_attributes p.content.slots id s slot in
+    (whole, (record { index = is.index; pair = p; there = there; at_is = ap (λ (q : Pair). q.at) same ∙ is.at_is; slot = at_id }, subst P (sym bare) holds))
+
+pub other_limits : (disk : Disk) (ps : List Pair) (at : ℕ × ℕ) (id : ℕ) → IsAcceptedImage disk ps → IsTrueOfSlotInThread IsSuperblockSlotWithOtherLimits (pairs_without_attributes ps) at id → IsSuperblockWithOtherLimits ps at id
+other_limits disk ps at id ok found =
+    let (s, (is, (kind, other))) = with_attributes IsSuperblockSlotWithOtherLimits ps at id found in
+    let shaped = holds_there HasSuperblockStructOf24Bytes is.pair.content.slots id s (holds_there (λ (p : Pair). All HasSuperblockStructOf24Bytes p.content.slots) ps is.index is.pair (shaped_image disk ps ok) is.there) is.slot in
+    (s, (is, kind, other shaped))
+
+pub long_inline : (disk : Disk) (ps : List Pair) (limit : ℕ) (at : ℕ × ℕ) (id : ℕ) → limit ≡ inline_limit disk.block_size → IsTrueOfSlotInThread (IsEntrySlotWithLongInlineBytes limit) (pairs_without_attributes ps) at id → IsEntryWithLongInlineBytes disk ps at id
+long_inline disk ps limit at id e found =
+    let (s, (is, (kind, long))) = with_attributes (IsEntrySlotWithLongInlineBytes (inline_limit disk.block_size)) ps at id (subst (λ n. IsTrueOfSlotInThread (IsEntrySlotWithLongInlineBytes n) (pairs_without_attributes ps) at id) e found) in
+    (s, (is, kind, long))
+
+-- ---- the root's number
+
+starts_alike : (slots : List Slot) (a b : Bool) → a ≡ b → starts_with_superblock_or_default_without_slots (map slot_without_attributes slots) a ≡ starts_with_superblock_or_default_without_slots slots b
+starts_alike [] a b e = e
+starts_alike (s ∷ slots) a b e = refl
+
+meets_alike : (ps : List Pair) → has_superblock_in_first_nonempty_pair (pairs_without_attributes ps) ≡ has_superblock_in_first_nonempty_pair ps
+meets_alike [] = refl
+meets_alike (p ∷ ps) =
+    starts_alike p.content.slots (is_hard_tail p.content.tail && has_superblock_in_first_nonempty_pair (pairs_without_attributes ps)) (is_hard_tail p.content.tail && has_superblock_in_first_nonempty_pair ps)
+    (ap (λ b. is_hard_tail p.content.tail && b) (meets_alike ps))
+
+alone_alike : (slots : List Slot) → has_no_slot_or_only_superblock (map slot_without_attributes slots) ≡ has_no_slot_or_only_superblock slots
+alone_alike [] = refl
+alone_alike (s ∷ []) = refl
+alone_alike (s ∷ t ∷ slots) = refl
+
+root_alike : (ps : List Pair) → pair_count_before_root (pairs_without_attributes ps) ≡ pair_count_before_root ps
+root_alike [] = refl
+root_alike (p ∷ ps) =
+    let goes : may_superblock_chain_continue_after_pair (pair_without_attributes p) ≡ may_superblock_chain_continue_after_pair p = ap (λ b. b && is_hard_tail p.content.tail) (alone_alike p.content.slots) in
+    ap₂ (λ b n. cond b (1 + n) 0) (ap₂ (λ a b. a && b) (meets_alike ps) goes) (root_alike ps)
+
+pub root_number : (ps qs : List Pair) → qs ≡ pairs_without_attributes ps → pair_count_before_root ps ≡ pair_count_before_root qs
+root_number ps qs e = sym (ap pair_count_before_root e ∙ root_alike ps)
+
+-- the root directory's first pair is one of them
+pub root_below : (disk : Disk) (ps : List Pair) → IsAcceptedImage disk ps → pair_count_before_root ps < length ps
+root_below disk ps ok = go (cases_lt (pair_count_before_root ps) (length ps))
+  where
+    go : (pair_count_before_root ps < length ps) ⊎ (length ps ≤ pair_count_before_root ps) → pair_count_before_root ps < length ps
+    go (inl l) = l
+    go (inr l) = let starts = sym (ap (λ qs. starts_with_superblock (first_pair_slots qs)) (drop_all (pair_count_before_root ps) ps l)) ∙ ok.root in absurd (cc)
+
+-- ---- pairs without slots
+
+none_left : (slots : List Slot) → map slot_without_attributes slots ≡ [] → slots ≡ []
+none_left [] e = refl
+none_left (s ∷ slots) e = absurd (cc)
+
+pub empty_pair : (ps : List Pair) (at : ℕ × ℕ) → IsEmptyPairAfterHardTail (pairs_without_attributes ps) at → IsEmptyPairAfterHardTail ps at
+empty_pair ps at found =
+    let (before, (first, same)) = before_map pair_without_attributes ps found.index found.before found.first in
+    let (pair, (next, alike)) = before_map pair_without_attributes ps (found.index + 1) found.pair found.next in
+    let root = found.root in
+    let number = root_alike ps in
+    record {
+      index = found.index;
+      before = before;
+      pair = pair;
+      first = first;
+      next = next;
+      root = omega (arith, root, number);
+      hard = ap (λ (q : Pair). is_hard_tail q.content.tail) same ∙ found.hard;
+      at_is = ap (λ (q : Pair). q.at) alike ∙ found.at_is;
+      empty = none_left pair.content.slots (ap (λ (q : Pair). q.content.slots) alike ∙ found.empty);
+    }
+
+filled : (after : Bool) (ps : List Pair) → AreNoEmptyPairsAfterHardTails after (pairs_without_attributes ps) → AreNoEmptyPairsAfterHardTails after ps
+filled after [] h = tt
+filled after (p ∷ ps) h = ((λ e none. h.0 e (ap (map slot_without_attributes) none)), filled (is_hard_tail p.content.tail) ps h.1)
+
+filled_from_root : (ps : List Pair) → AreNoEmptyPairsAfterHardTails false (pairs_from_root_directory_on (pairs_without_attributes ps)) → AreNoEmptyPairsAfterHardTails false (pairs_from_root_directory_on ps)
+filled_from_root ps h =
+    filled false (drop (pair_count_before_root ps) ps)
+    (subst (AreNoEmptyPairsAfterHardTails false) (ap (λ n. drop n (pairs_without_attributes ps)) (root_alike ps) ∙ drop-map pair_without_attributes (pair_count_before_root ps) ps) h)
+
+-- ---- nothing else
+
+pub too_large : (disk : Disk) (ps : List Pair) (limit : ℕ) → limit ≡ inline_limit disk.block_size → ¬ IsWritableImage disk ps → IsTrueOfAllSlots HasWrittenLimitsIfSuperblock (pairs_without_attributes ps)
+    → IsTrueOfAllSlots (HasInlineBytesWithinLimitIfEntry limit) (pairs_without_attributes ps) → AreNoEmptyPairsAfterHardTails false (pairs_from_root_directory_on (pairs_without_attributes ps)) → ¬ ArePairsAndEntriesSmallEnough disk ps
+too_large disk ps limit e other limits inline no_empty small =
+    let limits_each = of_each pair_without_attributes (λ (p : Pair). All HasWrittenLimitsIfSuperblock p.content.slots) ps limits in
+    let inline_each = of_each pair_without_attributes (λ (p : Pair). All (HasInlineBytesWithinLimitIfEntry (inline_limit disk.block_size)) p.content.slots) ps
+    (subst (λ n. IsTrueOfAllSlots (HasInlineBytesWithinLimitIfEntry n) (pairs_without_attributes ps)) e inline) in
+    other (record {
+      pairs = small.pairs;
+      slots = λ i p l j s m. (
+        of_each slot_without_attributes HasWrittenLimitsIfSuperblock (slice_index_or ps i p).content.slots (limits_each i p l) j s m,
+        λ k. record { charge = small.entries i p l j s m k; inline = of_each slot_without_attributes (HasInlineBytesWithinLimitIfEntry (inline_limit disk.block_size)) (slice_index_or ps i p).content.slots (inline_each i p l) j s m k },
+      );
+      no_empty_pair = filled_from_root ps no_empty;
+    })

@@ -1,0 +1,42 @@
+-- What of an accepted image isn't in the writing profile.
+use Rattle.std.specs.Prelude.{ℕ, ◌≡◌, ◌+◌, ◌≤◌, true, false, All, List, [], slice_get, Some}
+use Rattle.lfs_model.specs.Disk.{Disk, charged_entry_size_limit_in_pair, inline_limit}
+use Rattle.lfs_model.specs.Profile.{HasInlineBytesWithinLimit, HasSuperblockLimitsThisLibraryWrites, IsWritableImage}
+use Rattle.lfs_model.specs.Slots.{IsContentFittingPair, Slot, entry_charge_with_longest_inline_contents, is_superblock, pair_address_of_array}
+use Rattle.lfs_model.specs.Thread.{Pair, is_hard_tail, pair_count_before_root}
+use Rattle.lfs_tool.specs.SlotsInThread.{IsSlotOfPairInThread}
+use Rattle.lfs_tool.specs.declared.verdict.WritingProfile.{WritingProfile}
+use Rattle.lfs_tool.specs.declared.verdict.WritingProfile.TheVariants as profile
+
+-- a superblock has other limits than those that are written
+abbrev pub IsSuperblockWithOtherLimits : List Pair → ℕ × ℕ → ℕ → Type 0
+IsSuperblockWithOtherLimits ps at id = (s : Slot) × (IsSlotOfPairInThread ps at id s × (is_superblock s ≡ true) × ¬ HasSuperblockLimitsThisLibraryWrites s)
+
+-- an entry has more bytes inline than may be
+abbrev pub IsEntryWithLongInlineBytes : Disk → List Pair → ℕ × ℕ → ℕ → Type 0
+IsEntryWithLongInlineBytes disk ps at id = (s : Slot) × (IsSlotOfPairInThread ps at id s × (is_superblock s ≡ false) × ¬ HasInlineBytesWithinLimit (inline_limit disk.block_size) s.struct)
+
+-- a pair behind the root directory's first one has no slot, and the pair before it has a hard tail
+pub record IsEmptyPairAfterHardTail (ps : List Pair) (at : ℕ × ℕ) : Type 0 where
+  pub index : ℕ
+  pub before : Pair
+  pub pair : Pair
+  pub first : slice_get ps index ≡ Some before
+  pub next : slice_get ps (index + 1) ≡ Some pair
+  pub root : pair_count_before_root ps ≤ index
+  pub hard : is_hard_tail before.content.tail ≡ true
+  pub at_is : pair.at ≡ at
+  pub empty : pair.content.slots ≡ []
+
+-- each pair holds what it has, and each entry takes at most half of a pair
+pub record ArePairsAndEntriesSmallEnough (disk : Disk) (ps : List Pair) : Type 0 where
+  pub pairs : All (λ p. IsContentFittingPair disk.block_size disk.page p.content) ps
+  pub entries : All (λ p. All (λ s. is_superblock s ≡ false → entry_charge_with_longest_inline_contents disk.block_size s.name s.attributes ≤ charged_entry_size_limit_in_pair disk.block_size disk.page) p.content.slots) ps
+
+-- the image is in the profile, or that of it isn't
+abbrev pub IsWritingProfileOfImage : Disk → List Pair → WritingProfile → Type 0
+IsWritingProfileOfImage disk ps profile.Within = IsWritableImage disk ps
+IsWritingProfileOfImage disk ps (profile.OtherLimits pair slot) = IsSuperblockWithOtherLimits ps (pair_address_of_array pair) slot
+IsWritingProfileOfImage disk ps (profile.LongInline pair slot) = IsEntryWithLongInlineBytes disk ps (pair_address_of_array pair) slot
+IsWritingProfileOfImage disk ps (profile.EmptyPair pair) = IsEmptyPairAfterHardTail ps (pair_address_of_array pair)
+IsWritingProfileOfImage disk ps profile.TooLarge = ¬ ArePairsAndEntriesSmallEnough disk ps

@@ -1,0 +1,259 @@
+// Where the entries of a directory lead.
+
+ghost use Rattle.std.specs.Prelude.{◌≡◌, ◌≢◌, ◌⊎◌, All, IfOk, IfSome, IsSome, None, Some, false};
+ghost use Rattle.std.specs.Option.{option_map};
+ghost use Rattle.lfs_model.specs.Disk.{Disk};
+ghost use Rattle.lfs_model.specs.Names.{same_name};
+ghost use Rattle.lfs_model.specs.Shown.{entries_by_directory_in_thread};
+ghost use Rattle.lfs_model.specs.Slots.{pair_address_of_array};
+ghost use Rattle.lfs_model.specs.Thread.{pair_count_before_root};
+ghost use Rattle.lfs_model.specs.Tree.{branch_address_of_struct, entry_of_name};
+ghost use Rattle.lfs_tool.specs.BrokenRules.{BreaksRuleOfFinding};
+ghost use Rattle.lfs_tool.specs.EntryPlaces.{ArePlacesOfEntries, IsAddressOfReachedDirectory, entries_from_pair, slot_at_place};
+ghost use Rattle.lfs_tool.specs.OwnedSlotView.{owned_pairs_view, owned_slot_view};
+ghost use Rattle.lfs_tool.specs.ReachedDirectories.{AreBranchesAmongDirectories, AreMoreDirectories, IsAmongDirectories, IsBranchAmongDirectories, IsReachedDirectory, LeadsEntryTo, LeadsEntryToSameDirectory};
+
+use crate::entry_places::{EntryPlace, named_slot_at_place, slot_at_place};
+use crate::findings::{Finding, NamedSlot};
+use crate::owned_parts::{OwnedPair, OwnedSlot};
+use crate::reached_directories::{
+    DirectoryEntry, ReachedDirectories, ReachedDirectory, first_pair_of_directory,
+    push_reached_directory, reached_directory_at,
+};
+use lfs_lookup::OwnedStruct;
+use std::alloc::{AllocError, Global};
+
+// Returns the address that a directory's slot names.
+fn branch_of_slot(slot: &OwnedSlot) -> Option<[u32; 2]>
+    ensures { option_map pair_address_of_array result ≡ branch_address_of_struct (owned_slot_view slot.now).struct }
+{
+    match slot.structure {
+        OwnedStruct::Branch(to) => Some(to),
+        _ => None,
+    }
+}
+
+// Returns whether two names have the same bytes.
+fn are_names_equal(name: &[u8], other: &[u8]) -> bool
+    ensures { result ≡ same_name name.now other.now }
+{
+    name == other
+}
+
+// Returns the place of the first of a directory's entries that has the name, by the places of all.
+fn first_place_of_name(
+    pairs: &[OwnedPair],
+    places: &[EntryPlace],
+    parent: [u32; 2],
+    name: &[u8],
+) -> Option<EntryPlace>
+    requires { ArePlacesOfEntries (owned_pairs_view pairs.now) places.now (entries_by_directory_in_thread (owned_pairs_view pairs.now) (pair_address_of_array parent)) }
+    ensures first { IfSome result (λ place. IsSome (slot_at_place (owned_pairs_view pairs.now) place) × (entry_of_name name.now (entries_by_directory_in_thread (owned_pairs_view pairs.now) (pair_address_of_array parent)) ≡ slot_at_place (owned_pairs_view pairs.now) place)) }
+    ensures none { result ≡ None → entry_of_name name.now (entries_by_directory_in_thread (owned_pairs_view pairs.now) (pair_address_of_array parent)) ≡ None }
+{
+    for place in places {
+        let slot = slot_at_place(pairs, *place);
+        if are_names_equal(name, &slot.name) {
+            return Some(*place);
+        }
+    }
+    None
+}
+
+// Returns whether two addresses are the same, in this order.
+fn are_addresses_equal(at: [u32; 2], other: [u32; 2]) -> bool
+    ensures { result ≡ false → pair_address_of_array at ≢ pair_address_of_array other }
+{
+    at[0] == other[0] && at[1] == other[1]
+}
+
+// Returns whether two entries are in directories of the same address, and have the same name.
+fn are_entries_of_same_name(
+    pairs: &[OwnedPair],
+    entry: DirectoryEntry,
+    other: DirectoryEntry,
+) -> bool
+    requires entry { IsSome (slot_at_place (owned_pairs_view pairs.now) entry.place) }
+    requires other { IsSome (slot_at_place (owned_pairs_view pairs.now) other.place) }
+    ensures { result ≡ false → (pair_address_of_array entry.parent ≢ pair_address_of_array other.parent) ⊎ (option_map (λ s. s.name) (slot_at_place (owned_pairs_view pairs.now) entry.place) ≢ option_map (λ s. s.name) (slot_at_place (owned_pairs_view pairs.now) other.place)) }
+{
+    if !are_addresses_equal(entry.parent, other.parent) {
+        return false;
+    }
+    let slot = slot_at_place(pairs, entry.place);
+    let before = slot_at_place(pairs, other.place);
+    are_names_equal(&slot.name, &before.name)
+}
+
+// Returns whether two places are of the same slot.
+fn is_same_slot(place: &NamedSlot, other: &NamedSlot) -> bool
+    ensures { result ≡ false → pair_address_of_array place.now.pair ≡ pair_address_of_array other.now.pair → place.now.slot ≢ other.now.slot }
+{
+    are_addresses_equal(place.pair, other.pair) && place.slot == other.slot
+}
+
+// Returns the finding for an entry that leads to a directory that was reached before.
+fn finding_on_second_entry(
+    alloc: Global,
+    pairs: &[OwnedPair],
+    entry: DirectoryEntry,
+    reached: ReachedDirectory,
+) -> Result<Option<Finding>, AllocError>
+    requires reached { IsReachedDirectory (owned_pairs_view pairs.now) reached }
+    requires leads { LeadsEntryToSameDirectory (owned_pairs_view pairs.now) entry (pair_address_of_array reached.at) }
+    ensures { IfOk result (λ found. IfSome found (λ f. (disk : Disk) → BreaksRuleOfFinding disk (owned_pairs_view pairs.now) f)) }
+{
+    match reached.entry {
+        None => {
+            let place = named_slot_at_place(alloc, pairs, entry.place)?;
+            Ok(Some(Finding::LeadsToRoot(place)))
+        }
+        Some(before) => {
+            if are_entries_of_same_name(pairs, entry, before) {
+                return Ok(None);
+            }
+            let place = named_slot_at_place(alloc, pairs, entry.place)?;
+            let other = named_slot_at_place(alloc, pairs, before.place)?;
+            if is_same_slot(&place, &other) {
+                return Ok(None);
+            }
+            Ok(Some(Finding::LeadsToSameDirectory { place, other }))
+        }
+    }
+}
+
+// Returns the finding for an entry that leads to the directory of a first pair and an address, if it was
+// reached before by another entry. Adds it if it wasn't reached before.
+fn finding_on_directory_of_entry(
+    alloc: Global,
+    reached: &mut ReachedDirectories,
+    pairs: &[OwnedPair],
+    directory: ReachedDirectory,
+    entry: DirectoryEntry,
+) -> Result<Option<Finding>, AllocError>
+    requires entry { directory.entry ≡ Some entry }
+    requires leads { LeadsEntryTo (owned_pairs_view pairs.now) entry (pair_address_of_array directory.at) }
+    requires first { entries_by_directory_in_thread (owned_pairs_view pairs.now) (pair_address_of_array directory.at) ≡ entries_from_pair (owned_pairs_view pairs.now) directory.first }
+    requires before { All (IsReachedDirectory (owned_pairs_view pairs.now)) reached.old.all.items }
+    ensures found { IfOk result (λ found. IfSome found (λ f. (disk : Disk) → BreaksRuleOfFinding disk (owned_pairs_view pairs.now) f)) }
+    ensures more { IfOk result (λ found. found ≡ None → AreMoreDirectories (owned_pairs_view pairs.now) (λ ds. IsAmongDirectories ds (pair_address_of_array directory.at)) reached.old.all.items reached.new.all.items) }
+{
+    match reached_directory_at(reached, directory.first, directory.at) {
+        Some(before) => finding_on_second_entry(alloc, pairs, entry, before),
+        None => {
+            push_reached_directory(reached, directory)?;
+            Ok(None)
+        }
+    }
+}
+
+// Returns the finding for an entry that leads to an address, or adds the directory that is there.
+fn finding_on_branch(
+    alloc: Global,
+    reached: &mut ReachedDirectories,
+    pairs: &[OwnedPair],
+    root: usize,
+    entry: DirectoryEntry,
+    to: [u32; 2],
+) -> Result<Option<Finding>, AllocError>
+    requires root { root ≡ pair_count_before_root (owned_pairs_view pairs.now) }
+    requires entry { LeadsEntryTo (owned_pairs_view pairs.now) entry (pair_address_of_array to) }
+    requires before { All (IsReachedDirectory (owned_pairs_view pairs.now)) reached.old.all.items }
+    ensures found { IfOk result (λ found. IfSome found (λ f. (disk : Disk) → BreaksRuleOfFinding disk (owned_pairs_view pairs.now) f)) }
+    ensures more { IfOk result (λ found. found ≡ None → AreMoreDirectories (owned_pairs_view pairs.now) (λ ds. IsAmongDirectories ds (pair_address_of_array to)) reached.old.all.items reached.new.all.items) }
+{
+    match first_pair_of_directory(pairs, root, to) {
+        Some(first) => {
+            let directory = ReachedDirectory {
+                first,
+                at: to,
+                entry: Some(entry),
+            };
+            finding_on_directory_of_entry(alloc, reached, pairs, directory, entry)
+        }
+        None => {
+            let place = named_slot_at_place(alloc, pairs, entry.place)?;
+            Ok(Some(Finding::NoDirectory { place, to }))
+        }
+    }
+}
+
+// Returns the place of the first entry that has a slot's name, if the slot is a directory's.
+fn place_of_branch(
+    pairs: &[OwnedPair],
+    places: &[EntryPlace],
+    parent: [u32; 2],
+    slot: &OwnedSlot,
+) -> Option<EntryPlace>
+    requires { ArePlacesOfEntries (owned_pairs_view pairs.now) places.now (entries_by_directory_in_thread (owned_pairs_view pairs.now) (pair_address_of_array parent)) }
+    ensures first { IfSome result (λ place. IsSome (slot_at_place (owned_pairs_view pairs.now) place) × (entry_of_name (owned_slot_view slot.now).name (entries_by_directory_in_thread (owned_pairs_view pairs.now) (pair_address_of_array parent)) ≡ slot_at_place (owned_pairs_view pairs.now) place)) }
+    ensures none { result ≡ None → (branch_address_of_struct (owned_slot_view slot.now).struct ≡ None) ⊎ (entry_of_name (owned_slot_view slot.now).name (entries_by_directory_in_thread (owned_pairs_view pairs.now) (pair_address_of_array parent)) ≡ None) }
+{
+    match branch_of_slot(slot) {
+        Some(_) => first_place_of_name(pairs, places, parent, &slot.name),
+        None => None,
+    }
+}
+
+// Returns the finding for where the name of a slot leads, or adds the directory that is there. The
+// slot and the places are those of the directory's entries.
+fn finding_on_slot(
+    alloc: Global,
+    reached: &mut ReachedDirectories,
+    pairs: &[OwnedPair],
+    root: usize,
+    parent: [u32; 2],
+    places: &[EntryPlace],
+    slot: &OwnedSlot,
+) -> Result<Option<Finding>, AllocError>
+    requires root { root ≡ pair_count_before_root (owned_pairs_view pairs.now) }
+    requires parent { IsAddressOfReachedDirectory (owned_pairs_view pairs.now) (pair_address_of_array parent) }
+    requires places { ArePlacesOfEntries (owned_pairs_view pairs.now) places.now (entries_by_directory_in_thread (owned_pairs_view pairs.now) (pair_address_of_array parent)) }
+    requires before { All (IsReachedDirectory (owned_pairs_view pairs.now)) reached.old.all.items }
+    ensures found { IfOk result (λ found. IfSome found (λ f. (disk : Disk) → BreaksRuleOfFinding disk (owned_pairs_view pairs.now) f)) }
+    ensures more { IfOk result (λ found. found ≡ None → AreMoreDirectories (owned_pairs_view pairs.now) (λ ds. IsBranchAmongDirectories ds (entries_by_directory_in_thread (owned_pairs_view pairs.now) (pair_address_of_array parent)) (owned_slot_view slot.now)) reached.old.all.items reached.new.all.items) }
+{
+    let Some(place) = place_of_branch(pairs, places, parent, slot) else {
+        return Ok(None);
+    };
+    match branch_of_slot(slot_at_place(pairs, place)) {
+        Some(to) => {
+            finding_on_branch(
+                alloc,
+                reached,
+                pairs,
+                root,
+                DirectoryEntry { parent, place },
+                to,
+            )
+        }
+        None => Ok(None),
+    }
+}
+
+// Returns the finding for where the entries of a directory lead, or adds the directories that are
+// there. The places are those of all its entries.
+pub(crate) fn finding_on_branches(
+    alloc: Global,
+    reached: &mut ReachedDirectories,
+    pairs: &[OwnedPair],
+    root: usize,
+    parent: [u32; 2],
+    places: &[EntryPlace],
+) -> Result<Option<Finding>, AllocError>
+    requires root { root ≡ pair_count_before_root (owned_pairs_view pairs.now) }
+    requires parent { IsAddressOfReachedDirectory (owned_pairs_view pairs.now) (pair_address_of_array parent) }
+    requires places { ArePlacesOfEntries (owned_pairs_view pairs.now) places.now (entries_by_directory_in_thread (owned_pairs_view pairs.now) (pair_address_of_array parent)) }
+    requires before { All (IsReachedDirectory (owned_pairs_view pairs.now)) reached.old.all.items }
+    ensures found { IfOk result (λ found. IfSome found (λ f. (disk : Disk) → BreaksRuleOfFinding disk (owned_pairs_view pairs.now) f)) }
+    ensures more { IfOk result (λ found. found ≡ None → AreMoreDirectories (owned_pairs_view pairs.now) (λ ds. AreBranchesAmongDirectories ds (entries_by_directory_in_thread (owned_pairs_view pairs.now) (pair_address_of_array parent))) reached.old.all.items reached.new.all.items) }
+{
+    for place in places {
+        let slot = slot_at_place(pairs, *place);
+        let found = finding_on_slot(alloc, reached, pairs, root, parent, places, slot)?;
+        if found.is_some() {
+            return Ok(found);
+        }
+    }
+    Ok(None)
+}

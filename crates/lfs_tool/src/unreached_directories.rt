@@ -1,0 +1,58 @@
+// The directories to which no path leads.
+
+ghost use Rattle.std.specs.Prelude.{◌≡◌, IfSome, List, false, slice_get, Some};
+ghost use Rattle.lfs_model.specs.Slots.{pair_address_of_array, same_pair};
+ghost use Rattle.lfs_model.specs.Thread.{gstate_of_pairs, pair_count_before_root};
+ghost use Rattle.lfs_tag.specs.FieldsView.{move_view};
+ghost use Rattle.lfs_tool.specs.DirectoryWalks.{IsTrueFindingOfPairs};
+ghost use Rattle.lfs_tool.specs.OwnedSlotView.{owned_pairs_view};
+ghost use Rattle.lfs_tool.specs.ReachedDirectories.{AreAllReachedDirectories, IsAmongDirectories};
+
+use crate::findings::Finding;
+use crate::owned_parts::OwnedPair;
+use crate::reached_directories::{ReachedDirectories, number_of_directory};
+use lfs_pair::is_same_pair;
+use lfs_tag::{MoveState, has_hard_tail};
+
+// Returns whether the directory at an address, which begins with the pair of that number, is one of
+// these. Only where no number is known are all of them looked at.
+fn is_directory_reached(reached: &ReachedDirectories, first: usize, at: [u32; 2]) -> bool
+    ensures { result ≡ false → ¬ IsAmongDirectories reached.now.all.items (pair_address_of_array at) }
+{
+    if number_of_directory(reached, first).is_some() {
+        return true;
+    }
+    for directory in &reached.all {
+        if is_same_pair(directory.at, at) {
+            return true;
+        }
+    }
+    false
+}
+
+// Returns the first directory to which no path leads, unless the sync bit is set. So many pairs are
+// before the root directory.
+pub(crate) fn finding_on_unreached_directories(
+    state: &MoveState,
+    pairs: &[OwnedPair],
+    root: usize,
+    reached: &ReachedDirectories,
+) -> Option<Finding>
+    requires state { move_view state.now ≡ gstate_of_pairs (owned_pairs_view pairs.now) }
+    requires root { root ≡ pair_count_before_root (owned_pairs_view pairs.now) }
+    requires all { AreAllReachedDirectories (owned_pairs_view pairs.now) reached.now.all.items }
+    ensures { IfSome result (IsTrueFindingOfPairs (owned_pairs_view pairs.now)) }
+{
+    if state.sync {
+        return None;
+    }
+    let mut begins = true;
+    for index in root..pairs.len() {
+        let pair = &pairs[index];
+        if begins && !is_directory_reached(reached, index, pair.at) {
+            return Some(Finding::NotReached { pair: pair.at });
+        }
+        begins = !has_hard_tail(pair.tail);
+    }
+    None
+}

@@ -1,6 +1,9 @@
 // Images that are checked, and the lines of each.
 
-use crate::images::{BELOW, ENTRIES};
+use crate::images::{
+    BELOW, EMPTY, ENTRIES, FIELDS, FIRST, HARD_TAIL, LARGER, LONGER_FIRST, MOVE_STATE, PAIR, SAME,
+    SHORT_NAMES, SHORTER, SOFT_TAIL, TURNED,
+};
 use crate::texts::check_text;
 use lfs_fixtures::{BlockFilling, FixtureEntries, image_with_second_commit};
 use lfs_tool::WatchedStream;
@@ -8,26 +11,11 @@ use std::alloc::{AllocError, Global};
 use std::test::Fail;
 
 // Addresses of pairs.
-const FIRST: &[u8] = &[0, 0, 0, 0, 1, 0, 0, 0];
-
-const PAIR: &[u8] = &[2, 0, 0, 0, 3, 0, 0, 0];
-
-const SAME: &[u8] = &[2, 0, 0, 0, 2, 0, 0, 0];
+const NEXT: &[u8] = &[4, 0, 0, 0, 5, 0, 0, 0];
 
 const FAR: &[u8] = &[2, 0, 0, 0, 16, 0, 0, 0];
 
-const SOFT_TAIL: u32 = 0x600f_fc08;
-
-const HARD_TAIL: u32 = 0x601f_fc08;
-
-const MOVE_STATE: u32 = 0x7fff_fc0c;
-
-// Superblocks: with a block more, of blocks of 8,192 bytes, of version 2.1, with names of at most 32
-// bytes, and too short.
-const LARGER: &[u8] = &[
-    0, 0, 2, 0, 0, 16, 0, 0, 17, 0, 0, 0, 255, 0, 0, 0, 255, 255, 255, 127, 254, 3, 0, 0,
-];
-
+// Superblocks: of blocks of 8,192 bytes, and of version 2.1.
 const LONG_BLOCKS: &[u8] = &[
     0, 0, 2, 0, 0, 32, 0, 0, 16, 0, 0, 0, 255, 0, 0, 0, 255, 255, 255, 127, 254, 3, 0, 0,
 ];
@@ -36,17 +24,13 @@ const LATER_VERSION: &[u8] = &[
     1, 0, 2, 0, 0, 16, 0, 0, 16, 0, 0, 0, 255, 0, 0, 0, 255, 255, 255, 127, 254, 3, 0, 0,
 ];
 
-const SHORT_NAMES: &[u8] = &[
-    0, 0, 2, 0, 0, 16, 0, 0, 16, 0, 0, 0, 32, 0, 0, 0, 255, 255, 255, 127, 254, 3, 0, 0,
-];
-
 // An image: a second commit of its first block, its other blocks, and the lines of its check.
 type Row<'a> = (FixtureEntries<'a>, &'a [(usize, BlockFilling<'a>)], &'a str);
 
 const FRESH: &str =
     "ok\nfiles 0\ndirectories 0\nused 2 of 16 blocks\nfree 14\norder either\nrecover no\nwritable yes\n";
 
-const ACCEPTED: [Row<'static>; 6] = [
+const ACCEPTED: [Row<'static>; 11] = [
     (&[], &[], FRESH),
     (
         ENTRIES,
@@ -80,14 +64,63 @@ const ACCEPTED: [Row<'static>; 6] = [
             (SOFT_TAIL, PAIR),
             (MOVE_STATE, &[0, 0, 0, 0x80, 0, 0, 0, 0, 0, 0, 0, 0]),
         ],
-        &[(2, BlockFilling::Commit(&[]))],
+        &[(2, EMPTY)],
         "ok\nfiles 0\ndirectories 0\nused 4 of 16 blocks\nfree 12\norder either\nrecover yes\nwritable yes\n",
     ),
-    // a limit that isn't written here
+    // a limit that isn't written here, a file of 600 bytes in its slot, a pair without slots that the root
+    // goes on with, and an entry with many bytes of attributes
     (
         &[(0x2010_0018, SHORT_NAMES)],
         &[],
-        "ok\nfiles 0\ndirectories 0\nused 2 of 16 blocks\nfree 14\norder either\nrecover no\nwritable no: beyond what this library writes\n",
+        "ok\nfiles 0\ndirectories 0\nused 2 of 16 blocks\nfree 14\norder either\nrecover no\n\
+        writable no: pair 0 1, slot 0: a superblock with other limits than this library writes\n",
+    ),
+    (
+        &[(0x0010_0401, b"a"), (0x2010_0658, &[7; 600])],
+        &[],
+        "ok\nfiles 1\ndirectories 0\nused 2 of 16 blocks\nfree 14\norder either\nrecover no\n\
+        writable no: pair 0 1, slot 1: more bytes inline than an eighth of a block\n",
+    ),
+    (
+        &[(HARD_TAIL, PAIR)],
+        &[(2, EMPTY)],
+        "ok\nfiles 0\ndirectories 0\nused 4 of 16 blocks\nfree 12\norder either\nrecover no\n\
+        writable no: pair 2 3: no entry, but a directory goes on in it\n",
+    ),
+    (
+        &[
+            (0x0010_0401, b"a"),
+            (0x2010_0400, b""),
+            (0x3000_06bc, &[7; 700]),
+            (0x3010_06bc, &[7; 700]),
+        ],
+        &[],
+        "ok\nfiles 1\ndirectories 0\nused 2 of 16 blocks\nfree 14\norder either\nrecover no\n\
+        writable no: a pair or an entry is larger than this library writes\n",
+    ),
+    // other limits, and a file of 600 bytes
+    (
+        &[
+            (0x2010_0018, SHORT_NAMES),
+            (0x0010_0401, b"a"),
+            (0x2010_0658, &[7; 600]),
+        ],
+        &[],
+        "ok\nfiles 1\ndirectories 0\nused 2 of 16 blocks\nfree 14\norder either\nrecover no\n\
+        writable no: pair 0 1, slot 0: a superblock with other limits than this library writes\n",
+    ),
+    // a file of 600 bytes in its slot, behind a pair without slots
+    (
+        &[(HARD_TAIL, PAIR)],
+        &[
+            (2, BlockFilling::Commit(&[(HARD_TAIL, NEXT)])),
+            (
+                4,
+                BlockFilling::Commit(&[(0x0010_0001, b"a"), (0x2010_0258, &[7; 600])]),
+            ),
+        ],
+        "ok\nfiles 1\ndirectories 0\nused 6 of 16 blocks\nfree 10\norder either\nrecover no\n\
+        writable no: pair 4 5, slot 0: more bytes inline than an eighth of a block\n",
     ),
 ];
 
@@ -173,8 +206,8 @@ const REFUSED: [Row<'static>; 14] = [
     ),
 ];
 
-// Images with slots that are no entries, and with names in no order. Two rows have no finding.
-const UNORDERED: [Row<'static>; 11] = [
+// Images with slots that are no entries, and with names in no order.
+const BROKEN_ENTRIES: [Row<'static>; 8] = [
     // entries
     (
         &[(0x0ff0_0408, b"littlefs"), (0x2010_0400, b"")],
@@ -234,29 +267,6 @@ const UNORDERED: [Row<'static>; 11] = [
         )],
         "corrupt\npair 2 3, slot 1: \"a\" stands behind \"b\"\n",
     ),
-    // a directory beneath it that names itself
-    (
-        &[(0x0020_0401, b"d"), (0x2000_0408, PAIR), (SOFT_TAIL, PAIR)],
-        &[(
-            2,
-            BlockFilling::Commit(&[(0x0020_0001, b"b"), (0x2000_0008, PAIR)]),
-        )],
-        "corrupt\nno single rule was found\n",
-    ),
-    // where no path leads
-    (
-        &[(SOFT_TAIL, PAIR)],
-        &[(
-            2,
-            BlockFilling::Commit(&[
-                (0x0010_0001, b"b"),
-                (0x2010_0000, b""),
-                (0x0010_0401, b"a"),
-                (0x2010_0400, b""),
-            ]),
-        )],
-        "corrupt\nno single rule was found\n",
-    ),
     // without a slot that is moved away
     (
         &[
@@ -271,7 +281,106 @@ const UNORDERED: [Row<'static>; 11] = [
         &[],
         "corrupt\npair 0 1, slot 3: \"b\" stands behind \"b\"\n",
     ),
-    // one name is a beginning of the other, in both orders
+];
+
+const TWO_ORDERS: &str =
+    "corrupt\nnames in two orders: pair 0 1, slot 2: \"ab\" stands behind \"a\", and pair 0 1, slot 3: \"a\" stands behind \"ab\"\n";
+
+const NOT_REACHED: &str =
+    "corrupt\npair 2 3: no path leads to its directory, and the sync bit is clear\n";
+
+// Images with entries that lead to no directory or to one twice, with names in two orders, and with
+// directories to which no path leads.
+const BROKEN_DIRECTORIES: [Row<'static>; 13] = [
+    // an entry for a pair that isn't in the thread, for one with which the root directory goes on, and for
+    // one in front of the root directory
+    (
+        &[(0x0020_0401, b"d"), (0x2000_0408, PAIR)],
+        &[],
+        "corrupt\npair 0 1, slot 1: \"d\" leads to pair 2 3, where no directory begins\n",
+    ),
+    (
+        &[
+            (0x0020_0401, b"d"),
+            (0x2000_0408, TURNED),
+            (HARD_TAIL, PAIR),
+        ],
+        &[(2, BELOW)],
+        "corrupt\npair 0 1, slot 1: \"d\" leads to pair 3 2, where no directory begins\n",
+    ),
+    (
+        &[],
+        &[
+            (0, BlockFilling::Commit(&[(HARD_TAIL, PAIR)])),
+            (
+                2,
+                BlockFilling::Commit(&[
+                    (0x0ff0_0008, b"littlefs"),
+                    (0x2010_0018, FIELDS),
+                    (0x0020_0401, b"d"),
+                    (0x2000_0408, FIRST),
+                ]),
+            ),
+        ],
+        "corrupt\npair 2 3, slot 1: \"d\" leads to pair 0 1, where no directory begins\n",
+    ),
+    // for the root directory, for the directory of another entry, and for its own directory
+    (
+        &[(0x0020_0401, b"d"), (0x2000_0408, FIRST)],
+        &[],
+        "corrupt\npair 0 1, slot 1: \"d\" leads to the root directory\n",
+    ),
+    (
+        &[
+            (0x0020_0401, b"d"),
+            (0x2000_0408, PAIR),
+            (0x0020_0801, b"e"),
+            (0x2000_0808, TURNED),
+            (SOFT_TAIL, PAIR),
+        ],
+        &[(2, BELOW)],
+        "corrupt\npair 0 1, slot 2: \"e\" leads to the same directory as pair 0 1, slot 1: \"d\"\n",
+    ),
+    (
+        &[(0x0020_0401, b"d"), (0x2000_0408, PAIR), (SOFT_TAIL, PAIR)],
+        &[(
+            2,
+            BlockFilling::Commit(&[(0x0020_0001, b"b"), (0x2000_0008, PAIR)]),
+        )],
+        "corrupt\npair 2 3, slot 0: \"b\" leads to the same directory as pair 0 1, slot 1: \"d\"\n",
+    ),
+    // for the root directory, with a name out of order behind it, and with one beneath the entry before it
+    (
+        &[
+            (0x0020_0401, b"d"),
+            (0x2000_0408, FIRST),
+            (0x0010_0801, b"a"),
+            (0x2010_0800, b""),
+        ],
+        &[],
+        "corrupt\npair 0 1, slot 2: \"a\" stands behind \"d\"\n",
+    ),
+    (
+        &[
+            (0x0020_0401, b"d"),
+            (0x2000_0408, PAIR),
+            (0x0020_0801, b"e"),
+            (0x2000_0808, FIRST),
+            (SOFT_TAIL, PAIR),
+        ],
+        &[(
+            2,
+            BlockFilling::Commit(&[
+                (0x0010_0001, b"b"),
+                (0x2010_0000, b""),
+                (0x0010_0401, b"a"),
+                (0x2010_0400, b""),
+            ]),
+        )],
+        "corrupt\npair 0 1, slot 2: \"e\" leads to the root directory\n",
+    ),
+    // one name is a beginning of the other, in both orders: of files, of files and an entry for the root
+    // directory that no path follows, and in two directories
     (
         &[
             (0x0010_0401, b"a"),
@@ -282,16 +391,57 @@ const UNORDERED: [Row<'static>; 11] = [
             (0x2010_0c00, b""),
         ],
         &[],
-        "corrupt\nno single rule was found\n",
+        TWO_ORDERS,
+    ),
+    (
+        &[
+            (0x0010_0401, b"a"),
+            (0x2010_0400, b""),
+            (0x0010_0802, b"ab"),
+            (0x2010_0800, b""),
+            (0x0020_0c01, b"a"),
+            (0x2000_0c08, FIRST),
+        ],
+        &[],
+        TWO_ORDERS,
+    ),
+    (
+        LONGER_FIRST,
+        &[(2, SHORTER)],
+        "corrupt\nnames in two orders: pair 2 3, slot 1: \"xy\" stands behind \"x\", and pair 0 1, slot 2: \"a\" stands behind \"ab\"\n",
+    ),
+    // where no path leads: names out of order that no entry names, and a pair whose entry is moved away
+    (
+        &[(SOFT_TAIL, PAIR)],
+        &[(
+            2,
+            BlockFilling::Commit(&[
+                (0x0010_0001, b"b"),
+                (0x2010_0000, b""),
+                (0x0010_0401, b"a"),
+                (0x2010_0400, b""),
+            ]),
+        )],
+        NOT_REACHED,
+    ),
+    (
+        &[
+            (0x0020_0401, b"d"),
+            (0x2000_0408, PAIR),
+            (SOFT_TAIL, PAIR),
+            (MOVE_STATE, &[0, 4, 0xf0, 0x4f, 0, 0, 0, 0, 1, 0, 0, 0]),
+        ],
+        &[(2, EMPTY)],
+        NOT_REACHED,
     ),
 ];
 
 const BAD_LIST: &str =
     "corrupt\npair 0 1, slot 1: \"a\" has a list with a wrong size, block or pointer\n";
 
-// Images with a bad move, with lists that aren't well formed, and with blocks of two owners. The last row has
-// no finding.
-const MISUSED: [Row<'static>; 7] = [
+// Images with a bad move, with another first entry than the superblock's, with lists that aren't well
+// formed, and with blocks of two owners.
+const BROKEN_MOVES_AND_LISTS: [Row<'static>; 9] = [
     // a move of the superblock, and a slot's number without a move
     (
         &[(MOVE_STATE, &[0, 0, 0xf0, 0x4f, 0, 0, 0, 0, 1, 0, 0, 0])],
@@ -303,7 +453,36 @@ const MISUSED: [Row<'static>; 7] = [
         &[],
         "corrupt\nglobal state: its move names no entry\n",
     ),
-    // a list whose head isn't in the image, one without bytes, one on a block of a pair, and two of one block
+    // a superblock's slot that was a file's, and one that was made behind a pair without slots
+    (
+        &[],
+        &[(
+            0,
+            BlockFilling::Commit(&[
+                (0x0010_0001, b"f"),
+                (0x0ff0_0008, b"littlefs"),
+                (0x2010_0018, FIELDS),
+            ]),
+        )],
+        "corrupt\npair 0 1: its log doesn't begin with the superblock's name\n",
+    ),
+    (
+        &[],
+        &[
+            (0, BlockFilling::Commit(&[(HARD_TAIL, PAIR)])),
+            (
+                2,
+                BlockFilling::Commit(&[
+                    (0x4010_0000, b""),
+                    (0x0ff0_0008, b"littlefs"),
+                    (0x2010_0018, FIELDS),
+                ]),
+            ),
+        ],
+        "corrupt\npair 2 3: its log doesn't begin with the superblock's name\n",
+    ),
+    // a list whose head isn't in the image, one without bytes, one with a block twice, one on a block of a
+    // pair, and two of one block
     (
         &[
             (0x0010_0401, b"a"),
@@ -318,6 +497,14 @@ const MISUSED: [Row<'static>; 7] = [
             (0x2020_0408, &[2, 0, 0, 0, 0, 0, 0, 0]),
         ],
         &[],
+        BAD_LIST,
+    ),
+    (
+        &[
+            (0x0010_0401, b"a"),
+            (0x2020_0408, &[2, 0, 0, 0, 0x88, 0x13, 0, 0]),
+        ],
+        &[(2, BlockFilling::Bytes(&[2, 0, 0, 0]))],
         BAD_LIST,
     ),
     (
@@ -338,12 +525,6 @@ const MISUSED: [Row<'static>; 7] = [
         &[],
         "corrupt\nblock 2: in two files, pair 0 1, slot 1: \"a\" and pair 0 1, slot 2: \"b\"\n",
     ),
-    // a directory that is the root, of which there is no finding
-    (
-        &[(0x0020_0401, b"d"), (0x2000_0408, FIRST)],
-        &[],
-        "corrupt\nno single rule was found\n",
-    ),
 ];
 
 // Whether an image has these lines.
@@ -359,7 +540,7 @@ fn has_expected_check_text(alloc: Global, row: Row<'_>) -> Result<bool, AllocErr
 fn images_are_checked(rt: HostRuntime) -> Result<(), Fail> {
     for rows in [ACCEPTED.as_slice(), REFUSED.as_slice()] {
         for row in rows {
-            assert!(rt; has_expected_check_text(rt.alloc(), *row)?, "{:?}", row.0);
+            assert!(rt; has_expected_check_text(rt.alloc(), *row)?, "{:?}", row.2);
         }
     }
     Ok(())
@@ -367,10 +548,18 @@ fn images_are_checked(rt: HostRuntime) -> Result<(), Fail> {
 
 #[test]
 fn entries_moves_and_lists_are_checked(rt: HostRuntime) -> Result<(), Fail> {
-    for rows in [UNORDERED.as_slice(), MISUSED.as_slice()] {
+    for rows in [BROKEN_ENTRIES.as_slice(), BROKEN_MOVES_AND_LISTS.as_slice()] {
         for row in rows {
-            assert!(rt; has_expected_check_text(rt.alloc(), *row)?, "{:?}", row.0);
+            assert!(rt; has_expected_check_text(rt.alloc(), *row)?, "{:?}", row.2);
         }
+    }
+    Ok(())
+}
+
+#[test]
+fn directories_are_checked(rt: HostRuntime) -> Result<(), Fail> {
+    for row in BROKEN_DIRECTORIES {
+        assert!(rt; has_expected_check_text(rt.alloc(), row)?, "{:?}", row.2);
     }
     Ok(())
 }

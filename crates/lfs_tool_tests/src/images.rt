@@ -14,39 +14,39 @@ const CORRUPT: &str = "error: Corrupt (84)\n";
 const INVALID: &str = "error: Invalid (22)\n";
 
 // Addresses of pairs.
-const FIRST: &[u8] = &[0, 0, 0, 0, 1, 0, 0, 0];
+pub(crate) const FIRST: &[u8] = &[0, 0, 0, 0, 1, 0, 0, 0];
 
-const PAIR: &[u8] = &[2, 0, 0, 0, 3, 0, 0, 0];
+pub(crate) const PAIR: &[u8] = &[2, 0, 0, 0, 3, 0, 0, 0];
 
-const TURNED: &[u8] = &[3, 0, 0, 0, 2, 0, 0, 0];
+pub(crate) const TURNED: &[u8] = &[3, 0, 0, 0, 2, 0, 0, 0];
 
-const SAME: &[u8] = &[2, 0, 0, 0, 2, 0, 0, 0];
+pub(crate) const SAME: &[u8] = &[2, 0, 0, 0, 2, 0, 0, 0];
 
 const HALF: &[u8] = &[2, 0, 0, 0, 0xff, 0xff, 0xff, 0xff];
 
 const NO_PAIR: &[u8] = &[0xff; 8];
 
-const SOFT_TAIL: u32 = 0x600f_fc08;
+pub(crate) const SOFT_TAIL: u32 = 0x600f_fc08;
 
-const HARD_TAIL: u32 = 0x601f_fc08;
+pub(crate) const HARD_TAIL: u32 = 0x601f_fc08;
 
-const MOVE_STATE: u32 = 0x7fff_fc0c;
+pub(crate) const MOVE_STATE: u32 = 0x7fff_fc0c;
 
 // Superblocks: as the first one, with a block more, and with names of at most 32 bytes.
-const FIELDS: &[u8] = &[
+pub(crate) const FIELDS: &[u8] = &[
     0, 0, 2, 0, 0, 16, 0, 0, 16, 0, 0, 0, 255, 0, 0, 0, 255, 255, 255, 127, 254, 3, 0, 0,
 ];
 
-const LARGER: &[u8] = &[
+pub(crate) const LARGER: &[u8] = &[
     0, 0, 2, 0, 0, 16, 0, 0, 17, 0, 0, 0, 255, 0, 0, 0, 255, 255, 255, 127, 254, 3, 0, 0,
 ];
 
-const SHORT_NAMES: &[u8] = &[
+pub(crate) const SHORT_NAMES: &[u8] = &[
     0, 0, 2, 0, 0, 16, 0, 0, 16, 0, 0, 0, 32, 0, 0, 0, 255, 255, 255, 127, 254, 3, 0, 0,
 ];
 
 // Blocks of a pair: without slots, with a file `f`, with a file `a`.
-const EMPTY: BlockFilling<'static> = BlockFilling::Commit(&[]);
+pub(crate) const EMPTY: BlockFilling<'static> = BlockFilling::Commit(&[]);
 
 const WITH_F: BlockFilling<'static> = BlockFilling::Commit(&[
     (0x0010_0001, b"f"),
@@ -268,14 +268,14 @@ const LONGER: BlockFilling<'static> = BlockFilling::Commit(&[
     (0x2010_0400, b""),
 ]);
 
-const SHORTER: BlockFilling<'static> = BlockFilling::Commit(&[
+pub(crate) const SHORTER: BlockFilling<'static> = BlockFilling::Commit(&[
     (0x0010_0001, b"x"),
     (0x2010_0000, b""),
     (0x0010_0402, b"xy"),
     (0x2010_0400, b""),
 ]);
 
-const LONGER_FIRST: FixtureEntries<'static> = &[
+pub(crate) const LONGER_FIRST: FixtureEntries<'static> = &[
     (0x0010_0402, b"ab"),
     (0x2010_0400, b""),
     (0x0010_0801, b"a"),

@@ -7,21 +7,25 @@ PROGRAM is a built mklittlefs. The images are those of images.py, N of them at r
 ones whose newest log has one more commit, or that are checked with other sizes. Status, output and errors are compared:
 
 - Of an image that the reader (image_reader.py) accepts, all lines, as check_lines.py works them out from what the reader reads.
+  Where it isn't writable, the cause is the first of those that are true: other limits, long inline, an empty pair, too large.
 - Of any other one, `corrupt` and a line that has to be true. check_lines.py makes each line that is true of the image, from the
   addresses, logs and slots that the reader finds in it. That of PROGRAM has to be one of these, and of the first part that
-  has any: the superblock in block 0 or 1 by its place, the sizes, the thread, the superblock's chain, the other slots,
-  the order of names in the directories that are reached, the move, the lists of files.
-  `no single rule was found` has to come exactly where no line is true.
+  has any: the superblock in block 0 or 1 by its place, the sizes, the thread, the superblock's chain, the other slots, the walk
+  to all directories (the order of names in each, and where its entries lead), names in two orders, the directories that no path
+  reaches, the move, the first entry of the superblock's log, the lists of files.
+  One of them is for the rule at which the reader stops. So there always is one, and `no single rule was found` never comes.
 
-Prints for each kind of image how many were accepted, and for each kind of line how often it came, how often the reader stopped
-at the same rule, and at which others. An image on which they differ is left in FOLDER. Without PROGRAM the reader and the lines
-made here are tried alone, as if PROGRAM printed the first of these lines. Fails where anything differs.
+Prints for each kind of image how many were accepted, how often each line on order, recovery and writing came of these, and for
+each kind of line of the others how often it came, how often the reader stopped at the same rule, and at which others. An image
+on which they differ is left in FOLDER. Without PROGRAM the reader and the lines made here are tried alone, as if PROGRAM printed
+the first of these lines. Fails where anything differs.
 """
 
 import argparse
 import collections
 import os
 import random
+import re
 import subprocess
 import sys
 import tempfile
@@ -29,12 +33,12 @@ import tempfile
 import image_maker
 import image_reader
 import images
-from check_lines import INCOMPLETE, LINES_OF, PARTLY, known_of
+from check_lines import INCOMPLETE, LINES_OF, known_of
 from image_maker import NULL, REMOVED, Commit, Entry, Log, numbers
 from image_reader import CREATE, DELETE, FILE, FOLDER, INLINE, LIST, NONE, PAIR_STRUCT, SUPERBLOCK
 
 
-# Images that aim at a rule: entries for one more commit of the log that holds in a pair
+# Images that aim at a rule: entries for one more commit of the log that holds in a pair, and blocks beside it
 
 
 def fields_of(rnd, plan):
@@ -116,7 +120,90 @@ def moves(rnd, plan, pairs, pair):
     return [image_maker.move(word, rnd.choice([(0, 0), address]))]
 
 
-AIMED = [tails, malformed, incomplete, heads, heads, second_superblocks, slots, slots, attributes, moves]
+def large(rnd, plan, pairs, pair):
+    """Attributes with which an entry or its pair may be larger than it is written."""
+    ident, most = rnd.choice(entry_ids(pair) or [0]), min(plan.block_size // 4, 1022)
+    return [Entry(0x300 + kind, ident, rnd.randbytes(most)) for kind in range(rnd.randint(1, 3))]
+
+
+def entry_ids(pair):
+    return [ident for ident, slot in enumerate(pair.slots) if slot.kind != SUPERBLOCK]
+
+
+def folder_ids(pair):
+    return [ident for ident, slot in enumerate(pair.slots) if slot.kind == FOLDER]
+
+
+def free_blocks(rnd, plan, pairs):
+    """Two blocks that nothing has, or blocks 0 and 1 where there aren't two."""
+    used = {block for pair in pairs for block in pair.address} | set(plan.blocks)
+    free = [block for block in range(plan.count) if block not in used]
+    return tuple(rnd.sample(free, 2)) if len(free) > 1 else (0, 1)
+
+
+def some_entry(rnd, pair):
+    """The id and the name of an entry, or of one more."""
+    ident = rnd.choice(entry_ids(pair) or [len(pair.slots)])
+    return ident, pair.slots[ident].name if ident < len(pair.slots) else b"d"
+
+
+def lists(rnd, plan, pairs, pair):
+    """A file on blocks that may have an owner, or on one block twice."""
+    ident, name = some_entry(rnd, pair)
+    head, first = (rnd.choice([*free_blocks(rnd, plan, pairs), *plan.blocks]) for _ in range(2))
+    if not isinstance(plan.blocks.get(head), Log):
+        plan.blocks[head] = numbers(rnd.choice([head, first]))
+    size = rnd.choice([1, plan.block_size, plan.block_size + 1])
+    return [Entry(FILE, ident, name), Entry(LIST, ident, numbers(head, size))]
+
+
+def branches(rnd, plan, pairs, pair):
+    """An entry that names a directory, any pair, the first one, or two blocks that are none, whatever it was before."""
+    (ident, name), addresses = some_entry(rnd, pair), [other.address for other in pairs]
+    named = [image_reader.words(other.slots[at].struct[1]) for other in pairs for at in folder_ids(other)] or addresses
+    address = rnd.choice([rnd.choice(named), rnd.choice(named), rnd.choice(addresses), (0, 1), free_blocks(rnd, plan, pairs)])
+    return [Entry(FOLDER, ident, name), Entry(PAIR_STRUCT, ident, numbers(*rnd.sample(address, 2)))]
+
+
+def orders(rnd, plan, pairs, pair):
+    """Two names more that begin with a slot's name, each right behind that slot or right in front of it."""
+    made, ids = [], entry_ids(pair)
+    for ident in sorted(rnd.choices(ids, k=2) if ids else [], reverse=True):
+        at, more = ident + rnd.randrange(2), bytes([rnd.choice(image_maker.LETTERS)])
+        made += [Entry(CREATE, at), Entry(FILE, at, (pair.slots[ident].name + more)[:255]), Entry(INLINE, at)]
+    return made
+
+
+def other_sync(pair):
+    """A pair's move state with which the sync bit is turned."""
+    return Entry(0x7ff, NONE, bytes(a ^ b for a, b in zip(pair.move, numbers(1 << 31, 0, 0))))
+
+
+def unreached(rnd, plan, pairs, pair):
+    """The entry of a directory is gone, or the sync bit is turned, or both."""
+    gone = [Entry(DELETE, ident) for ident in folder_ids(pair)]
+    return rnd.choice([gone[:1], gone[:1], gone[-1:] + [other_sync(pair)], [other_sync(pair)]])
+
+
+def empty_pairs(rnd, plan, pairs, pair):
+    """A pair's slots are gone, and the sync bit is turned if they named directories; or the last pair goes on with an empty one."""
+    if pair is not pairs[-1]:
+        return [Entry(DELETE, 0) for _ in pair.slots] + ([other_sync(pair)] if folder_ids(pair) else [])
+    address = free_blocks(rnd, plan, pairs)
+    plan.blocks.setdefault(address[0], Log(1, [Commit([])]))
+    return [image_maker.tail(address, hard=True)]
+
+
+def first_entries(rnd, plan, pairs, pair):
+    """What comes in front of the superblock's name, and means nothing then."""
+    named = [Entry(FILE, 0, b"f")], [Entry(CREATE, 0)], [Entry(SUPERBLOCK, 0, b"LITTLEFS")]
+    others = [], [image_maker.forward_checksum(rnd)], [image_maker.move(0)], [image_maker.tail((NULL, NULL))]
+    return rnd.choice([*named, *others])
+
+
+AIMED = [tails, malformed, incomplete, heads, heads, second_superblocks, slots, slots, attributes, large, moves, lists,
+         branches, branches, orders, unreached, empty_pairs, first_entries]
+OF_FOLDERS = [branches, unreached]
 SIZES = [1024, 1536, 2048, 4096, 8192, 65536, 0, 1, 512, 1000, 65537, 131072, NULL]
 PAGES = [8, 16, 64, 128, 256, 512, 0, 1, 4, 24, 1024, NULL]
 
@@ -128,24 +215,43 @@ def holding(plan, blocks, address):
     return next(plan.blocks[block] for block in logs if image_reader.read_log(blocks[block]) == held)
 
 
+def pairs_for(aim, pairs):
+    """The pairs into whose log a commit goes."""
+    root = image_reader.last_superblock(pairs)
+    going_on = [pair for before, pair in zip(pairs[root:], pairs[root + 1 :]) if before.tail[0]]
+    filled, with_entries = [pair for pair in pairs if pair.slots], [pair for pair in pairs if entry_ids(pair)]
+    of_aim = {heads: pairs[: root + 1], first_entries: filled[:1], lists: with_entries, branches: with_entries, orders: with_entries,
+              unreached: [pair for pair in pairs if folder_ids(pair)], empty_pairs: going_on + pairs[-1:]}
+    return of_aim.get(aim) or pairs
+
+
 def with_a_commit(rnd, plan, aim):
     blocks = image_reader.blocks_of(plan.image(), plan.block_size)
     pairs = image_reader.read_thread(blocks)
-    pair = rnd.choice(pairs[: image_reader.last_superblock(pairs) + 1] if aim == heads else pairs)
-    holding(plan, blocks, pair.address).commits.append(Commit(aim(rnd, plan, pairs, pair)))
+    pair = rnd.choice(pairs_for(aim, pairs))
+    commits, more = holding(plan, blocks, pair.address).commits, Commit(aim(rnd, plan, pairs, pair))
+    commits.insert(0 if aim == first_entries else len(commits), more)
     first = holding(plan, blocks, (0, 1))
     if rnd.random() < 0.8:  # nothing is said of an older superblock
         plan.blocks = {block: what for block, what in plan.blocks.items() if block > 1 or what is first}
 
 
+def random_plan(rnd, with_folders):
+    """A random plan, with directories where that matters."""
+    plan, lines = image_maker.random_plan(rnd)
+    while with_folders and b"d 0 " not in lines:
+        plan, lines = image_maker.random_plan(rnd)
+    return plan
+
+
 def aimed_image(seed, number):
     """Kind, image and geometry."""
-    rnd, at = random.Random(f"{seed}/aimed/{number}"), number % (len(AIMED) + 1)
-    plan, _ = image_maker.random_plan(rnd)
-    if at == len(AIMED):
+    rnd, aim = random.Random(f"{seed}/aimed/{number}"), [*AIMED, None][number % (len(AIMED) + 1)]
+    plan = random_plan(rnd, aim in OF_FOLDERS)
+    if aim is None:
         return "other sizes", plan.image(), rnd.choice([(rnd.choice(SIZES), plan.page), (plan.block_size, rnd.choice(PAGES))])
-    with_a_commit(rnd, plan, AIMED[at])
-    return "aimed " + AIMED[at].__name__.replace("_", " "), plan.image(), (plan.block_size, plan.page)
+    with_a_commit(rnd, plan, aim)
+    return "aimed " + aim.__name__.replace("_", " "), plan.image(), (plan.block_size, plan.page)
 
 
 def all_images(count, seed):
@@ -178,7 +284,7 @@ def faults_here(known):
     kinds = {kind for part in known.parts for kind, _ in part}
     if known.rule is None and kinds - {"by place"}:
         yield f"the reader accepts it, and there is {kinds}"
-    if known.rule in LINES_OF and not (LINES_OF[known.rule] | INCOMPLETE) & kinds:
+    if known.rule is not None and not (LINES_OF[known.rule] | INCOMPLETE) & kinds:
         yield f"the reader stops at {known.rule!r}, and there is {kinds}"
 
 
@@ -199,13 +305,17 @@ def faults_of(known, run):
 
 def is_same(kind, rule):
     """Whether a kind of line is for the rule at which the reader stops."""
-    return kind in LINES_OF.get(rule, ()) or kind in PARTLY.get(rule, ()) or rule == "struct" and kind in INCOMPLETE
+    return kind in LINES_OF[rule] or rule == "struct" and kind in INCOMPLETE
 
 
 def line_of(out):
     """The line that says why, or None where that isn't all."""
     is_whole = out.startswith("corrupt\n") and out.endswith("\n") and out.count("\n") == 2
     return out[len("corrupt\n") : -1] if is_whole else None
+
+
+def without_place(line):
+    return re.sub(r"pair \d+ \d+(, slot \d+)?: ", "", line)
 
 
 class Counts:
@@ -219,7 +329,7 @@ class Counts:
     def add(self, kind, known, run):
         self.images[kind]["corrupt" if known.rule else "ok"] += 1
         if known.rule is None:
-            self.accepted.update(run[1].splitlines()[5:])
+            self.accepted.update(map(without_place, run[1].splitlines()[5:]))
         else:
             self.lines[known.first().get(line_of(run[1]), "no true line")][known.rule] += 1
 

@@ -5,6 +5,7 @@ each line that is true of it, in the parts in which the program looks for one.
 """
 
 import collections
+import itertools
 from dataclasses import dataclass
 
 import image_reader
@@ -14,27 +15,29 @@ VERSION = 0x00020000
 LIMITS = (255, 2147483647, 1022)
 LARGEST_IMAGE = 268435456
 STRUCTS = {FILE: (INLINE, LIST), FOLDER: (PAIR_STRUCT,)}
-NO_RULE = "no single rule was found"
+NO_RULE = "no single rule was found"  # of no image: each that isn't accepted has a true line
 
-# For rules of the reader the kinds of lines for them. Where it stops at one of the first rules such a line is true. At one of
-# the second it may have none. All other rules have no lines of their own.
+# For each rule of the reader the kinds of lines for it. Where the reader stops at a rule, a line of one of its kinds is true.
 LINES_OF = {
     "sizes": {"sizes"},
     "range": {"out of range"},
     "repeat": {"one block twice", "in two pairs"},
     "commit": {"no commit"},
     "entry": {"malformed"},
-    "fields": {"no superblock", "no fields", "other fields"},
+    "first entry": {"no superblock", "other first entry"},
     "superblock's name": {"other name"},
+    "fields": {"no superblock", "no fields", "other fields"},
+    "same fields": {"no superblock", "no fields", "other fields", "other superblock"},
     "second superblock": {"second superblock"},
     "struct": {"other struct"},
     "name": {"bad name"},
+    "order": {"out of order", "two orders"},
+    "directory": {"no directory", "leads to the root", "leads to the same"},
+    "unreached": {"not reached"},
     "move": {"bad move"},
-    "list": {"bad list", "in pair and file", "in two files"},
+    "list": {"bad list"},
     "owned": {"in pair and file", "in two files", "bad list"},
 }
-PARTLY = {"first entry": {"no superblock", "other name"}, "same fields": {"no fields", "other fields", "other superblock"},
-          "order": {"out of order"}}
 INCOMPLETE = {"no name", "no struct"}  # the reader looks for these behind the thread; the search doesn't go on there
 
 
@@ -72,27 +75,34 @@ def attribute_sizes(entries):
     return [sum(4 + length for length in slot.values()) for slot in slots]
 
 
-def fits(slot, attributes, block_size, page):
-    """Whether a slot is within what is written."""
-    if slot.kind == SUPERBLOCK:
-        return image_reader.words(slot.struct[1])[3:] == LIMITS
-    inline = min(block_size // 8, 1022)
-    charge = 4 + len(slot.name) + 4 + inline + attributes
-    return charge <= (block_size - 39 - page) // 2 and (slot.struct[0] != INLINE or len(slot.struct[1]) <= inline)
+def is_small(read, pair, block_size, page):
+    """Whether a pair and its entries are no larger than they are written."""
+    attributes = attribute_sizes(image_reader.held_log(read.blocks, pair.address)[1])
+    size = sum(8 + len(slot.name) + len(slot.struct[1]) for slot in pair.slots) + sum(attributes)
+    entries = [(slot, its) for slot, its in zip(pair.slots, attributes) if slot.kind != SUPERBLOCK]
+    charges = [8 + len(slot.name) + inline_limit(block_size) + its for slot, its in entries]
+    most = block_size - 39 - page
+    return size <= most and len(pair.slots) <= 1000 and all(charge <= most // 2 for charge in charges)
 
 
-def is_writable(read, block_size, page):
-    """Whether an accepted image is in the writing profile of docs/FORMAT.md."""
-    for index, pair in enumerate(read.pairs):
-        attributes = attribute_sizes(image_reader.held_log(read.blocks, pair.address)[1])
-        size = sum(8 + len(slot.name) + len(slot.struct[1]) for slot in pair.slots) + sum(attributes)
-        if size > block_size - 39 - page or len(pair.slots) > 1000:
-            return False
-        if not all(fits(slot, its, block_size, page) for slot, its in zip(pair.slots, attributes)):
-            return False
-        if index > read.root and read.pairs[index - 1].tail[0] and not pair.slots:
-            return False
-    return True
+def inline_limit(block_size):
+    return min(block_size // 8, 1022)
+
+
+def beyond_profile(read, block_size, page):
+    """What of an accepted image isn't in the writing profile of docs/FORMAT.md, in the order of the search."""
+    slots = [("pair %d %d, slot %d" % (*pair.address, ident), slot) for pair in read.pairs for ident, slot in enumerate(pair.slots)]
+    for where, slot in slots:
+        if slot.kind == SUPERBLOCK and image_reader.words(slot.struct[1])[3:] != LIMITS:
+            yield where + ": a superblock with other limits than this library writes"
+    for where, slot in slots:
+        if slot.kind != SUPERBLOCK and slot.struct[0] == INLINE and len(slot.struct[1]) > inline_limit(block_size):
+            yield where + ": more bytes inline than an eighth of a block"
+    for before, pair in zip(read.pairs[read.root :], read.pairs[read.root + 1 :]):
+        if before.tail[0] and not pair.slots:
+            yield "pair %d %d: no entry, but a directory goes on in it" % pair.address
+    if not all(is_small(read, pair, block_size, page) for pair in read.pairs):
+        yield "a pair or an entry is larger than this library writes"
 
 
 def used_blocks(read):
@@ -110,7 +120,8 @@ def summary(read, listing, block_size, page):
     orders = {image_reader.longer_first: "longer-first", image_reader.shorter_first: "shorter-first"}
     order = "either" if len(read.rising) == 2 else orders[next(iter(read.rising))]
     recover = "yes" if read.sync or read.moved else "no"
-    writable = "yes" if is_writable(read, block_size, page) else "no: beyond what this library writes"
+    cause = next(beyond_profile(read, block_size, page), None)
+    writable = "no: " + cause if cause else "yes"
     return (f"ok\nfiles {kinds[b'f']}\ndirectories {kinds[b'd']}\nused {used} of {count} blocks\nfree {count - used}\n"
             f"order {order}\nrecover {recover}\nwritable {writable}\n")
 
@@ -249,17 +260,17 @@ def wrong_slots(pairs, root):
 
 
 def global_state(pairs):
-    """The kind, id and pair of the move that is set."""
+    """The sync bit, and the kind, id and pair of the move that is set."""
     state = bytes(12)
     for pair in pairs:
         state = bytes(a ^ b for a, b in zip(state, pair.move))
     word = image_reader.word(state)
-    return word >> 20 & 0x7ff, word >> 10 & 0x3ff, image_reader.words(state[4:])
+    return word >> 31, word >> 20 & 0x7ff, word >> 10 & 0x3ff, image_reader.words(state[4:])
 
 
 def moved_slots(pairs):
     """The places (index of the pair, id) that count as moved away: one at most."""
-    kind, ident, address = global_state(pairs)
+    _, kind, ident, address = global_state(pairs)
     return {(index, ident) for index, pair in enumerate(pairs) if kind == SET_MOVE and set(pair.address) == set(address)}
 
 
@@ -275,38 +286,94 @@ def entries_from(pairs, index, moved):
         index += 1
 
 
+def first_pairs(pairs, root):
+    """The numbers of the pairs with which directories begin, by their blocks."""
+    firsts = [index for index in range(root, len(pairs)) if index == root or not pairs[index - 1].tail[0]]
+    return {frozenset(pairs[index].address): index for index in firsts}
+
+
 def reached_directories(pairs, root, moved):
-    """The entries of each directory to which a path leads. Of entries of one name the first is on the path."""
-    begins = {}
-    for index in range(root, len(pairs)):
-        if index == root or not pairs[index - 1].tail[0]:
-            begins.setdefault(frozenset(pairs[index].address), index)
-    firsts = [root]
+    """Each directory to which a path leads, breadth first: the number of its first pair, its entries, and where these lead.
+
+    That is an entry's place and the address that it names. Of entries of one name only the first is on a path.
+    """
+    begins, firsts = first_pairs(pairs, root), [root]
     for first in firsts:
-        entries = entries_from(pairs, first, moved)
-        yield entries
-        named = {}
-        for slot, _ in entries:
-            named.setdefault(slot.name, slot)
-        branches = [slot.struct[1] for slot in named.values() if slot.struct[0] == PAIR_STRUCT]
-        nexts = [begins.get(frozenset(image_reader.words(branch))) for branch in branches]
+        entries, named = entries_from(pairs, first, moved), {}
+        for slot, where in entries:
+            named.setdefault(slot.name, (slot, where))
+        leads = [(where, image_reader.words(slot.struct[1])) for slot, where in named.values() if slot.struct[0] == PAIR_STRUCT]
+        yield first, entries, leads
+        nexts = [begins.get(frozenset(address)) for _, address in leads]
         firsts += [index for index in dict.fromkeys(nexts) if index is not None and index not in firsts]
 
 
-def wrong_order(pairs, root, moved):
-    """Neighbours in a directory to which a path leads, whose names are in neither order."""
-    for entries in reached_directories(pairs, root, moved):
-        for (one, _), (other, where) in zip(entries, entries[1:]):
-            if not image_reader.shorter_first(one.name, other.name) and not image_reader.longer_first(one.name, other.name):
-                yield "out of order", '%s stands behind "%s"' % (where, image_reader.escaped(one.name).decode())
+def disordered(entries, *orders):
+    """The neighbours whose names are in none of the orders."""
+    for (one, _), (other, where) in zip(entries, entries[1:]):
+        if not any(order(one.name, other.name) for order in orders):
+            yield '%s stands behind "%s"' % (where, image_reader.escaped(one.name).decode())
+
+
+def wrong_walk(pairs, root, moved):
+    """Names of a directory in neither order, and entries that lead to none, to the root, or where another one led before."""
+    begins, ways = first_pairs(pairs, root), collections.defaultdict(list)
+    for _, entries, leads in reached_directories(pairs, root, moved):
+        for text in disordered(entries, image_reader.longer_first, image_reader.shorter_first):
+            yield "out of order", text
+        for where, address in leads:
+            index = begins.get(frozenset(address))
+            if index is None:
+                yield "no directory", where + " leads to pair %d %d, where no directory begins" % address
+            elif index == root:
+                yield "leads to the root", where + " leads to the root directory"
+            else:
+                for other in ways[index]:
+                    yield "leads to the same", f"{where} leads to the same directory as {other}"
+                ways[index].append(where)
+
+
+def wrong_two_orders(pairs, root, moved):
+    """Neighbours that aren't in the one order, with others that aren't in the other."""
+    directories = [entries for _, entries, _ in reached_directories(pairs, root, moved)]
+    shorter = [text for entries in directories for text in disordered(entries, image_reader.longer_first)]
+    longer = [text for entries in directories for text in disordered(entries, image_reader.shorter_first)]
+    for one, other in itertools.product(shorter, longer):
+        yield "two orders", f"names in two orders: {one}, and {other}"
+
+
+def wrong_unreached(pairs, root, moved):
+    """Directories to which no path leads, where the sync bit is clear."""
+    reached, sync = {first for first, _, _ in reached_directories(pairs, root, moved)}, global_state(pairs)[0]
+    for index in first_pairs(pairs, root).values():
+        if index not in reached and not sync:
+            yield "not reached", "pair %d %d: no path leads to its directory, and the sync bit is clear" % pairs[index].address
 
 
 def wrong_move(pairs):
-    kind, ident, address = global_state(pairs)
+    _, kind, ident, address = global_state(pairs)
     slots = [slot for pair in pairs if set(pair.address) == set(address) for slot in pair.slots[ident : ident + 1]]
     is_entry = kind == SET_MOVE and any(slot.kind != SUPERBLOCK for slot in slots)
     if not is_entry and (kind, ident, address) != (0, 0, (0, 0)):
         yield "bad move", "global state: its move names no entry"
+
+
+def wrong_first_entry(pairs):
+    """The first pair that has a slot, if its log doesn't begin with the superblock's name."""
+    for pair in pairs:
+        if pair.slots:
+            if pair.first != (SUPERBLOCK, 0, 8, b"littlefs"):
+                yield "other first entry", "pair %d %d: its log doesn't begin with the superblock's name" % pair.address
+            return
+
+
+def list_of_slot(blocks, slot):
+    """The blocks of a slot's list, or None where it isn't well formed. None of them comes twice."""
+    try:
+        owned = image_reader.list_blocks(blocks, *image_reader.words(slot.struct[1]))
+    except image_reader.Refused:
+        return None
+    return owned if len(set(owned)) == len(owned) else None
 
 
 def wrong_lists(blocks, pairs, moved):
@@ -316,11 +383,11 @@ def wrong_lists(blocks, pairs, moved):
         for ident, slot in enumerate(pair.slots):
             if slot.struct[0] != LIST or (index, ident) in moved:
                 continue
-            where = place(pair.address, ident, slot)
-            try:
-                lists.append((where, image_reader.list_blocks(blocks, *image_reader.words(slot.struct[1]))))
-            except image_reader.Refused:
+            where, owned = place(pair.address, ident, slot), list_of_slot(blocks, slot)
+            if owned is None:
                 yield "bad list", where + " has a list with a wrong size, block or pointer"
+            else:
+                lists.append((where, owned))
     for number, (where, owned) in enumerate(lists):
         for block in owned:
             for pair in pairs:
@@ -332,7 +399,10 @@ def wrong_lists(blocks, pairs, moved):
 
 
 def true_lines(image, block_size, page):
-    """The parts in the order of the search, each with the lines that are true. What is behind a broken thread isn't known."""
+    """The parts in the order of the search, each with the lines that are true. What is behind a broken thread isn't known.
+
+    Names out of order and where entries lead are one part, as the search walks once and looks at both in each directory.
+    """
     parts = [list(wrong_by_place(image, block_size)), list(wrong_sizes(image, block_size, page))]
     if parts[1]:
         return parts
@@ -342,8 +412,10 @@ def true_lines(image, block_size, page):
         return parts + [wrong]
     root, moved = image_reader.last_superblock(pairs), moved_slots(pairs)
     chain = [wrong_chain(pairs, root, block_size, len(blocks)), wrong_others(pairs, root), wrong_superblock_name(pairs)]
-    rest = [wrong_slots(pairs, root), wrong_order(pairs, root, moved), wrong_move(pairs), wrong_lists(blocks, pairs, moved)]
-    return parts + [list(part) for part in chain + rest]
+    slots = [wrong_slots(pairs, root)]
+    directories = [wrong(pairs, root, moved) for wrong in (wrong_walk, wrong_two_orders, wrong_unreached)]
+    rest = [wrong_move(pairs), wrong_first_entry(pairs), wrong_lists(blocks, pairs, moved)]
+    return parts + [list(part) for part in chain + slots + directories + rest]
 
 
 def known_of(image, geometry):

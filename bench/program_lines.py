@@ -1,0 +1,120 @@
+#!/usr/bin/env python3
+"""What the programs print for words, lines and files that no test of the gate has.
+
+usage: program_lines.py [SCRIPT] [TOOL]
+
+SCRIPT is a built lfs_script, TOOL a built mklittlefs; without them those that `rt run` left in the crates' `out` are taken. Each row
+is run in a folder of its own: the words, standard input, and the status, output and errors that have to come. Run as root, a row
+with a file that can't be read is run as another user. Prints each row that differs, and how many didn't. Fails where one does.
+"""
+import os
+import shutil
+import subprocess
+import sys
+import tempfile
+
+HERE = os.path.dirname(os.path.abspath(__file__))
+FRESH = "fresh 4096 256 16\n"
+
+# what is wrong with a line, behind `error: line N: `
+OBJECTIONS = [
+    ("list  /", "two spaces stand side by side"),
+    ("List /", "no command has this name (--help lists them)"),
+    ("list", "too few words: list PATH"),
+    ("set-attr /a 41", "too few words: set-attr PATH TYPE BYTES"),
+    ("calls 1", "too many words: calls"),
+    ("read 0 1a", "word 3 is no decimal number up to 4294967295"),
+    ("open /a 0x102", "word 3 is no hexadecimal number up to ffffffff"),
+    ("get-attr /a 100", "word 3 is no hexadecimal number up to ff"),
+    ("stat /\\x0", "word 2 is not spelled as bytes are (--help says how)"),
+    ("fresh 4096 256 16 sideways", "from word 5 on there are no options of the command"),
+]
+COMMANDS = """fresh image unmount mount save calls compare compare-with open read write seek truncate sync close mkdir remove rename list
+stat get-attr set-attr remove-attr gstate is-used used-count recover remount""".split()
+
+
+def run(program, words, given="", folder=None, user=None):
+    """Status, output and errors."""
+    done = subprocess.run([program, *words], input=given.encode(), capture_output=True, cwd=folder, user=user, timeout=60)
+    return done.returncode, done.stdout.decode("latin-1"), done.stderr.decode("latin-1")
+
+
+def script_rows(script):
+    """What was run, what came, and what has to come."""
+    begun = run(script, [], FRESH)
+    yield "an empty script", run(script, []), (0, "", "")
+    for line, text in OBJECTIONS:
+        yield repr(line), run(script, [], line + "\n"), (2, "", f"error: line 1: {text}\n")
+        yield repr(line) + " behind a line", run(script, [], FRESH + line), (2, begun[1], f"error: line 2: {text}\n")
+    both = run(script, [], FRESH + "list /\n")
+    yield "spaces and CRs at the ends", run(script, [], "  " + FRESH.strip() + "  \r\n\tlist /\n".replace("\t", " ")), both
+    yield "other words", run(script, ["-x"]), (2, "", "error: a script is read from standard input (--help says more)\n")
+    shown = run(script, ["--help"])
+    yield "-h", run(script, ["-h"]), shown
+    names = [line.split()[0] for line in shown[1].splitlines() if line.startswith("  ") and line[2:3].isalpha()]
+    yield "the commands in --help", [name for name in names if name in COMMANDS], COMMANDS
+    yield "--help", (shown[0], shown[2], shown[1].startswith("Performs the operations of standard input")), (0, "", True)
+
+
+def write(folder, path, data=b"", size=None):
+    path = os.path.join(folder, path)
+    os.makedirs(os.path.dirname(path), exist_ok=True)
+    with open(path, "wb") as file:
+        file.write(data)
+        if size is not None:
+            file.truncate(size)
+    return path
+
+
+def tool_rows(tool, folder):
+    """The same of mklittlefs, mostly with --explain."""
+    sizes = ["-s", "65536"]
+    write(folder, "some/a", b"hi")
+    closed = write(folder, "closed/b", b"hi")
+    os.chmod(closed, 0)
+    os.chmod(folder, 0o777)
+    user = 65534 if os.getuid() == 0 else None
+    yield "a file that can't be read", run(tool, ["-c", "closed", "--explain", *sizes, "x.img"], "", folder, user), (
+        3, "", "error: input\nclosed/b: Permission denied (os error 13)\n")
+    os.makedirs(folder + "/links")
+    os.symlink("nowhere", folder + "/links/l")
+    yield "a symbolic link", run(tool, ["-c", "links", "--explain", *sizes, "x.img"], "", folder), (
+        3, "", "error: input\nlinks/l: neither a file nor a folder\n")
+    yield "no image", run(tool, ["-l", "--explain", "none.img"], "", folder), (
+        3, "", "error: input\nnone.img: No such file or directory (os error 2)\n")
+    yield "no folder above", run(tool, ["-c", "some", "--explain", *sizes, "no/x.img"], "", folder), (
+        3, "", "error: output\nno/x.img: No such file or directory (os error 2)\n")
+    write(folder, "big/a", size=1 << 31)
+    yield "a file that is too big", run(tool, ["-c", "big", "--explain", *sizes, "x.img"], "", folder), (1, "", "error: TooBig (27)\n")
+    write(folder, "both/a", size=1 << 20)
+    write(folder, "both/b", size=3 << 30)
+    yield "too few blocks, and a file that is too big", run(tool, ["-c", "both", "--explain", *sizes, "x.img"], "", folder), (
+        1, "", "error: NoSpace (28)\n16 blocks were too few, how many it takes isn't known: error: TooBig (27)\n")
+    yield "standard input that is no image", run(tool, ["-l", "--explain", "-"], "?" * 65536, folder), (
+        1, "", "error: Corrupt (84)\nnot explained: error: input\n")
+    yield "a check of standard input", run(tool, ["--check", "-"], "?" * 65536, folder), (
+        1, "corrupt\npair 0 1: no commit with a right checksum\n", "")
+    made = run(tool, ["-c", "some", *sizes, "x.img"], "", folder)
+    yield "a folder", made, (0, "", "")
+    before = os.stat(folder + "/x.img").st_ino
+    yield "the old image stays", (run(tool, ["-c", "both", *sizes, "x.img"], "", folder)[0], os.stat(folder + "/x.img").st_ino), (1, before)
+    yield "a check", run(tool, ["--check", "x.img"], "", folder)[1].splitlines()[:3], ["ok", "files 1", "directories 0"]
+
+
+def main():
+    programs = sys.argv[1:] + [os.path.join(HERE, "..", "crates", name, "out", name) for name in ("lfs_script", "mklittlefs")][len(sys.argv) - 1 :]
+    script, tool = map(os.path.abspath, programs)
+    folder = tempfile.mkdtemp()
+    try:
+        rows = [*script_rows(script), *tool_rows(tool, folder)]
+    finally:
+        shutil.rmtree(folder)
+    wrong = [row for row in rows if row[1] != row[2]]
+    for what, came, wanted in wrong:
+        print(f"{what}: {came!r}, and it is {wanted!r}")
+    print(f"{len(rows)} rows, {len(wrong)} differ")
+    sys.exit(bool(wrong))
+
+
+if __name__ == "__main__":
+    main()

@@ -1,15 +1,18 @@
 -- Where entries lead, and by which paths.
 use Rattle.std.proofs.Common.{ℕ, ◌≡◌, ◌⊎◌, ◌∙◌, inl, inr, List, [], ◌∷◌, ◌++◌, Some, None, refl, sym, ap, subst}
-use Rattle.std.specs.Prelude.{◌≢◌, true}
-use Rattle.std.specs.Option.{option_map}
+use Rattle.std.specs.Prelude.{◌≢◌, nat_eq, slice_get, true}
+use Rattle.std.specs.List.{IsDistinct}
+use Rattle.std.specs.Option.{option_and_then, option_map}
 use Rattle.std.proofs.lemmas.Option.{same_Some}
 use Rattle.lfs_model.specs.Names.{Name}
 use Rattle.lfs_model.specs.Shown.{IsPathToDirectory, directories_in_thread}
 use Rattle.lfs_model.specs.Slots.{Slot, pair_address_of_array, same_pair}
-use Rattle.lfs_model.specs.Thread.{IsAddressOfDirectoryFirstPair, Pair, root_directory_address_of_pairs}
+use Rattle.lfs_model.specs.Thread.{IsAddressOfDirectoryFirstPair, Pair, blocks_of_pairs, root_directory_address_of_pairs}
 use Rattle.lfs_model.specs.Tree.{Path}
+use Rattle.lfs_model.proofs.Pairs.{pair_itself}
+use Rattle.lfs_model.proofs.Searches.{same_number}
 use Rattle.lfs_tool.specs.BrokenDirectories.{AreEntriesThatLeadToOneDirectory, IsEntryThatLeadsToNoDirectory, IsEntryThatLeadsToRoot, IsPathByEntryAtPlace}
-use Rattle.lfs_tool.specs.EntryPlaces.{IsNamedSlotAtPlace, slot_at_place}
+use Rattle.lfs_tool.specs.EntryPlaces.{IsNamedSlotAtPlace, IsPlaceOfNamedSlot, slot_at_place}
 use Rattle.lfs_tool.specs.ReachedDirectories.{IsPathOfEntry, IsPathOfEntryOrRoot, IsReachedDirectory, LeadsEntryTo, LeadsEntryToSameDirectory}
 use Rattle.lfs_tool.specs.SlotsInThread.{IsSlotOfPairInThread}
 use Rattle.lfs_tool.specs.declared.findings.NamedSlot.{NamedSlot}
@@ -78,6 +81,28 @@ paths_differ ps path other_path entry other by before differ same = go differ
     go : (pair_address_of_array entry.parent ≢ pair_address_of_array other.parent) ⊎ (option_map (λ (s : Slot). s.name) (slot_at_place ps entry.place) ≢ option_map (λ (s : Slot). s.name) (slot_at_place ps other.place)) → ⊥
     go (inl parents) = parents (one_address ps by.before before.before (pair_address_of_array entry.parent) (pair_address_of_array other.parent) (sym parts.0) by.reached before.reached)
     go (inr others) = others names
+
+-- they are at two places
+pub places_apart : (ps : List Pair) (entry other : DirectoryEntry) (named other_named : NamedSlot) → IsDistinct nat_eq (blocks_of_pairs ps) → IsPlaceOfNamedSlot ps entry.place named → IsPlaceOfNamedSlot ps other.place other_named
+    → (entry.place.pair ≡ other.place.pair → pair_address_of_array entry.parent ≡ pair_address_of_array other.parent)
+    → ((pair_address_of_array entry.parent ≢ pair_address_of_array other.parent) ⊎ (option_map (λ s. s.name) (slot_at_place ps entry.place) ≢ option_map (λ s. s.name) (slot_at_place ps other.place)))
+    → pair_address_of_array named.pair ≡ pair_address_of_array other_named.pair → named.slot ≢ other_named.slot
+places_apart ps entry other named other_named distinct n m parents differ same slots = go differ
+  where
+    pair : entry.place.pair ≡ other.place.pair
+    pair = same_number ps entry.place.pair other.place.pair n.0 m.0 distinct n.1.0 m.1.0 (subst (λ (a : ℕ × ℕ). same_pair n.0.at a ≡ true) (n.1.1 ∙ same ∙ sym m.1.1) (pair_itself n.0.at))
+
+    slot : entry.place.slot ≡ other.place.slot
+    slot = sym n.1.2 ∙ slots ∙ m.1.2
+
+    there : slot_at_place ps entry.place ≡ slot_at_place ps other.place
+    there =
+        ap (λ (i : ℕ). option_and_then (λ (p : Pair). slice_get p.content.slots entry.place.slot) (slice_get ps i)) pair
+        ∙ ap (λ (k : ℕ). option_and_then (λ (p : Pair). slice_get p.content.slots k) (slice_get ps other.place.pair)) slot
+
+    go : (pair_address_of_array entry.parent ≢ pair_address_of_array other.parent) ⊎ (option_map (λ (s : Slot). s.name) (slot_at_place ps entry.place) ≢ option_map (λ (s : Slot). s.name) (slot_at_place ps other.place)) → ⊥
+    go (inl parents_differ) = parents_differ (parents pair)
+    go (inr names_differ) = names_differ (ap (option_map (λ (s : Slot). s.name)) there)
 
 pub lead_to_same : (ps : List Pair) (entry other : DirectoryEntry) (d : ReachedDirectory) (named other_named : NamedSlot) → IsReachedDirectory ps d → d.entry ≡ Some other → LeadsEntryToSameDirectory ps entry (pair_address_of_array d.at)
     → ((pair_address_of_array entry.parent ≢ pair_address_of_array other.parent) ⊎ (option_map (λ s. s.name) (slot_at_place ps entry.place) ≢ option_map (λ s. s.name) (slot_at_place ps other.place)))

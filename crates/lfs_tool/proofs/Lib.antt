@@ -1,20 +1,32 @@
 pub mod HeldPairs
 pub mod HeldSlots
 pub mod Along
+pub mod MarkedPairs
 pub mod Looking
 pub mod RootPlaces
+pub mod KeptSuperblocks
 pub mod HeldPlaces
 pub mod FileLists
+pub mod MarkedBlocks
+pub mod PlacedLists
+pub mod OwnBlocks
 pub mod PlacedEntries
 pub mod ReachedDirectories
+pub mod DirectoryNumbers
+pub mod ReachedBeginnings
+pub mod DirectoryTrees
 pub mod ReachedAddresses
 pub mod NamesBehindNames
+pub mod SortedNames
+mod EntrySlots
 pub mod Branches
 pub mod OutsideProfile
 pub mod ProfileCauses
 pub mod Counts
 pub mod Reordered
 pub mod Judged
+pub mod WithoutAttributes
+pub mod KeptAccepted
 mod Placing
 pub mod ExcerptsAlike
 pub mod AcceptedAlike

@@ -1,15 +1,16 @@
 -- The entries of a pair and of a directory, by their places.
-use Rattle.std.proofs.Common.{ℕ, zero, suc, ◌≡◌, ◌+◌, ◌<◌, ◌≤◌, ◌==◌, ◌&&◌, ◌∙◌, ⊎_elim, Bool, true, false, not, cond, List, [], ◌∷◌, ◌++◌, length, map, filter, flat_map, drop, get_or, Option, Some, None, refl, sym, ap, arith, append-nil, append_assoc}
+use Rattle.std.proofs.Common.{ℕ, zero, suc, ◌≡◌, ◌+◌, ◌<◌, ◌≤◌, ◌==◌, ◌&&◌, ◌∙◌, ◌⊎◌, inl, inr, subst, ⊎_elim, Bool, true, false, not, cond, List, [], ◌∷◌, ◌++◌, length, map, filter, flat_map, drop, get_or, Option, Some, None, refl, sym, ap, arith, append-nil, append_assoc}
 use Rattle.std.specs.Prelude.{IsSome, is_some, slice_get}
 use Rattle.std.specs.List.{remove}
 use Rattle.std.specs.Option.{option_and_then}
 use Rattle.std.proofs.lemmas.Bool.Decides.{eqb_tells}
 use Rattle.std.proofs.lemmas.List.{length-map, map-append}
+use Rattle.std.proofs.lemmas.List.Elements.{All-append, All-cons, All-nil, All-same}
 use Rattle.std.proofs.lemmas.Option.{same_Some, slice_get_within}
 use Rattle.lfs_model.specs.Slots.{Gstate, Slot, is_superblock, pair_address_of_array, same_pair}
 use Rattle.lfs_model.specs.Thread.{Pair, entries_not_moved, gstate_of_pairs, id_of_moved_slot_in_pair, is_hard_tail}
 use Rattle.lfs_lookup.specs.Listed.{hard_tail_joined_pairs}
-use Rattle.lfs_tool.specs.EntryPlaces.{ArePlacesOfEntries, entries_from_pair, entry_slots_from, is_unmoved_entry_slot, slot_at_place, slots_at_places}
+use Rattle.lfs_tool.specs.EntryPlaces.{ArePlacesJoinedByHardTails, ArePlacesOfEntries, IsPairJoinedByHardTails, entries_from_pair, entry_slots_from, is_unmoved_entry_slot, slot_at_place, slots_at_places}
 use Rattle.lfs_tool.specs.OwnedSlotView.{owned_pair_view, owned_pairs_view}
 use Rattle.lfs_tool.specs.SlotsInThread.{IsSlotOfPairInThread}
 use Rattle.lfs_tool.specs.declared.findings.NamedSlot.{NamedSlot}
@@ -138,6 +139,34 @@ pub walked_to_soft_tail : (ps : List Pair) (i : ℕ) (p : Pair) (olds news : Lis
     ArePlacesOfEntries ps news all
 walked_to_soft_tail ps i p olds news all there soft more before =
     walked_all ps news (cond (is_hard_tail p.content.tail) (entries_from_pair ps (i + 1)) []) all (ap (λ b. cond b (entries_from_pair ps (i + 1)) []) soft) (walked_on ps i p olds news all there more before)
+
+-- ---- the pairs of a directory
+
+-- one place more is in such a pair
+pub one_place_joined : (ps : List Pair) (first : ℕ) (place : EntryPlace) (b : Bool) (olds news : List EntryPlace) → IsPairJoinedByHardTails ps first place.pair → news ≡ olds ++ cond b (place ∷ []) [] → ArePlacesJoinedByHardTails ps first olds →
+    ArePlacesJoinedByHardTails ps first news
+one_place_joined ps first place b olds news own are before =
+    All-same (λ (w : EntryPlace). IsPairJoinedByHardTails ps first w.pair) news (olds ++ cond b (place ∷ []) []) are (All-append (λ (w : EntryPlace). IsPairJoinedByHardTails ps first w.pair) olds (cond b (place ∷ []) []) before (go b))
+  where
+    go : (b : Bool) → ArePlacesJoinedByHardTails ps first (cond b (place ∷ []) [])
+    go true = All-cons (λ (w : EntryPlace). IsPairJoinedByHardTails ps first w.pair) place [] own (All-nil (λ (w : EntryPlace). IsPairJoinedByHardTails ps first w.pair))
+    go false = All-nil (λ (w : EntryPlace). IsPairJoinedByHardTails ps first w.pair)
+
+-- a hard tail joins the next pair
+pub joined_on : (ps : List Pair) (first i : ℕ) (p : Pair) → slice_get ps i ≡ Some p → is_hard_tail p.content.tail ≡ true → IsPairJoinedByHardTails ps first i → IsPairJoinedByHardTails ps first (i + 1)
+joined_on ps first i p there hard before = record { from = let from = before.from in omega arith; hard = λ k q l m at. go k q l at (before_or_there k i (omega arith)) }
+  where
+    go : (k : ℕ) (q : Pair) → first ≤ k → slice_get ps k ≡ Some q → (k < i) ⊎ (k ≡ i) → is_hard_tail q.content.tail ≡ true
+    go k q l at (inl less) = before.hard k q l less at
+    go k q l at (inr same) =
+        let one : p ≡ q = same_Some p q (sym there ∙ ap (slice_get ps) (sym same) ∙ at) in
+        subst (λ (z : Pair). is_hard_tail z.content.tail ≡ true) one hard
+
+    before_or_there : (a b : ℕ) → a < b + 1 → (a < b) ⊎ (a ≡ b)
+    before_or_there zero zero k = inr refl
+    before_or_there zero (suc b) k = inl (omega arith)
+    before_or_there (suc a) zero k = absurd (omega arith)
+    before_or_there (suc a) (suc b) k = ⊎_elim (λ x. inl (omega arith)) (λ x. inr (ap suc x)) (before_or_there a b (omega arith))
 
 -- ---- the slot at a place
 

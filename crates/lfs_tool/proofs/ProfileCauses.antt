@@ -1,19 +1,20 @@
 -- What of an image isn't in the writing profile, from its pairs without attributes.
-use Rattle.std.proofs.Common.{ℕ, zero, suc, ◌≡◌, ◌+◌, ◌<◌, ◌≤◌, ◌∙◌, ◌&&◌, ◌⊎◌, inl, inr, Bool, false, cond, List, [], ◌∷◌, length, map, take, drop, Some, refl, sym, ap, ap₂, subst, arith}
+use Rattle.std.proofs.Common.{ℕ, zero, suc, ◌≡◌, ◌+◌, ◌<◌, ◌≤◌, ◌∙◌, ◌⊎◌, inl, inr, Bool, false, List, [], ◌∷◌, length, map, take, drop, Some, refl, sym, ap, subst, arith}
 use Rattle.std.specs.Prelude.{All, slice_get, slice_index_or}
 use Rattle.std.proofs.lemmas.Bool.{cases_lt}
-use Rattle.std.proofs.lemmas.List.{drop-map, drop_all, get_or-map, length-map, take-append-drop}
+use Rattle.std.proofs.lemmas.List.{drop-map, drop_all, take-append-drop}
 use Rattle.std.proofs.lemmas.List.Elements.{All-append, All-cons, All-nil, All-weaker}
 use Rattle.std.proofs.lemmas.Option.{get_or_from_slice_get, same_Some, slice_get_within}
 use Rattle.lfs_model.specs.Disk.{Disk, inline_limit}
 use Rattle.lfs_model.specs.Profile.{AreNoEmptyPairsAfterHardTails, IsWritableImage}
 use Rattle.lfs_model.specs.Slots.{Slot}
-use Rattle.lfs_model.specs.Thread.{Pair, has_no_slot_or_only_superblock, has_superblock_in_first_nonempty_pair, is_hard_tail, may_superblock_chain_continue_after_pair, pair_count_before_root, pairs_from_root_directory_on, starts_with_superblock, starts_with_superblock_or_default_without_slots}
+use Rattle.lfs_model.specs.Thread.{Pair, is_hard_tail, pair_count_before_root, pairs_from_root_directory_on, starts_with_superblock}
 use Rattle.lfs_model.specs.View.{HasSuperblockWithInlineBytesIfAnySlot, IsAcceptedImage, IsFileOrDirectoryEntry, first_pair_slots}
 use Rattle.lfs_model.proofs.Superblocks.{entry_is_other}
 use Rattle.lfs_lookup.specs.Profile.{HasSuperblockStructOf24Bytes}
 use Rattle.lfs_tool.specs.OutsideProfile.{HasInlineBytesWithinLimitIfEntry, HasWrittenLimitsIfSuperblock, IsEntrySlotWithLongInlineBytes, IsSuperblockSlotWithOtherLimits, IsTrueOfAllSlots, IsTrueOfSlotInThread}
 use Rattle.lfs_tool.specs.OwnedSlots.{pair_without_attributes, pairs_without_attributes, slot_without_attributes}
+use Rattle.lfs_tool.proofs.WithoutAttributes.{of_each, root_number_alike}
 use Rattle.lfs_tool.specs.WritingProfiles.{ArePairsAndEntriesSmallEnough, IsEmptyPairAfterHardTail, IsEntryWithLongInlineBytes, IsSuperblockWithOtherLimits}
 
 -- ---- superblocks have 24 bytes
@@ -45,12 +46,6 @@ before_map f [] i y e = absurd (cc)
 before_map f (x ∷ xs) zero y e = (x, (refl, same_Some (f x) y e))
 before_map f (x ∷ xs) (suc i) y e = before_map f xs i y e
 
--- P holds of what a map makes of each
-of_each : {X Y : Type 0} (f : X → Y) (P : Y → Type 0) (xs : List X) → All P (map f xs) → All (λ x. P (f x)) xs
-of_each f P xs h k d l =
-    let n = length-map xs f in
-    subst P (get_or-map f xs k d (f d) l) (h k (f d) (omega (arith, n, l)))
-
 -- ---- places
 
 -- a slot without attributes is one of the slots with them
@@ -74,29 +69,8 @@ long_inline disk ps limit at id e found =
 
 -- ---- the root's number
 
-starts_alike : (slots : List Slot) (a b : Bool) → a ≡ b → starts_with_superblock_or_default_without_slots (map slot_without_attributes slots) a ≡ starts_with_superblock_or_default_without_slots slots b
-starts_alike [] a b e = e
-starts_alike (s ∷ slots) a b e = refl
-
-meets_alike : (ps : List Pair) → has_superblock_in_first_nonempty_pair (pairs_without_attributes ps) ≡ has_superblock_in_first_nonempty_pair ps
-meets_alike [] = refl
-meets_alike (p ∷ ps) =
-    starts_alike p.content.slots (is_hard_tail p.content.tail && has_superblock_in_first_nonempty_pair (pairs_without_attributes ps)) (is_hard_tail p.content.tail && has_superblock_in_first_nonempty_pair ps)
-    (ap (λ b. is_hard_tail p.content.tail && b) (meets_alike ps))
-
-alone_alike : (slots : List Slot) → has_no_slot_or_only_superblock (map slot_without_attributes slots) ≡ has_no_slot_or_only_superblock slots
-alone_alike [] = refl
-alone_alike (s ∷ []) = refl
-alone_alike (s ∷ t ∷ slots) = refl
-
-root_alike : (ps : List Pair) → pair_count_before_root (pairs_without_attributes ps) ≡ pair_count_before_root ps
-root_alike [] = refl
-root_alike (p ∷ ps) =
-    let goes : may_superblock_chain_continue_after_pair (pair_without_attributes p) ≡ may_superblock_chain_continue_after_pair p = ap (λ b. b && is_hard_tail p.content.tail) (alone_alike p.content.slots) in
-    ap₂ (λ b n. cond b (1 + n) 0) (ap₂ (λ a b. a && b) (meets_alike ps) goes) (root_alike ps)
-
 pub root_number : (ps qs : List Pair) → qs ≡ pairs_without_attributes ps → pair_count_before_root ps ≡ pair_count_before_root qs
-root_number ps qs e = sym (ap pair_count_before_root e ∙ root_alike ps)
+root_number ps qs e = sym (ap pair_count_before_root e ∙ root_number_alike ps)
 
 -- the root directory's first pair is one of them
 pub root_below : (disk : Disk) (ps : List Pair) → IsAcceptedImage disk ps → pair_count_before_root ps < length ps
@@ -117,7 +91,7 @@ empty_pair ps at found =
     let (before, (first, same)) = before_map pair_without_attributes ps found.index found.before found.first in
     let (pair, (next, alike)) = before_map pair_without_attributes ps (found.index + 1) found.pair found.next in
     let root = found.root in
-    let number = root_alike ps in
+    let number = root_number_alike ps in
     record {
       index = found.index;
       before = before;
@@ -137,7 +111,7 @@ filled after (p ∷ ps) h = ((λ e none. h.0 e (ap (map slot_without_attributes)
 filled_from_root : (ps : List Pair) → AreNoEmptyPairsAfterHardTails false (pairs_from_root_directory_on (pairs_without_attributes ps)) → AreNoEmptyPairsAfterHardTails false (pairs_from_root_directory_on ps)
 filled_from_root ps h =
     filled false (drop (pair_count_before_root ps) ps)
-    (subst (AreNoEmptyPairsAfterHardTails false) (ap (λ n. drop n (pairs_without_attributes ps)) (root_alike ps) ∙ drop-map pair_without_attributes (pair_count_before_root ps) ps) h)
+    (subst (AreNoEmptyPairsAfterHardTails false) (ap (λ n. drop n (pairs_without_attributes ps)) (root_number_alike ps) ∙ drop-map pair_without_attributes (pair_count_before_root ps) ps) h)
 
 -- ---- nothing else
 

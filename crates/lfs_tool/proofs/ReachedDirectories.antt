@@ -3,6 +3,7 @@ use Rattle.std.proofs.Common.{ℕ, ◌≡◌, ◌+◌, ◌&&◌, ◌-◌, ◌<�
 use Rattle.std.specs.Prelude.{slice_get}
 use Rattle.std.specs.Option.{option_and_then}
 use Rattle.std.proofs.lemmas.List.Elements.{All-cons, All-nil, All-same}
+use Rattle.std.proofs.lemmas.Option.{same_Some}
 use Rattle.lfs_model.specs.Names.{Name, same_name}
 use Rattle.lfs_model.specs.Slots.{Gstate, Slot, pair_address_of_array, same_pair}
 use Rattle.lfs_model.specs.Thread.{IsAddressOfDirectoryFirstPair, Pair, ThreadDirectory, directories_of_pairs, directories_with_pair_prepended, entries_not_moved, entries_of_directory, first_pair_address, gstate_of_pairs, is_hard_tail, pair_count_before_root, root_directory_address_of_pairs}
@@ -14,8 +15,10 @@ use Rattle.lfs_model.proofs.Sites.{IsTrueOfSomeElement, among_from, any_from}
 use Rattle.lfs_model.proofs.Walks.{leads_below}
 use Rattle.lfs_lookup.specs.Listed.{hard_tail_joined_pairs}
 use Rattle.lfs_tool.specs.EntryPlaces.{AreEntryPlacesOfReachedDirectory, AreNeighboursInReachedDirectory, ArePlacesOfEntries, entries_from_pair, slot_at_place}
+use Rattle.lfs_tool.specs.KeptRules.{BeginsDirectoryWithPair, IsFirstPairOfDirectory}
 use Rattle.lfs_tool.specs.ReachedDirectories.{AreReachedDirectories, IsReachedDirectory, LeadsEntryTo}
 use Rattle.lfs_tool.specs.declared.entry_places.EntryPlace.{EntryPlace}
+use Rattle.lfs_tool.specs.declared.reached_directories.DirectoryEntry.{DirectoryEntry}
 use Rattle.lfs_tool.specs.declared.reached_directories.ReachedDirectory.{ReachedDirectory}
 use Rattle.lfs_tool.proofs.PlacedEntries.{entry_at, from_there, none_from}
 
@@ -62,6 +65,10 @@ first_entries g (p ∷ ps) =
 pub root_address : (ps : List Pair) (root : ℕ) (p : Pair) → root ≡ pair_count_before_root ps → slice_get ps root ≡ Some p → root_directory_address_of_pairs ps ≡ p.at
 root_address ps root p e there = ap (λ n. first_pair_address (drop n ps)) (sym e) ∙ ap first_pair_address (from_there ps root p there)
 
+-- the root's first pair begins a directory
+pub root_begins : (ps : List Pair) (root : ℕ) → root ≡ pair_count_before_root ps → BeginsDirectoryWithPair ps root
+root_begins ps root e = record { from_root = omega arith; soft = λ i p l on at. absurd (omega arith) }
+
 -- the root directory is reached by the empty path
 pub root_reached : (ps : List Pair) (root : ℕ) (at : List ℕ) (p : Pair) → root ≡ pair_count_before_root ps → slice_get ps root ≡ Some p → p.at ≡ pair_address_of_array at →
     IsReachedDirectory ps (record { first = root; at = at; entry = None })
@@ -71,6 +78,7 @@ root_reached ps root at p e there same =
       path = [];
       reached = ap (λ a. Some a) is;
       entries = ap (entries_by_directory_in_thread ps) (sym is) ∙ first_entries (gstate_of_pairs ps) (drop (pair_count_before_root ps) ps) ∙ ap (entries_from_pair ps) (sym e);
+      begins = record { pair = p; there = there; same = subst (λ (x : ℕ × ℕ). same_pair p.at x ≡ true) same (pair_itself p.at); begins = root_begins ps root e };
       by = refl;
     }
 
@@ -78,13 +86,23 @@ root_reached ps root at p e there same =
 pub root_alone : (ps : List Pair) (root : ℕ) (at : List ℕ) (p : Pair) (ds : List ReachedDirectory) → root ≡ pair_count_before_root ps → slice_get ps root ≡ Some p → p.at ≡ pair_address_of_array at →
     ds ≡ record { first = root; at = at; entry = None } ∷ [] → AreReachedDirectories ps 0 ds
 root_alone ps root at p ds e there same are =
-    let d : ReachedDirectory = record { first = root; at = at; entry = None } in
     let is : root_directory_address_of_pairs ps ≡ pair_address_of_array at = root_address ps root p e there ∙ same in
     record {
-      root = (0, d, (ap (λ xs. slice_get xs 0) are, subst (λ (x : ℕ × ℕ). same_pair x (root_directory_address_of_pairs ps) ≡ true) is (pair_itself (root_directory_address_of_pairs ps))));
-      reached = All-same (IsReachedDirectory ps) ds (d ∷ []) are (All-cons (IsReachedDirectory ps) d [] (root_reached ps root at p e there same) (All-nil (IsReachedDirectory ps)));
+      root = (0, d, (ap (λ xs. slice_get xs 0) are, subst (λ (x : ℕ × ℕ). same_pair x (root_directory_address_of_pairs ps) ≡ true) is (pair_itself (root_directory_address_of_pairs ps)), refl));
+      reached = record {
+        reached = All-same (IsReachedDirectory ps) ds (d ∷ []) are (All-cons (IsReachedDirectory ps) d [] (root_reached ps root at p e there same) (All-nil (IsReachedDirectory ps)));
+        entries = λ i x entry at_i by. absurd (no_entry i x entry (ap (λ xs. slice_get xs i) (sym are) ∙ at_i) by);
+      };
       closed = λ i x l at_i. absurd (omega arith);
+      neighbours = λ i x l at_i. absurd (omega arith);
     }
+  where
+    d : ReachedDirectory
+    d = record { first = root; at = at; entry = None }
+
+    no_entry : (i : ℕ) (x : ReachedDirectory) (entry : DirectoryEntry) → slice_get (d ∷ []) i ≡ Some x → x.entry ≡ Some entry → ⊥
+    no_entry zero x entry at_i by = absurd (let f : d ≡ x = same_Some d x at_i in let g : None ≡ Some entry = ap (λ (z : ReachedDirectory). z.entry) f ∙ by in cc)
+    no_entry (suc i) x entry at_i by = absurd (cc)
 
 -- two neighbours in such a directory
 pub neighbours_reached : (ps : List Pair) (places : List EntryPlace) (i : ℕ) (d : EntryPlace) → AreEntryPlacesOfReachedDirectory ps places → 1 ≤ i → i < length places → AreNeighboursInReachedDirectory ps (get_or places (i - 1) d) (get_or places i d)
@@ -116,7 +134,7 @@ entry_leads ps parent place path s to reached first there branch = (
 )
 
 -- the directories from a pair on
-from_pair : (g : Gstate) (ps : List Pair) (i : ℕ) (p : Pair) → slice_get ps i ≡ Some p →
+pub from_pair : (g : Gstate) (ps : List Pair) (i : ℕ) (p : Pair) → slice_get ps i ≡ Some p →
     directories_of_pairs g (drop i ps) ≡ listing p.at (flat_map (entries_not_moved g) (hard_tail_joined_pairs (p ∷ drop (i + 1) ps))) ∷ directories_behind (is_hard_tail p.content.tail) (directories_of_pairs g (drop (i + 1) ps))
 from_pair g ps i p there = ap (directories_of_pairs g) (from_there ps i p there) ∙ first_directory g p (drop (i + 1) ps)
 
@@ -154,6 +172,27 @@ search_goes_on ps at begins next i p there other is before =
         ≡ entries_of_directory (directories_behind (not (not b)) (directories_of_pairs (gstate_of_pairs ps) (drop (i + 1) ps))) at
     go true = refl
     go false = refl
+
+-- ---- with which pair a directory begins
+
+-- the pair behind one without a hard tail
+pub behind_soft_begins : (ps : List Pair) (next : Bool) (i : ℕ) (p : Pair) → pair_count_before_root ps ≤ i → slice_get ps i ≡ Some p → next ≡ not (is_hard_tail p.content.tail) → next ≡ true → BeginsDirectoryWithPair ps (i + 1)
+behind_soft_begins ps next i p l there is begins = record {
+  from_root = omega arith;
+  soft = λ k q m on at.
+      let same : k ≡ i = omega arith in
+      let one : p ≡ q = same_Some p q (sym there ∙ ap (slice_get ps) (sym same) ∙ at) in
+      subst (λ (z : Pair). is_hard_tail z.content.tail ≡ false) one (soft (is_hard_tail p.content.tail) (sym is ∙ begins));
+}
+  where
+    soft : (b : Bool) → not b ≡ true → b ≡ false
+    soft true e = absurd (cc)
+    soft false e = refl
+
+-- the first pair of the directory at an address
+pub first_pair_found : (ps : List Pair) (at : ℕ × ℕ) (begins : Bool) (i : ℕ) (p : Pair) → slice_get ps i ≡ Some p → (begins && same_pair p.at at) ≡ true → (begins ≡ true → BeginsDirectoryWithPair ps i) → IsFirstPairOfDirectory ps i at
+first_pair_found ps at false i p there same may = absurd (cc)
+first_pair_found ps at true i p there same may = record { pair = p; there = there; same = same; begins = may refl }
 
 -- ---- where no directory begins
 
@@ -210,7 +249,7 @@ AreDirectoriesFromPairOn ps begins i = (k : ℕ) × (drop k (directories_in_thre
 pub directories_begin : (ps : List Pair) (root : ℕ) → root ≡ pair_count_before_root ps → AreDirectoriesFromPairOn ps true root
 directories_begin ps root e = (0, ap (λ n. directories_of_pairs (gstate_of_pairs ps) (drop n ps)) (sym e))
 
-first_of_rest : {X : Type 0} (xs : List X) (k : ℕ) (x : X) (rest : List X) → drop k xs ≡ x ∷ rest → (slice_get xs k ≡ Some x) × (drop (k + 1) xs ≡ rest)
+pub first_of_rest : {X : Type 0} (xs : List X) (k : ℕ) (x : X) (rest : List X) → drop k xs ≡ x ∷ rest → (slice_get xs k ≡ Some x) × (drop (k + 1) xs ≡ rest)
 first_of_rest [] zero x rest e = absurd (cc)
 first_of_rest [] (suc k) x rest e = absurd (cc)
 first_of_rest (y ∷ xs) zero x rest e = (let f : y ≡ x = cc in ap (λ z. Some z) f, (let f : xs ≡ rest = cc in f))

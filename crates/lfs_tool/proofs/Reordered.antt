@@ -1,6 +1,5 @@
 -- A finding says the same of a disk with its names in another order.
 use Rattle.std.proofs.Common.{ℕ, inl, inr, List, Option, Some, None, subst, ◌≡◌}
-use Rattle.std.specs.Prelude.{IfSome}
 use Rattle.lfs_device.specs.Shown.{disk_with_name_order}
 use Rattle.lfs_model.specs.Disk.{Disk}
 use Rattle.lfs_model.specs.Thread.{Pair}
@@ -53,8 +52,7 @@ found d o f (inr (ps, (h, broken))) =
     let same : BreaksRuleOfFinding (disk_with_name_order o d) (pairs_without_attributes ps) f = broken in
     inr (ps, (begins d o ps None h, same))
 
-pub found_alike : (d e : Disk) (o : NameOrder) (some : Option Finding) → disk_with_name_order o d ≡ disk_with_name_order o e → IfSome some (IsTrueFindingOfDisk d) → IfSome some (IsTrueFindingOfDisk e)
-found_alike d e o None is h = tt
-found_alike d e o (Some f) is h =
+pub found_alike : (d e : Disk) (o : NameOrder) (f : Finding) → disk_with_name_order o d ≡ disk_with_name_order o e → IsTrueFindingOfDisk d f → IsTrueFindingOfDisk e f
+found_alike d e o f is h =
     let there = subst (λ x. IsTrueFindingOfDisk x f) is (found d o f h) in
     found (disk_with_name_order o e) e.order f there

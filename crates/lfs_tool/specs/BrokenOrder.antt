@@ -49,6 +49,10 @@ IsNameOutOfOrder ps name = IsNameBehindNameInDirectory AreNamesInNoOrder ps name
 abbrev pub AreNamesInOneOrder : NameOrder → NameOrder → Name → Name → Type 0
 AreNamesInOneOrder order other earlier later = (name_cmp order earlier later ≡ Less) × AreNamesNotInOrder other earlier later
 
+-- where the later one comes behind the earlier one in an order of names, it does so in the other one too
+abbrev pub AreNamesInOtherOrderToo : NameOrder → NameOrder → Name → Name → Type 0
+AreNamesInOtherOrderToo order other earlier later = name_cmp order earlier later ≡ Less → name_cmp other earlier later ≡ Less
+
 -- two neighbours whose names are in the order with shorter names first alone, and two whose names are in the other one alone
 abbrev pub AreNamesInTwoOrders : List Pair → NameBehindName → NameBehindName → Type 0
 AreNamesInTwoOrders ps shorter longer =

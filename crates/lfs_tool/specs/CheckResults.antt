@@ -21,7 +21,6 @@ abbrev pub IsReasonForRefusedBytes : ℕ → ℕ → List ℕ → RefusalReason 
 IsReasonForRefusedBytes block_size page image (reason.WrongNumber stated) = IsWrongNumberInImageBytes image block_size stated
 IsReasonForRefusedBytes block_size page image reason.NoImage = ¬ IsImageOfWholeBlocks block_size page image
 IsReasonForRefusedBytes block_size page image (reason.Broken finding) = IsTrueOfDiskOfImage block_size page image (λ disk. IsTrueFindingOfDisk disk finding)
-IsReasonForRefusedBytes block_size page image reason.Other = IsImageOfWholeBlocks block_size page image
 
 -- the sizes are those that were given; there are so many whole blocks, unless the bytes are more than an image may have
 pub record AreReportedSizesThoseGivenToCheck (block_size page : ℕ) (image : List ℕ) (given : GivenSizes) : Type 0 where

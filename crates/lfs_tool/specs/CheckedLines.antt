@@ -156,7 +156,6 @@ abbrev pub unaccepted_reason_text : GivenSizes → RefusalReason → List ℕ
 unaccepted_reason_text given (reason.WrongNumber stated) = wrong_superblock_number_text given stated
 unaccepted_reason_text given reason.NoImage = no_image_text given
 unaccepted_reason_text given (reason.Broken finding) = finding_text given finding
-unaccepted_reason_text given reason.Other = codes "no single rule was found"
 
 abbrev pub check_result_text : CheckResult → List ℕ
 check_result_text (checked.Accepted summary orders) = summary_text summary orders

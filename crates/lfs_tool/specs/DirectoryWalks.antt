@@ -3,7 +3,7 @@ use Rattle.std.specs.Prelude.{ℕ, ◌+◌, List, Option, Some, None}
 use Rattle.lfs_model.specs.Disk.{Disk}
 use Rattle.lfs_model.specs.Thread.{Pair}
 use Rattle.lfs_tool.specs.BrokenRules.{BreaksRuleOfFinding}
-use Rattle.lfs_tool.specs.ReachedDirectories.{AreAllReachedDirectories, AreReachedDirectories}
+use Rattle.lfs_tool.specs.ReachedDirectories.{AreDirectoriesReachedOnce, AreReachedDirectories}
 use Rattle.lfs_tool.specs.declared.directory_walk.WalkedDirectories.{WalkedDirectories}
 use Rattle.lfs_tool.specs.declared.directory_walk.WalkedDirectories.TheVariants as walked
 use Rattle.lfs_tool.specs.declared.findings.Finding.{Finding}
@@ -18,7 +18,7 @@ abbrev pub IsFindingOrNextDirectoryDone : List Pair → ℕ → List ReachedDire
 IsFindingOrNextDirectoryDone ps next ds (Some f) = IsTrueFindingOfPairs ps f
 IsFindingOrNextDirectoryDone ps next ds None = AreReachedDirectories ps (next + 1) ds
 
--- all directories to which paths lead, or what is wrong
-abbrev pub AreAllReachedDirectoriesOrFinding : List Pair → WalkedDirectories → Type 0
-AreAllReachedDirectoriesOrFinding ps (walked.Whole reached) = AreAllReachedDirectories ps reached.all.items
-AreAllReachedDirectoriesOrFinding ps (walked.Broken f) = IsTrueFindingOfPairs ps f
+-- all directories to which paths lead, each by one entry, or what is wrong
+abbrev pub AreDirectoriesReachedOnceOrFinding : List Pair → WalkedDirectories → Type 0
+AreDirectoriesReachedOnceOrFinding ps (walked.Whole reached) = AreDirectoriesReachedOnce ps reached.all.items
+AreDirectoriesReachedOnceOrFinding ps (walked.Broken f) = IsTrueFindingOfPairs ps f

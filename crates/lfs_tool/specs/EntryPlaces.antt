@@ -1,11 +1,11 @@
 -- The entries of directories, by their places in the pairs of a thread.
-use Rattle.std.specs.Prelude.{ℕ, ◌≡◌, ◌+◌, ◌==◌, ◌&&◌, Bool, false, not, if◌then◌else◌, List, [], ◌∷◌, map, drop, slice_get, Option, Some, None}
+use Rattle.std.specs.Prelude.{ℕ, ◌≡◌, ◌+◌, ◌<◌, ◌≤◌, ◌==◌, ◌&&◌, All, Bool, true, false, not, if◌then◌else◌, List, [], ◌∷◌, map, drop, slice_get, Option, Some, None}
 use Rattle.std.specs.List.{flat_map}
 use Rattle.std.specs.Option.{option_and_then, option_map_or}
 use Rattle.lfs_model.specs.Names.{Name}
 use Rattle.lfs_model.specs.Shown.{IsPathToDirectory, entries_by_directory_in_thread}
 use Rattle.lfs_model.specs.Slots.{Slot, is_superblock, pair_address_of_array}
-use Rattle.lfs_model.specs.Thread.{Pair, gstate_of_pairs, entries_not_moved}
+use Rattle.lfs_model.specs.Thread.{Pair, gstate_of_pairs, entries_not_moved, is_hard_tail}
 use Rattle.lfs_model.specs.Tree.{Path}
 use Rattle.lfs_lookup.specs.Listed.{hard_tail_joined_pairs}
 use Rattle.lfs_tool.specs.SlotsInThread.{IsSlotOfPairInThread}
@@ -42,6 +42,10 @@ name_at_place ps place = option_map_or (λ s. s.name) (slot_at_place ps place) [
 abbrev pub IsNamedSlotAtPlace : List Pair → EntryPlace → NamedSlot → Type 0
 IsNamedSlotAtPlace ps place named = (s : Slot) × ((slot_at_place ps place ≡ Some s) × (IsSlotOfPairInThread ps (pair_address_of_array named.pair) named.slot s × (named.name.items ≡ s.name)))
 
+-- the named slot has the number of the place, and the address of its pair
+abbrev pub IsPlaceOfNamedSlot : List Pair → EntryPlace → NamedSlot → Type 0
+IsPlaceOfNamedSlot ps place named = (p : Pair) × ((slice_get ps place.pair ≡ Some p) × (p.at ≡ pair_address_of_array named.pair) × (named.slot ≡ place.slot))
+
 -- the slots at these places, in order
 abbrev pub slots_at_places : List Pair → List EntryPlace → List (Option Slot)
 slots_at_places ps places = map (slot_at_place ps) places
@@ -54,13 +58,18 @@ ArePlacesOfEntries ps places entries = slots_at_places ps places ≡ map (λ s. 
 abbrev pub entries_from_pair : List Pair → ℕ → List Slot
 entries_from_pair ps first = flat_map (entries_not_moved (gstate_of_pairs ps)) (hard_tail_joined_pairs (drop first ps))
 
+-- hard tails join the pair to the one of number `first`, before it
+pub record IsPairJoinedByHardTails (ps : List Pair) (first index : ℕ) : Type 0 where
+  pub from : first ≤ index
+  pub hard : (i : ℕ) (p : Pair) → first ≤ i → i < index → slice_get ps i ≡ Some p → is_hard_tail p.content.tail ≡ true
+
+-- the places are in such pairs
+abbrev pub ArePlacesJoinedByHardTails : List Pair → ℕ → List EntryPlace → Type 0
+ArePlacesJoinedByHardTails ps first places = All (λ place. IsPairJoinedByHardTails ps first place.pair) places
+
 -- ---- in the directories to which paths lead
 
--- such a directory is at that address
-abbrev pub IsAddressOfReachedDirectory : List Pair → ℕ × ℕ → Type 0
-IsAddressOfReachedDirectory ps at = (path : Path) × IsPathToDirectory ps path at
-
--- these are the places of the entries of such a directory
+-- these are the places of the entries of a directory to which a path leads
 pub record AreEntryPlacesOfReachedDirectory (ps : List Pair) (places : List EntryPlace) : Type 0 where
   pub path : Path
   pub at : ℕ × ℕ

@@ -115,10 +115,10 @@ ExplainsTooFewBlocks folder_of limit_of shown line e =
     IsTrueForMode line.mode (e ≡ explanation.Nothing) (e ≡ explanation.Nothing) (λ folder. ExplainsNeededBlocksOfFolder folder_of limit_of shown line folder e) (λ _. e ≡ explanation.Nothing)
 
 -- This explains the error: of sizes the rule that is broken, of an image what a check says, of too few blocks how many it takes. Of a
--- path it is the fault that the places answer. They change only where they are asked for that, at `Input` and `Output`.
+-- path it is the fault that the places answer, which are asked for it at `Input` and `Output` alone.
 abbrev pub IsExplanationOfError : {P I N F T R : Type 0} → Ghosts P I N F T R → ImageInputGhosts I → SourceGhosts F → Line → P → P → ToolError → Explanation → Type 0
-IsExplanationOfError places input source line old new (Fs fs.Invalid) e = (new ≡ old) × ExplainsBrokenSizeRule places.image_path input.remaining line e
-IsExplanationOfError places input source line old new (Fs fs.Corrupt) e = (new ≡ old) × ExplainsErrorByImageCheck places.image_path input.remaining line e
+IsExplanationOfError places input source line old new (Fs fs.Invalid) e = (places.history new ≡ places.history old) × ExplainsBrokenSizeRule places.image_path input.remaining line e
+IsExplanationOfError places input source line old new (Fs fs.Corrupt) e = (places.history new ≡ places.history old) × ExplainsErrorByImageCheck places.image_path input.remaining line e
 IsExplanationOfError places input source line old new (Fs fs.NoSpace) e = (new ≡ old) × ExplainsTooFewBlocks places.folder_path places.folder_limit source.shown line e
 IsExplanationOfError places input source line old new (Fs other) e = (new ≡ old) × (e ≡ explanation.Nothing)
 IsExplanationOfError places input source line old new Input e = IsFaultAnsweredByPlaces places old new (Ok e)
@@ -142,8 +142,8 @@ FailsToCountNeededBlocks folder_of faults shown line folder Output = ⊥
 -- folder of one whose blocks were too few. Of a fault at a path the places answer that memory wasn't granted to note it.
 abbrev pub IsErrorInsteadOfExplanation : {P I N F T R : Type 0} → Ghosts P I N F T R → ImageInputGhosts I → SourceGhosts F → Line → P → P → ToolError → ToolError → Type 0
 IsErrorInsteadOfExplanation places input source line old new (Fs fs.Invalid) e =
-    (new ≡ old) × IsTrueForMode line.mode (FailsToReadImage places.image_path input.faults line e) (FailsToReadImage places.image_path input.faults line e) (λ _. ⊥) (λ _. FailsToReadImage places.image_path input.faults line e)
-IsErrorInsteadOfExplanation places input source line old new (Fs fs.Corrupt) e = (new ≡ old) × FailsToReadImage places.image_path input.faults line e
+    (places.history new ≡ places.history old) × IsTrueForMode line.mode (FailsToReadImage places.image_path input.faults line e) (FailsToReadImage places.image_path input.faults line e) (λ _. ⊥) (λ _. FailsToReadImage places.image_path input.faults line e)
+IsErrorInsteadOfExplanation places input source line old new (Fs fs.Corrupt) e = (places.history new ≡ places.history old) × FailsToReadImage places.image_path input.faults line e
 IsErrorInsteadOfExplanation places input source line old new (Fs fs.NoSpace) e =
     (new ≡ old) × IsTrueForMode line.mode ⊥ ⊥ (λ folder. FailsToCountNeededBlocks places.folder_path source.faults source.shown line folder e) (λ _. ⊥)
 IsErrorInsteadOfExplanation places input source line old new (Fs other) e = ⊥

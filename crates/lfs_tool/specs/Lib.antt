@@ -1,11 +1,15 @@
 pub mod OwnedSlots
+pub mod KeptRules
+pub mod KeptSuperblocks
 pub mod OwnedSlotView
 pub mod ThreadBeginnings
 pub mod WrongNumbers
 pub mod SlotsInThread
+pub mod MarkedBlocks
 pub mod FileLists
 pub mod EntryPlaces
 pub mod ReachedDirectories
+pub mod SortedDirectories
 pub mod DirectoryWalks
 pub mod Moves
 pub mod BrokenLists

@@ -1,10 +1,13 @@
 -- What is read of the thread.
 use Rattle.std.specs.Prelude.{ℕ, ◌≡◌, List, Option, Some, None}
 use Rattle.lfs_model.specs.Content.{content_of_pair_at}
-use Rattle.lfs_model.specs.Disk.{Disk}
+use Rattle.lfs_model.specs.BlockSets.{BlockStateList}
+use Rattle.lfs_model.specs.Disk.{Disk, block_count}
 use Rattle.lfs_model.specs.Slots.{PairContent}
 use Rattle.lfs_model.specs.Thread.{Pair}
+use Rattle.lfs_mount.specs.Marking.{HasExactlyTheseUsedBlocks}
 use Rattle.lfs_tool.specs.Findings.{IsTrueFindingOfThread}
+use Rattle.lfs_tool.specs.KeptRules.{HasDistinctBlocksInRange}
 use Rattle.lfs_tool.specs.OwnedSlots.{pair_without_attributes, pairs_without_attributes}
 use Rattle.lfs_tool.specs.OwnedSlotView.{owned_pair_view, owned_pairs_view}
 use Rattle.lfs_tool.specs.ThreadBeginnings.{AreFirstThreadPairsUpToAddress, IsAddressNamedByThread}
@@ -30,13 +33,22 @@ abbrev pub IsNextPairOrFinding : Disk → ℕ × ℕ → ReadPair → Type 0
 IsNextPairOrFinding disk at (read.Pair held) = IsOwnedPairAtAddress disk at held
 IsNextPairOrFinding disk at (read.Broken finding) = IsTrueFindingOfThread disk finding
 
+-- where a pair was read, the map has these blocks as used, each is there once, and all others are free
+abbrev pub HasMarkedBlocksIfPair : BlockStateList → List ℕ → ReadPair → Type 0
+HasMarkedBlocksIfPair marks blocks (read.Pair held) = HasExactlyTheseUsedBlocks marks blocks
+HasMarkedBlocksIfPair marks blocks (read.Broken finding) = Unit
+
 -- these are held of the thread's first pairs
 pub record AreOwnedFirstPairsOfThread (disk : Disk) (next : Option (ℕ × ℕ)) (held : List OwnedPair) : Type 0 where
   pub pairs : List Pair
   pub begins : AreFirstThreadPairsUpToAddress disk pairs next
   pub are : owned_pairs_view held ≡ pairs_without_attributes pairs
 
+-- these are held of all pairs of the thread, whose blocks are on the disk, and none is there twice
+abbrev pub AreOwnedPairsOfThread : Disk → List OwnedPair → Type 0
+AreOwnedPairsOfThread disk held = AreOwnedFirstPairsOfThread disk None held × HasDistinctBlocksInRange (block_count disk) (owned_pairs_view held)
+
 -- all pairs of the thread, or what is wrong with it
 abbrev pub AreAllThreadPairsOrFinding : Disk → FollowedThread → Type 0
-AreAllThreadPairsOrFinding disk (followed.Whole held) = AreOwnedFirstPairsOfThread disk None held.items
+AreAllThreadPairsOrFinding disk (followed.Whole held) = AreOwnedPairsOfThread disk held.items
 AreAllThreadPairsOrFinding disk (followed.Broken finding) = IsTrueFindingOfThread disk finding

@@ -13,14 +13,36 @@ use Rattle.lfs_tool.specs.declared.old_image.OldImage.{OldImage}
 use Rattle.lfs_tool_folders.specs.Paths.{image_path}
 use Rattle.lfs_tool_folders.specs.declared.new_image.NewImage.{NewImage}
 
--- that of a file that is read
+-- ---- the file or the standard stream of an image that is read or made
+
+-- of one that is read
+abbrev pub stream_of_old_image : {R F D I : Type 0} → WatchedStream (BufReader (NotedStream (FileOrStandard (OldImage R F D) I)) Global) → FileOrStandard (OldImage R F D) I
+stream_of_old_image w = (reader_inner (watched_inner_stream w)).inner
+
+-- of one that is made
+abbrev pub stream_of_new_image : {R F D O : Type 0} → WatchedStream (NotedStream (FileOrStandard (NewImage R F D) O)) → FileOrStandard (NewImage R F D) O
+stream_of_new_image w = (watched_inner_stream w).inner
+
+-- ---- the path of a file that is read, and of an image
+
+-- of a file that is read
 abbrev pub path_of_old_image_file : {R F D : Type 0} → OldImage R F D → List ℕ
 path_of_old_image_file i = string_bytes i.path
 
--- that of an image that is read
+-- of an image that is read
 abbrev pub path_of_old_image : {R F D I : Type 0} → WatchedStream (BufReader (NotedStream (FileOrStandard (OldImage R F D) I)) Global) → List ℕ
-path_of_old_image w = path_or_dash_of_file_or_standard path_of_old_image_file (reader_inner (watched_inner_stream w)).inner
+path_of_old_image w = path_or_dash_of_file_or_standard path_of_old_image_file (stream_of_old_image w)
 
--- that of one that is made
+-- of one that is made
 abbrev pub path_of_new_image : {R F D O : Type 0} → WatchedStream (NotedStream (FileOrStandard (NewImage R F D) O)) → List ℕ
-path_of_new_image w = path_or_dash_of_file_or_standard image_path (watched_inner_stream w).inner
+path_of_new_image w = path_or_dash_of_file_or_standard image_path (stream_of_new_image w)
+
+-- ---- the path under which its faults are noted
+
+-- of one that is read
+abbrev pub noted_path_of_old_image : {R F D I : Type 0} → WatchedStream (BufReader (NotedStream (FileOrStandard (OldImage R F D) I)) Global) → List ℕ
+noted_path_of_old_image w = string_bytes (reader_inner (watched_inner_stream w)).path
+
+-- of one that is made
+abbrev pub noted_path_of_new_image : {R F D O : Type 0} → WatchedStream (NotedStream (FileOrStandard (NewImage R F D) O)) → List ℕ
+noted_path_of_new_image w = string_bytes (watched_inner_stream w).path

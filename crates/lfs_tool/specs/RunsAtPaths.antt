@@ -98,12 +98,12 @@ UnpacksImageAtPath places input target line old new folder =
     × IfSome (input.remaining i) (λ image. HasUnpackedImage line.block_size line.page image (target.done f) (target.done after))
     × IsEndOfFollowedWork (λ begins ends. IfSome (input.remaining i) (λ image. IsToldOfActionsDone (AreActionsUnpackingImage line.block_size line.page image) (target.done f) (target.done after) begins ends (Ok (tt {0})))) told)))
 
--- What the line requests is done. A listing and a check write their lines, and leave the places as they were.
+-- What the line requests is done. A listing and a check write their lines, and open nothing to be written.
 abbrev pub IsModeDone : {P I N F T R W : Type 0} → Ghosts P I N F T R → ImageInputGhosts I → ToolOutputGhosts N → SourceGhosts F → TargetGhosts T → ToolOutputGhosts W → Line → P → P → W → W → Bool → Type 0
 IsModeDone places input output source target writer line old new out_old out_new accepted =
     IsImageAcceptedUnlessModeIsCheck line.mode accepted × IsTrueForMode line.mode
-    (ListsImageAtPath places.image_path input.remaining line (writer.contents out_old) (writer.contents out_new) × ReportsWriterFaults {X = Bool} writer out_old out_new (Ok accepted) × (new ≡ old))
-    (ChecksImageAtPath places.image_path input.remaining line accepted (writer.contents out_old) (writer.contents out_new) × ReportsWriterFaults {X = Bool} writer out_old out_new (Ok accepted) × (new ≡ old))
+    (ListsImageAtPath places.image_path input.remaining line (writer.contents out_old) (writer.contents out_new) × ReportsWriterFaults {X = Bool} writer out_old out_new (Ok accepted) × (places.history new ≡ places.history old))
+    (ChecksImageAtPath places.image_path input.remaining line accepted (writer.contents out_old) (writer.contents out_new) × ReportsWriterFaults {X = Bool} writer out_old out_new (Ok accepted) × (places.history new ≡ places.history old))
     (MakesImageAtPath places output source line old new)
     (UnpacksImageAtPath places input target line old new)
 
@@ -144,10 +144,10 @@ LeavesFolderUnfinished places input target line old new folder e =
     × FailsToUnpackKnownImage line.block_size line.page (input.remaining i) (target.done f) (target.done after) e × (e ≡ Output → target.faults after ≡ suc (target.faults f))
     × IsEndOfFollowedWork (λ begins ends. IfSome (input.remaining i) (λ image. IsToldOfActionsDone {X = Unit {0}} (AreActionsUnpackingImage line.block_size line.page image) (target.done f) (target.done after) begins ends (Err e))) told)))
 
--- What the line requests isn't done. A listing and a check leave the places as they were.
+-- What the line requests isn't done. A listing and a check open nothing to be written.
 abbrev pub LeavesModeUndone : {P I N F T R : Type 0} → Ghosts P I N F T R → ImageInputGhosts I → ToolOutputGhosts N → SourceGhosts F → TargetGhosts T → Line → P → P → ToolError → Type 0
 LeavesModeUndone places input output source target line old new e =
-    IsTrueForMode line.mode (new ≡ old) (new ≡ old) (λ folder. LeavesNoNewImage places output source line old new folder e) (λ folder. LeavesFolderUnfinished places input target line old new folder e)
+    IsTrueForMode line.mode (places.history new ≡ places.history old) (places.history new ≡ places.history old) (λ folder. LeavesNoNewImage places output source line old new folder e) (λ folder. LeavesFolderUnfinished places input target line old new folder e)
 
 -- ---- when an error comes
 

@@ -1,5 +1,5 @@
 -- What the path of an image names: a file, or for `-` a standard stream.
-use Rattle.std.specs.Prelude.{ℕ, Bool, true, false, if◌then◌else◌, List, [], Option, codes, option_and_then}
+use Rattle.std.specs.Prelude.{ℕ, ◌≡◌, Bool, true, false, if◌then◌else◌, List, [], None, Option, codes, option_and_then}
 use Rattle.std.specs.Str.{bytes_eq}
 use Rattle.lfs_tool.specs.declared.file_or_standard.FileOrStandard.{FileOrStandard}
 use Rattle.lfs_tool.specs.declared.file_or_standard.FileOrStandard.TheVariants.{File, Standard}
@@ -16,6 +16,11 @@ is_standard_stream (Standard s) = true
 abbrev pub path_or_dash_of_file_or_standard : {F S : Type 0} → (F → List ℕ) → FileOrStandard F S → List ℕ
 path_or_dash_of_file_or_standard of_file (File f) = if is_path_of_standard_stream (of_file f) then [] else of_file f
 path_or_dash_of_file_or_standard of_file (Standard s) = codes "-"
+
+-- A standard stream is the one that was there before, and is there no more. Where it is a file, the stream stays there.
+abbrev pub IsStandardStreamTaken : {F S : Type 0} → Option S → Option S → FileOrStandard F S → Type 0
+IsStandardStreamTaken old new (File f) = new ≡ old
+IsStandardStreamTaken old new (Standard s) = (s ≡ old) × (new ≡ None)
 
 -- the bytes of the file or the stream, where they are known
 abbrev pub bytes_of_file_or_standard : {F S : Type 0} → (F → Option (List ℕ)) → (S → Option (List ℕ)) → FileOrStandard F S → Option (List ℕ)

@@ -1,12 +1,12 @@
 -- What a verdict means for a disk.
-use Rattle.std.specs.Prelude.{List, IfSome}
+use Rattle.std.specs.Prelude.{List}
 use Rattle.lfs_device.specs.Shown.{disk_with_name_order}
 use Rattle.lfs_model.specs.Disk.{Disk}
 use Rattle.lfs_model.specs.Thread.{Pair}
 use Rattle.lfs_model.specs.View.{IsAcceptedImage}
 use Rattle.lfs_model.specs.declared.order.NameOrder.{NameOrder}
 use Rattle.lfs_tool.specs.Findings.{IsTrueFindingOfDisk}
-use Rattle.lfs_tool.specs.ImageSummaries.{HasAcceptedNameOrders, HasImageSummary}
+use Rattle.lfs_tool.specs.ImageSummaries.{HasAcceptedNameOrders, HasImageSummary, IsAcceptedInNameOrder}
 use Rattle.lfs_tool.specs.declared.verdict.AcceptedOrders.{AcceptedOrders}
 use Rattle.lfs_tool.specs.declared.verdict.ImageSummary.{ImageSummary}
 use Rattle.lfs_tool.specs.declared.verdict.ImageVerdict.{ImageVerdict}
@@ -24,7 +24,11 @@ pub record IsAcceptedWithSummary (disk : Disk) (summary : ImageSummary) (orders 
 abbrev pub IsAcceptedInNoNameOrder : Disk → Type 0
 IsAcceptedInNoNameOrder disk = (order : NameOrder) (ps : List Pair) → ¬ IsAcceptedImage (disk_with_name_order order disk) ps
 
--- accepted, and with what; or refused, and the rule that is broken there, if a finding has one
+-- it is accepted in one of them
+abbrev pub IsAcceptedInSomeNameOrder : Disk → Type 0
+IsAcceptedInSomeNameOrder disk = (order : NameOrder) × IsAcceptedInNameOrder order disk
+
+-- accepted, and with what; or refused, and the rule that is broken there
 abbrev pub IsVerdictOnDisk : Disk → ImageVerdict → Type 0
 IsVerdictOnDisk disk (verdict.Accepted summary orders) = IsAcceptedWithSummary disk summary orders
-IsVerdictOnDisk disk (verdict.Refused found) = IsAcceptedInNoNameOrder disk × IfSome found (IsTrueFindingOfDisk disk)
+IsVerdictOnDisk disk (verdict.Refused finding) = IsAcceptedInNoNameOrder disk × IsTrueFindingOfDisk disk finding

@@ -1,24 +1,26 @@
 // Where the entries of a directory lead.
 
-ghost use Rattle.std.specs.Prelude.{◌≡◌, ◌≢◌, ◌⊎◌, All, IfOk, IfSome, IsSome, None, Some, false};
+ghost use Rattle.std.specs.Prelude.{◌≡◌, ◌≢◌, ◌⊎◌, IfOk, IfSome, IsSome, None, Ok, Some, false, length, nat_eq, true};
+ghost use Rattle.std.specs.List.{Contains, IsDistinct};
 ghost use Rattle.std.specs.Option.{option_map};
 ghost use Rattle.lfs_model.specs.Disk.{Disk};
 ghost use Rattle.lfs_model.specs.Names.{same_name};
 ghost use Rattle.lfs_model.specs.Shown.{entries_by_directory_in_thread};
 ghost use Rattle.lfs_model.specs.Slots.{pair_address_of_array};
-ghost use Rattle.lfs_model.specs.Thread.{pair_count_before_root};
+ghost use Rattle.lfs_model.specs.Thread.{blocks_of_pairs, pair_count_before_root};
 ghost use Rattle.lfs_model.specs.Tree.{branch_address_of_struct, entry_of_name};
 ghost use Rattle.lfs_tool.specs.BrokenRules.{BreaksRuleOfFinding};
-ghost use Rattle.lfs_tool.specs.EntryPlaces.{ArePlacesOfEntries, IsAddressOfReachedDirectory, entries_from_pair, slot_at_place};
+ghost use Rattle.lfs_tool.specs.EntryPlaces.{ArePlacesJoinedByHardTails, ArePlacesOfEntries, entries_from_pair, name_at_place, slot_at_place};
+ghost use Rattle.lfs_tool.specs.KeptRules.{IsFirstPairOfDirectory};
 ghost use Rattle.lfs_tool.specs.OwnedSlotView.{owned_pairs_view, owned_slot_view};
-ghost use Rattle.lfs_tool.specs.ReachedDirectories.{AreBranchesAmongDirectories, AreMoreDirectories, IsAmongDirectories, IsBranchAmongDirectories, IsReachedDirectory, LeadsEntryTo, LeadsEntryToSameDirectory};
+ghost use Rattle.lfs_tool.specs.ReachedDirectories.{AreBranchesReachedByName, AreMoreDirectories, AreReachedByEachOther, HasSameParentInSamePair, IsBranchReachedByName, IsEntryOfOneOfDirectories, IsOneOfDirectories, IsReachedByName, IsReachedByNameAmongDirectories, IsReachedDirectory, LeadsEntryTo, LeadsEntryToSameDirectory};
 
 use crate::entry_places::{EntryPlace, named_slot_at_place, slot_at_place};
-use crate::findings::{Finding, NamedSlot};
+use crate::findings::Finding;
 use crate::owned_parts::{OwnedPair, OwnedSlot};
 use crate::reached_directories::{
-    DirectoryEntry, ReachedDirectories, ReachedDirectory, first_pair_of_directory,
-    push_reached_directory, reached_directory_at,
+    DirectoryEntry, ReachedDirectories, ReachedDirectory, directory_of_first_pair,
+    first_pair_of_directory, push_reached_directory,
 };
 use lfs_lookup::OwnedStruct;
 use std::alloc::{AllocError, Global};
@@ -48,6 +50,7 @@ fn first_place_of_name(
     name: &[u8],
 ) -> Option<EntryPlace>
     requires { ArePlacesOfEntries (owned_pairs_view pairs.now) places.now (entries_by_directory_in_thread (owned_pairs_view pairs.now) (pair_address_of_array parent)) }
+    ensures among { IfSome result (Contains places.now) }
     ensures first { IfSome result (λ place. IsSome (slot_at_place (owned_pairs_view pairs.now) place) × (entry_of_name name.now (entries_by_directory_in_thread (owned_pairs_view pairs.now) (pair_address_of_array parent)) ≡ slot_at_place (owned_pairs_view pairs.now) place)) }
     ensures none { result ≡ None → entry_of_name name.now (entries_by_directory_in_thread (owned_pairs_view pairs.now) (pair_address_of_array parent)) ≡ None }
 {
@@ -62,7 +65,8 @@ fn first_place_of_name(
 
 // Returns whether two addresses are the same, in this order.
 fn are_addresses_equal(at: [u32; 2], other: [u32; 2]) -> bool
-    ensures { result ≡ false → pair_address_of_array at ≢ pair_address_of_array other }
+    ensures equal { result ≡ true → pair_address_of_array at ≡ pair_address_of_array other }
+    ensures other { result ≡ false → pair_address_of_array at ≢ pair_address_of_array other }
 {
     at[0] == other[0] && at[1] == other[1]
 }
@@ -75,7 +79,9 @@ fn are_entries_of_same_name(
 ) -> bool
     requires entry { IsSome (slot_at_place (owned_pairs_view pairs.now) entry.place) }
     requires other { IsSome (slot_at_place (owned_pairs_view pairs.now) other.place) }
-    ensures { result ≡ false → (pair_address_of_array entry.parent ≢ pair_address_of_array other.parent) ⊎ (option_map (λ s. s.name) (slot_at_place (owned_pairs_view pairs.now) entry.place) ≢ option_map (λ s. s.name) (slot_at_place (owned_pairs_view pairs.now) other.place)) }
+    ensures parents { result ≡ true → pair_address_of_array entry.parent ≡ pair_address_of_array other.parent }
+    ensures names { result ≡ true → name_at_place (owned_pairs_view pairs.now) entry.place ≡ name_at_place (owned_pairs_view pairs.now) other.place }
+    ensures differ { result ≡ false → (pair_address_of_array entry.parent ≢ pair_address_of_array other.parent) ⊎ (option_map (λ s. s.name) (slot_at_place (owned_pairs_view pairs.now) entry.place) ≢ option_map (λ s. s.name) (slot_at_place (owned_pairs_view pairs.now) other.place)) }
 {
     if !are_addresses_equal(entry.parent, other.parent) {
         return false;
@@ -85,23 +91,19 @@ fn are_entries_of_same_name(
     are_names_equal(&slot.name, &before.name)
 }
 
-// Returns whether two places are of the same slot.
-fn is_same_slot(place: &NamedSlot, other: &NamedSlot) -> bool
-    ensures { result ≡ false → pair_address_of_array place.now.pair ≡ pair_address_of_array other.now.pair → place.now.slot ≢ other.now.slot }
-{
-    are_addresses_equal(place.pair, other.pair) && place.slot == other.slot
-}
-
-// Returns the finding for an entry that leads to a directory that was reached before.
+// Returns the finding for an entry that leads to a directory that was reached before, by another entry.
 fn finding_on_second_entry(
     alloc: Global,
     pairs: &[OwnedPair],
     entry: DirectoryEntry,
     reached: ReachedDirectory,
 ) -> Result<Option<Finding>, AllocError>
+    requires distinct { IsDistinct nat_eq (blocks_of_pairs (owned_pairs_view pairs.now)) }
     requires reached { IsReachedDirectory (owned_pairs_view pairs.now) reached }
     requires leads { LeadsEntryToSameDirectory (owned_pairs_view pairs.now) entry (pair_address_of_array reached.at) }
-    ensures { IfOk result (λ found. IfSome found (λ f. (disk : Disk) → BreaksRuleOfFinding disk (owned_pairs_view pairs.now) f)) }
+    requires parent { HasSameParentInSamePair reached entry }
+    ensures found { IfOk result (λ found. IfSome found (λ f. (disk : Disk) → BreaksRuleOfFinding disk (owned_pairs_view pairs.now) f)) }
+    ensures none { result ≡ Ok None → IsReachedByName (owned_pairs_view pairs.now) (pair_address_of_array entry.parent) (name_at_place (owned_pairs_view pairs.now) entry.place) reached }
 {
     match reached.entry {
         None => {
@@ -114,9 +116,6 @@ fn finding_on_second_entry(
             }
             let place = named_slot_at_place(alloc, pairs, entry.place)?;
             let other = named_slot_at_place(alloc, pairs, before.place)?;
-            if is_same_slot(&place, &other) {
-                return Ok(None);
-            }
             Ok(Some(Finding::LeadsToSameDirectory { place, other }))
         }
     }
@@ -131,14 +130,19 @@ fn finding_on_directory_of_entry(
     directory: ReachedDirectory,
     entry: DirectoryEntry,
 ) -> Result<Option<Finding>, AllocError>
+    requires distinct { IsDistinct nat_eq (blocks_of_pairs (owned_pairs_view pairs.now)) }
+    requires numbers { length reached.old.numbers.items ≡ length pairs.now }
     requires entry { directory.entry ≡ Some entry }
     requires leads { LeadsEntryTo (owned_pairs_view pairs.now) entry (pair_address_of_array directory.at) }
+    requires among { IsEntryOfOneOfDirectories (owned_pairs_view pairs.now) reached.old.all.items entry }
     requires first { entries_by_directory_in_thread (owned_pairs_view pairs.now) (pair_address_of_array directory.at) ≡ entries_from_pair (owned_pairs_view pairs.now) directory.first }
-    requires before { All (IsReachedDirectory (owned_pairs_view pairs.now)) reached.old.all.items }
+    requires begins { IsFirstPairOfDirectory (owned_pairs_view pairs.now) directory.first (pair_address_of_array directory.at) }
+    requires before { AreReachedByEachOther (owned_pairs_view pairs.now) reached.old.all.items }
     ensures found { IfOk result (λ found. IfSome found (λ f. (disk : Disk) → BreaksRuleOfFinding disk (owned_pairs_view pairs.now) f)) }
-    ensures more { IfOk result (λ found. found ≡ None → AreMoreDirectories (owned_pairs_view pairs.now) (λ ds. IsAmongDirectories ds (pair_address_of_array directory.at)) reached.old.all.items reached.new.all.items) }
+    ensures more { IfOk result (λ found. found ≡ None → AreMoreDirectories (owned_pairs_view pairs.now) (λ ds. IsReachedByNameAmongDirectories (owned_pairs_view pairs.now) (pair_address_of_array entry.parent) (name_at_place (owned_pairs_view pairs.now) entry.place) ds (pair_address_of_array directory.at)) reached.old.all.items reached.new.all.items) }
+    ensures numbers { length reached.new.numbers.items ≡ length reached.old.numbers.items }
 {
-    match reached_directory_at(reached, directory.first, directory.at) {
+    match directory_of_first_pair(reached, directory.first) {
         Some(before) => finding_on_second_entry(alloc, pairs, entry, before),
         None => {
             push_reached_directory(reached, directory)?;
@@ -156,11 +160,15 @@ fn finding_on_branch(
     entry: DirectoryEntry,
     to: [u32; 2],
 ) -> Result<Option<Finding>, AllocError>
+    requires distinct { IsDistinct nat_eq (blocks_of_pairs (owned_pairs_view pairs.now)) }
+    requires numbers { length reached.old.numbers.items ≡ length pairs.now }
     requires root { root ≡ pair_count_before_root (owned_pairs_view pairs.now) }
     requires entry { LeadsEntryTo (owned_pairs_view pairs.now) entry (pair_address_of_array to) }
-    requires before { All (IsReachedDirectory (owned_pairs_view pairs.now)) reached.old.all.items }
+    requires among { IsEntryOfOneOfDirectories (owned_pairs_view pairs.now) reached.old.all.items entry }
+    requires before { AreReachedByEachOther (owned_pairs_view pairs.now) reached.old.all.items }
     ensures found { IfOk result (λ found. IfSome found (λ f. (disk : Disk) → BreaksRuleOfFinding disk (owned_pairs_view pairs.now) f)) }
-    ensures more { IfOk result (λ found. found ≡ None → AreMoreDirectories (owned_pairs_view pairs.now) (λ ds. IsAmongDirectories ds (pair_address_of_array to)) reached.old.all.items reached.new.all.items) }
+    ensures more { IfOk result (λ found. found ≡ None → AreMoreDirectories (owned_pairs_view pairs.now) (λ ds. IsReachedByNameAmongDirectories (owned_pairs_view pairs.now) (pair_address_of_array entry.parent) (name_at_place (owned_pairs_view pairs.now) entry.place) ds (pair_address_of_array to)) reached.old.all.items reached.new.all.items) }
+    ensures numbers { length reached.new.numbers.items ≡ length reached.old.numbers.items }
 {
     match first_pair_of_directory(pairs, root, to) {
         Some(first) => {
@@ -186,6 +194,7 @@ fn place_of_branch(
     slot: &OwnedSlot,
 ) -> Option<EntryPlace>
     requires { ArePlacesOfEntries (owned_pairs_view pairs.now) places.now (entries_by_directory_in_thread (owned_pairs_view pairs.now) (pair_address_of_array parent)) }
+    ensures among { IfSome result (Contains places.now) }
     ensures first { IfSome result (λ place. IsSome (slot_at_place (owned_pairs_view pairs.now) place) × (entry_of_name (owned_slot_view slot.now).name (entries_by_directory_in_thread (owned_pairs_view pairs.now) (pair_address_of_array parent)) ≡ slot_at_place (owned_pairs_view pairs.now) place)) }
     ensures none { result ≡ None → (branch_address_of_struct (owned_slot_view slot.now).struct ≡ None) ⊎ (entry_of_name (owned_slot_view slot.now).name (entries_by_directory_in_thread (owned_pairs_view pairs.now) (pair_address_of_array parent)) ≡ None) }
 {
@@ -202,17 +211,22 @@ fn finding_on_slot(
     reached: &mut ReachedDirectories,
     pairs: &[OwnedPair],
     root: usize,
-    parent: [u32; 2],
+    directory: ReachedDirectory,
     places: &[EntryPlace],
     slot: &OwnedSlot,
 ) -> Result<Option<Finding>, AllocError>
+    requires distinct { IsDistinct nat_eq (blocks_of_pairs (owned_pairs_view pairs.now)) }
+    requires numbers { length reached.old.numbers.items ≡ length pairs.now }
     requires root { root ≡ pair_count_before_root (owned_pairs_view pairs.now) }
-    requires parent { IsAddressOfReachedDirectory (owned_pairs_view pairs.now) (pair_address_of_array parent) }
-    requires places { ArePlacesOfEntries (owned_pairs_view pairs.now) places.now (entries_by_directory_in_thread (owned_pairs_view pairs.now) (pair_address_of_array parent)) }
-    requires before { All (IsReachedDirectory (owned_pairs_view pairs.now)) reached.old.all.items }
+    requires directory { IsOneOfDirectories reached.old.all.items directory }
+    requires places { ArePlacesOfEntries (owned_pairs_view pairs.now) places.now (entries_by_directory_in_thread (owned_pairs_view pairs.now) (pair_address_of_array directory.at)) }
+    requires joined { ArePlacesJoinedByHardTails (owned_pairs_view pairs.now) directory.first places.now }
+    requires before { AreReachedByEachOther (owned_pairs_view pairs.now) reached.old.all.items }
     ensures found { IfOk result (λ found. IfSome found (λ f. (disk : Disk) → BreaksRuleOfFinding disk (owned_pairs_view pairs.now) f)) }
-    ensures more { IfOk result (λ found. found ≡ None → AreMoreDirectories (owned_pairs_view pairs.now) (λ ds. IsBranchAmongDirectories ds (entries_by_directory_in_thread (owned_pairs_view pairs.now) (pair_address_of_array parent)) (owned_slot_view slot.now)) reached.old.all.items reached.new.all.items) }
+    ensures more { IfOk result (λ found. found ≡ None → AreMoreDirectories (owned_pairs_view pairs.now) (IsBranchReachedByName (owned_pairs_view pairs.now) (pair_address_of_array directory.at) (owned_slot_view slot.now)) reached.old.all.items reached.new.all.items) }
+    ensures numbers { length reached.new.numbers.items ≡ length reached.old.numbers.items }
 {
+    let parent = directory.at;
     let Some(place) = place_of_branch(pairs, places, parent, slot) else {
         return Ok(None);
     };
@@ -238,19 +252,23 @@ pub(crate) fn finding_on_branches(
     reached: &mut ReachedDirectories,
     pairs: &[OwnedPair],
     root: usize,
-    parent: [u32; 2],
+    directory: ReachedDirectory,
     places: &[EntryPlace],
 ) -> Result<Option<Finding>, AllocError>
+    requires distinct { IsDistinct nat_eq (blocks_of_pairs (owned_pairs_view pairs.now)) }
+    requires numbers { length reached.old.numbers.items ≡ length pairs.now }
     requires root { root ≡ pair_count_before_root (owned_pairs_view pairs.now) }
-    requires parent { IsAddressOfReachedDirectory (owned_pairs_view pairs.now) (pair_address_of_array parent) }
-    requires places { ArePlacesOfEntries (owned_pairs_view pairs.now) places.now (entries_by_directory_in_thread (owned_pairs_view pairs.now) (pair_address_of_array parent)) }
-    requires before { All (IsReachedDirectory (owned_pairs_view pairs.now)) reached.old.all.items }
+    requires directory { IsOneOfDirectories reached.old.all.items directory }
+    requires places { ArePlacesOfEntries (owned_pairs_view pairs.now) places.now (entries_by_directory_in_thread (owned_pairs_view pairs.now) (pair_address_of_array directory.at)) }
+    requires joined { ArePlacesJoinedByHardTails (owned_pairs_view pairs.now) directory.first places.now }
+    requires before { AreReachedByEachOther (owned_pairs_view pairs.now) reached.old.all.items }
     ensures found { IfOk result (λ found. IfSome found (λ f. (disk : Disk) → BreaksRuleOfFinding disk (owned_pairs_view pairs.now) f)) }
-    ensures more { IfOk result (λ found. found ≡ None → AreMoreDirectories (owned_pairs_view pairs.now) (λ ds. AreBranchesAmongDirectories ds (entries_by_directory_in_thread (owned_pairs_view pairs.now) (pair_address_of_array parent))) reached.old.all.items reached.new.all.items) }
+    ensures more { IfOk result (λ found. found ≡ None → AreMoreDirectories (owned_pairs_view pairs.now) (AreBranchesReachedByName (owned_pairs_view pairs.now) (pair_address_of_array directory.at)) reached.old.all.items reached.new.all.items) }
+    ensures numbers { length reached.new.numbers.items ≡ length reached.old.numbers.items }
 {
     for place in places {
         let slot = slot_at_place(pairs, *place);
-        let found = finding_on_slot(alloc, reached, pairs, root, parent, places, slot)?;
+        let found = finding_on_slot(alloc, reached, pairs, root, directory, places, slot)?;
         if found.is_some() {
             return Ok(found);
         }

@@ -21,8 +21,6 @@ pub enum RefusalReason {
     NoImage,
     /// The image breaks this rule.
     Broken(Finding),
-    /// The image is refused, and the search found no rule that it breaks.
-    Other,
 }
 
 /// Whether an image is accepted, and with what, or why not.

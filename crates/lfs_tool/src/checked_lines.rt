@@ -513,7 +513,6 @@ fn push_unaccepted_reason(
         ),
         RefusalReason::NoImage => push_no_image_of_given_sizes_text(text, given),
         RefusalReason::Broken(finding) => push_finding_text(text, given, finding),
-        RefusalReason::Other => push_text(text, "no single rule was found"),
     }
 }
 

@@ -1,9 +1,9 @@
 // The places of the entries of a directory.
 
-ghost use Rattle.std.specs.Prelude.{◌≡◌, ◌++◌, ◌∷◌, [], IfOk, IsSome, List, OnOk, Some, if◌then◌else◌, map, slice_get};
+ghost use Rattle.std.specs.Prelude.{◌≡◌, ◌++◌, ◌∷◌, [], ℕ, IfOk, IsSome, List, OnOk, Some, if◌then◌else◌, map, slice_get};
 ghost use Rattle.lfs_model.specs.Thread.{Pair, entries_not_moved, gstate_of_pairs};
 ghost use Rattle.lfs_tag.specs.FieldsView.{move_view};
-ghost use Rattle.lfs_tool.specs.EntryPlaces.{ArePlacesOfEntries, IsNamedSlotAtPlace, entries_from_pair, is_unmoved_entry_slot, is_moved_slot, slot_at_place, slots_at_places};
+ghost use Rattle.lfs_tool.specs.EntryPlaces.{ArePlacesJoinedByHardTails, ArePlacesOfEntries, IsNamedSlotAtPlace, IsPairJoinedByHardTails, IsPlaceOfNamedSlot, entries_from_pair, is_unmoved_entry_slot, is_moved_slot, slot_at_place, slots_at_places};
 ghost use Rattle.lfs_tool.specs.OwnedSlotView.{owned_pair_view, owned_pairs_view, owned_slot_view};
 
 use crate::findings::NamedSlot;
@@ -21,7 +21,7 @@ pub(crate) struct EntryPlace {
 }
 
 // Returns whether the slot of that number is moved away.
-fn is_moved_slot(moved: Option<usize>, id: usize) -> bool
+pub(crate) fn is_moved_slot(moved: Option<usize>, id: usize) -> bool
     ensures { result ≡ is_moved_slot moved id }
 {
     match moved {
@@ -52,7 +52,8 @@ fn push_entry_places_of_pair(
     pair: &OwnedPair,
     index: usize,
 ) -> Result<(), AllocError>
-    ensures { OnOk result ((ps : List Pair) → slice_get ps index ≡ Some (owned_pair_view pair.now) → slots_at_places ps places.new.items ≡ slots_at_places ps places.old.items ++ map (λ s. Some s) (entries_not_moved (move_view state.now) (owned_pair_view pair.now))) }
+    ensures slots { OnOk result ((ps : List Pair) → slice_get ps index ≡ Some (owned_pair_view pair.now) → slots_at_places ps places.new.items ≡ slots_at_places ps places.old.items ++ map (λ s. Some s) (entries_not_moved (move_view state.now) (owned_pair_view pair.now))) }
+    ensures joined { OnOk result ((ps : List Pair) (first : ℕ) → IsPairJoinedByHardTails ps first index → ArePlacesJoinedByHardTails ps first places.old.items → ArePlacesJoinedByHardTails ps first places.new.items) }
 {
     let moved = moved_slot_id(state, pair);
     for slot in 0..pair.slots.len() {
@@ -71,7 +72,8 @@ pub(crate) fn entry_places_of_directory(
     first: usize,
 ) -> Result<Vec<EntryPlace>, AllocError>
     requires { move_view state.now ≡ gstate_of_pairs (owned_pairs_view pairs.now) }
-    ensures { IfOk result (λ places. ArePlacesOfEntries (owned_pairs_view pairs.now) places.items (entries_from_pair (owned_pairs_view pairs.now) first)) }
+    ensures are { IfOk result (λ places. ArePlacesOfEntries (owned_pairs_view pairs.now) places.items (entries_from_pair (owned_pairs_view pairs.now) first)) }
+    ensures joined { IfOk result (λ places. ArePlacesJoinedByHardTails (owned_pairs_view pairs.now) first places.items) }
 {
     let mut places = Vec::new(alloc);
     for index in first..pairs.len() {
@@ -99,7 +101,8 @@ pub(crate) fn named_slot_at_place(
     place: EntryPlace,
 ) -> Result<NamedSlot, AllocError>
     requires { IsSome (slot_at_place (owned_pairs_view pairs.now) place) }
-    ensures { IfOk result (IsNamedSlotAtPlace (owned_pairs_view pairs.now) place) }
+    ensures is { IfOk result (IsNamedSlotAtPlace (owned_pairs_view pairs.now) place) }
+    ensures pair { IfOk result (IsPlaceOfNamedSlot (owned_pairs_view pairs.now) place) }
 {
     let slot = slot_at_place(pairs, place);
     named_slot_of_owned_slot(alloc, pairs[place.pair].at, place.slot, slot)

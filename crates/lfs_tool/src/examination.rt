@@ -1,6 +1,6 @@
 // Whether the bytes of an image are accepted, and with what, or why not.
 
-ghost use Rattle.std.specs.Prelude.{◌≡◌, ◌<◌, ◌≤◌, ◌^◌, List, ℕ, IfErr, IfOk, IfSome, IsErrOf, OnOk, length};
+ghost use Rattle.std.specs.Prelude.{◌≡◌, ◌<◌, ◌^◌, List, ℕ, IfErr, IfOk, IfSome, IsErrOf, OnOk, length};
 ghost use Rattle.lfs_tool.specs.WrongNumbers.{IsWrongNumberInImageBytes};
 ghost use Rattle.lfs_tool.specs.CheckResults.{AreBytesNoAcceptedImage, IsCheckResultOfBytes, AreReportedSizesThoseGivenToCheck, IsVerdictOnBytes, IsReasonForRefusedBytes};
 ghost use Rattle.lfs_tool.specs.KnownBytes.{IsErrorOfReaderFaultOrNoMemory};
@@ -83,14 +83,9 @@ fn check_result_of_verdict(
             summary,
             orders,
         },
-        Some(ImageVerdict::Refused(Some(finding))) => {
+        Some(ImageVerdict::Refused(finding)) => {
             refused_check_result(stated, RefusalReason::Broken(finding), given)
         }
-        Some(ImageVerdict::Refused(None)) => refused_check_result(
-            stated,
-            RefusalReason::Other,
-            given,
-        ),
         None => refused_check_result(stated, RefusalReason::NoImage, given),
     }
 }
@@ -115,7 +110,7 @@ fn check_result_of_bytes(
 /// Returns whether an image is accepted, and with what, or why not. The result is `Accepted`
 /// exactly where a mount takes the image, in whichever order its names are. Each cause is true of
 /// its bytes. Of an image that isn't accepted, a wrong number in the superblock of block 0 or 1
-/// comes first. Then comes the first rule that the image breaks, of those that `lfs_tool` knows.
+/// comes first. Then comes the first rule that the image breaks.
 ///
 /// The image is read first, to its end, or past the largest image's size of 268,435,456 bytes.
 ///

@@ -22,11 +22,12 @@ use std::alloc::{AllocError, Global};
 #[tactic(auto, using(crate::proofs::Placing::image_fails))]
 fn image_size_at_path<P: Places>(
     alloc: Global,
-    places: &P,
+    places: &mut P,
     line: &Line<'_>,
 ) -> Result<usize, ToolError>
     ensures size { IfOk result (λ size. IsTrueOfSomethingAtPath P.image_path line.now.image.now (λ i. IfSome (P.Image.remaining i) (λ image. size ≡ length (take 268435457 image)))) }
     ensures err { IfErr result (FailsToReadImage P.image_path P.Image.faults line.now) }
+    ensures kept { P.history places.new ≡ P.history places.old }
 {
     let mut image = places.image(line.image)?;
     let bytes = read_image(alloc, &mut image)?;
@@ -36,11 +37,12 @@ fn image_size_at_path<P: Places>(
 // Returns the size in bytes of a line's image: of the one to be made, or of the one that is there.
 fn size_of_made_or_read_image<P: Places>(
     alloc: Global,
-    places: &P,
+    places: &mut P,
     line: &Line<'_>,
 ) -> Result<usize, ToolError>
     ensures size { IfOk result (IsSizeOfMadeOrReadImage P.image_path P.Image.remaining line.now) }
     ensures err { IfErr result (λ e. IsTrueForMode line.now.mode (FailsToReadImage P.image_path P.Image.faults line.now e) (FailsToReadImage P.image_path P.Image.faults line.now e) (λ _. ⊥) (λ _. FailsToReadImage P.image_path P.Image.faults line.now e)) }
+    ensures kept { P.history places.new ≡ P.history places.old }
 {
     match line.mode {
         Mode::Create(_) => Ok(line.size as usize),
@@ -51,11 +53,12 @@ fn size_of_made_or_read_image<P: Places>(
 // Returns the sizes of that image, and the rule that they break.
 fn explanation_by_broken_size_rule<P: Places>(
     alloc: Global,
-    places: &P,
+    places: &mut P,
     line: &Line<'_>,
 ) -> Result<Explanation, ToolError>
     ensures sizes { IfOk result (ExplainsBrokenSizeRule P.image_path P.Image.remaining line.now) }
     ensures err { IfErr result (λ e. IsTrueForMode line.now.mode (FailsToReadImage P.image_path P.Image.faults line.now e) (FailsToReadImage P.image_path P.Image.faults line.now e) (λ _. ⊥) (λ _. FailsToReadImage P.image_path P.Image.faults line.now e)) }
+    ensures kept { P.history places.new ≡ P.history places.old }
 {
     let size = size_of_made_or_read_image(alloc, places, line)?;
     let sizes = Sizes {
@@ -70,11 +73,12 @@ fn explanation_by_broken_size_rule<P: Places>(
 #[tactic(auto, using(crate::proofs::Placing::image_fails))]
 fn explanation_by_check<P: Places>(
     alloc: Global,
-    places: &P,
+    places: &mut P,
     line: &Line<'_>,
 ) -> Result<Explanation, ToolError>
     ensures checked { IfOk result (ExplainsErrorByImageCheck P.image_path P.Image.remaining line.now) }
     ensures err { IfErr result (FailsToReadImage P.image_path P.Image.faults line.now) }
+    ensures kept { P.history places.new ≡ P.history places.old }
 {
     let mut image = places.image(line.image)?;
     let checked = check_result_of_image(alloc, &mut image, line.block_size, line.page)?;
@@ -145,8 +149,8 @@ pub fn explanation_of_error<P: Places>(
 {
     match error {
         ToolError::Input | ToolError::Output => explanation_by_path_fault(places),
-        ToolError::Fs(Error::Invalid) => explanation_by_broken_size_rule(alloc, &*places, line),
-        ToolError::Fs(Error::Corrupt) => explanation_by_check(alloc, &*places, line),
+        ToolError::Fs(Error::Invalid) => explanation_by_broken_size_rule(alloc, places, line),
+        ToolError::Fs(Error::Corrupt) => explanation_by_check(alloc, places, line),
         ToolError::Fs(Error::NoSpace) => explanation_of_too_few_blocks(alloc, &*places, line),
         ToolError::Fs(_) => Ok(Explanation::Nothing),
     }

@@ -1,14 +1,18 @@
 // The first entry of the superblock's log.
 
-ghost use Rattle.std.specs.Prelude.{◌≡◌, IfOk, IfSome, Some, false};
+ghost use Rattle.std.specs.Prelude.{◌≡◌, IfOk, IfSome, None, Ok, Some, [], false, true};
 ghost use Rattle.lfs_device.specs.Shown.{disk_of_geometry_and_blocks};
 ghost use Rattle.lfs_model.specs.Content.{current_block_of_pair_at};
+ghost use Rattle.lfs_model.specs.Disk.{block_count};
 ghost use Rattle.lfs_model.specs.Slots.{pair_address_of_array};
 ghost use Rattle.lfs_model.specs.Thread.{first_pair_address, pairs_from_first_with_slots};
 ghost use Rattle.lfs_model.specs.View.{BeginsWithLogEntry, superblock_name_log_entry};
 ghost use Rattle.lfs_tool.specs.BrokenRules.{BreaksRuleOfFinding};
 ghost use Rattle.lfs_tool.specs.Device.{OnlyReadsDevice};
+ghost use Rattle.lfs_tool.specs.KeptRules.{BeginsRootWithSuperblock, BeginsWithSuperblockName, HasDistinctBlocksInRange};
+ghost use Rattle.lfs_tool.specs.KeptSuperblocks.{HasLogAtAddress};
 ghost use Rattle.lfs_tool.specs.OwnedSlotView.{owned_pairs_view};
+ghost use Rattle.lfs_tool.specs.PairReads.{AreOwnedFirstPairsOfThread};
 
 use crate::findings::Finding;
 use crate::owned_parts::OwnedPair;
@@ -20,7 +24,8 @@ use std::alloc::Global;
 
 // Returns whether a log begins with the superblock's name.
 fn begins_with_superblock_name(log: &Log<'_>) -> bool
-    ensures { result ≡ false → ¬ BeginsWithLogEntry (Some log.now) superblock_name_log_entry }
+    ensures other { result ≡ false → ¬ BeginsWithLogEntry (Some log.now) superblock_name_log_entry }
+    ensures same { result ≡ true → BeginsWithLogEntry (Some log.now) superblock_name_log_entry }
 {
     match log.entries().next() {
         Some(entry) => {
@@ -38,6 +43,8 @@ fn may_begin_with_superblock_name<D: BlockDevice>(
     at: [u32; 2],
 ) -> Result<bool, Error>
     ensures is { IfOk result (λ begins. begins ≡ false → ¬ BeginsWithLogEntry (current_block_of_pair_at (disk_of_geometry_and_blocks (D.geometry device.old) (D.blocks device.old)) (pair_address_of_array at)) superblock_name_log_entry) }
+    ensures begins { IfOk result (λ begins. begins ≡ true → HasLogAtAddress (disk_of_geometry_and_blocks (D.geometry device.old) (D.blocks device.old)) (pair_address_of_array at)
+        → BeginsWithLogEntry (current_block_of_pair_at (disk_of_geometry_and_blocks (D.geometry device.old) (D.blocks device.old)) (pair_address_of_array at)) superblock_name_log_entry) }
     ensures looks { OnlyReadsDevice D.BlockDevice device.old device.new result }
 {
     let count = device.geometry().block_count;
@@ -54,7 +61,8 @@ fn may_begin_with_superblock_name<D: BlockDevice>(
 
 // Returns the address of the first pair that has a slot.
 fn first_pair_with_slots(pairs: &[OwnedPair]) -> Option<[u32; 2]>
-    ensures { IfSome result (λ at. first_pair_address (pairs_from_first_with_slots (owned_pairs_view pairs.now)) ≡ pair_address_of_array at) }
+    ensures some { IfSome result (λ at. first_pair_address (pairs_from_first_with_slots (owned_pairs_view pairs.now)) ≡ pair_address_of_array at) }
+    ensures none { result ≡ None → pairs_from_first_with_slots (owned_pairs_view pairs.now) ≡ [] }
 {
     for pair in pairs {
         if !pair.slots.is_empty() {
@@ -72,6 +80,9 @@ pub(crate) fn finding_on_first_entry<D: BlockDevice>(
     pairs: &[OwnedPair],
 ) -> Result<Option<Finding>, Error>
     ensures found { IfOk result (λ found. IfSome found (BreaksRuleOfFinding (disk_of_geometry_and_blocks (D.geometry device.old) (D.blocks device.old)) (owned_pairs_view pairs.now))) }
+    ensures none { let disk = disk_of_geometry_and_blocks (D.geometry device.old) (D.blocks device.old) in
+        result ≡ Ok None → BeginsRootWithSuperblock (owned_pairs_view pairs.now) → HasDistinctBlocksInRange (block_count disk) (owned_pairs_view pairs.now)
+        → AreOwnedFirstPairsOfThread disk None pairs.now → BeginsWithSuperblockName disk (owned_pairs_view pairs.now) }
     ensures looks { OnlyReadsDevice D.BlockDevice device.old device.new result }
 {
     let Some(at) = first_pair_with_slots(pairs) else {

@@ -1,11 +1,11 @@
 // Whether an image is accepted, and with what, or why not.
 
-ghost use Rattle.std.specs.Prelude.{◌≡◌, ◌↔◌, IfErr, IfOk, IfSome, IsTrue, false};
+ghost use Rattle.std.specs.Prelude.{◌≡◌, ◌↔◌, IfErr, IfOk, IsTrue, false};
 ghost use Rattle.lfs_device.specs.RamDevice.{ram_blocks, geometry_of_ram_device};
 ghost use Rattle.lfs_device.specs.Shown.{disk_of_geometry_and_blocks, disk_with_name_order};
 ghost use Rattle.lfs_tool.specs.Findings.{IsTrueFindingOfDisk};
 ghost use Rattle.lfs_tool.specs.ImageSummaries.{HasAcceptedNameOrders, IsAcceptedInNameOrder};
-ghost use Rattle.lfs_tool.specs.Verdict.{IsVerdictOnDisk};
+ghost use Rattle.lfs_tool.specs.Verdict.{IsAcceptedInNoNameOrder, IsVerdictOnDisk};
 ghost use Rattle.lfs_model.specs.BlockSets.{AreExactlyTheUsedBlocks};
 ghost use Rattle.lfs_model.specs.Shown.{used_blocks};
 ghost use Rattle.lfs_model.specs.View.{IsAcceptedImage};
@@ -61,13 +61,16 @@ fn accepted_name_orders(
     }
 }
 
-// Returns a rule that the image of a device breaks.
-fn finding_on_device(alloc: Global, device: &mut RamDevice) -> Result<Option<Finding>, Error>
-    ensures found { IfOk result (λ found. IfSome found (IsTrueFindingOfDisk (disk_of_geometry_and_blocks (geometry_of_ram_device device.old) (ram_blocks device.old)))) }
+// Returns the first rule that the image of a device breaks. It is accepted in neither order of names.
+fn finding_on_refused_device(alloc: Global, device: &mut RamDevice) -> Result<Finding, Error>
+    requires { IsAcceptedInNoNameOrder (disk_of_geometry_and_blocks (geometry_of_ram_device device.old) (ram_blocks device.old)) }
+    ensures found { IfOk result (IsTrueFindingOfDisk (disk_of_geometry_and_blocks (geometry_of_ram_device device.old) (ram_blocks device.old))) }
     ensures err { IfErr result (λ e. e ≡ Error.NoMemory) }
 {
     match find_broken_rule_on_device(alloc, device) {
-        Ok(found) => Ok(found),
+        Ok(Some(finding)) => Ok(finding),
+        // An image that breaks no rule is accepted.
+        Ok(None) => unreachable!(),
         // The device had no fault, so memory ran out.
         Err(error) => Err(error),
     }
@@ -94,7 +97,8 @@ fn judge_thread(
 
 /// Returns whether the image of a device in memory is accepted, and with what, or why not. The
 /// result is `Accepted` exactly where a mount takes the image, in whichever order its names are.
-/// Each finding is true of it. The order of names of the device's own geometry doesn't matter.
+/// Where it isn't accepted, a rule that it breaks is named. The order of names of the device's own
+/// geometry doesn't matter.
 ///
 /// Errors: `NoMemory` where memory isn't granted.
 pub fn judge_image_on_device(alloc: Global, device: RamDevice) -> Result<ImageVerdict, Error>
@@ -104,8 +108,8 @@ pub fn judge_image_on_device(alloc: Global, device: RamDevice) -> Result<ImageVe
     match mount_with_either_name_order(alloc, device) {
         Ok(thread) => judge_thread(alloc, thread),
         Err((mut device, Error::Corrupt)) => {
-            let found = finding_on_device(alloc, &mut device)?;
-            Ok(ImageVerdict::Refused(found))
+            let finding = finding_on_refused_device(alloc, &mut device)?;
+            Ok(ImageVerdict::Refused(finding))
         }
         Err((_device, error)) => Err(error),
     }

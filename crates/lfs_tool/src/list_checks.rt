@@ -1,17 +1,18 @@
 // What is wrong with the lists of files.
 
-ghost use Rattle.std.specs.Prelude.{◌≡◌, IfOk, IfSome, List, Ok, true};
+ghost use Rattle.std.specs.Prelude.{◌≡◌, All, IfNone, IfOk, IfSome, List, None, Ok, false, true};
 ghost use Rattle.std.specs.List.{Contains};
 ghost use Rattle.lfs_device.specs.Shown.{disk_of_geometry_and_blocks};
-ghost use Rattle.lfs_model.specs.Disk.{Disk};
+ghost use Rattle.lfs_model.specs.Disk.{Disk, block_count};
 ghost use Rattle.lfs_model.specs.Slots.{pair_address_of_array};
-ghost use Rattle.lfs_model.specs.Thread.{Pair};
+ghost use Rattle.lfs_model.specs.Thread.{Pair, blocks_of_pairs};
 ghost use Rattle.lfs_model.specs.View.{IsSkipListIfCtzStruct};
 ghost use Rattle.lfs_tool.specs.BrokenLists.{IsPairInThreadWithBlock};
 ghost use Rattle.lfs_tool.specs.BrokenRules.{BreaksRuleOfFinding};
 ghost use Rattle.lfs_tool.specs.Device.{OnlyReadsDevice};
 ghost use Rattle.lfs_tool.specs.BrokenLists.{HasBlockInList};
-ghost use Rattle.lfs_tool.specs.FileLists.{AreFileListsAtTwoPlaces, AreFileListsOfThread, IsFileListOfThread, struct_of_file_list};
+ghost use Rattle.lfs_tool.specs.FileLists.{AreFileListsAtTwoPlaces, AreFileListsOfThread, IsFileListOfThread, LacksBlockIfAtOtherPlace, LacksBlockIfWellFormed, MarksOneMoreList, struct_of_file_list};
+ghost use Rattle.lfs_tool.specs.KeptRules.{HasDistinctBlocksInRange, HasListsWithOwnBlocks};
 ghost use Rattle.lfs_tool.specs.OwnedSlotView.{owned_pairs_view};
 
 use crate::addresses::pair_has_block;
@@ -22,6 +23,7 @@ use crate::list_walks::{
 };
 use crate::owned_parts::OwnedPair;
 use crate::slots::named_slot_of_owned_slot;
+use lfs_alloc::BlockMap;
 use lfs_device::{BlockDevice, Error};
 use std::alloc::{AllocError, Global};
 
@@ -68,7 +70,8 @@ fn finding_of_block_in_two_lists(
 
 // Returns the address of the first pair that has a block.
 fn pair_with_block(pairs: &[OwnedPair], block: u32) -> Option<[u32; 2]>
-    ensures { IfSome result (λ at. IsPairInThreadWithBlock (owned_pairs_view pairs.now) (pair_address_of_array at) block) }
+    ensures found { IfSome result (λ at. IsPairInThreadWithBlock (owned_pairs_view pairs.now) (pair_address_of_array at) block) }
+    ensures none { IfNone result (¬ Contains (blocks_of_pairs (owned_pairs_view pairs.now)) block) }
 {
     for pair in pairs {
         if pair_has_block(pair.at, block) {
@@ -87,6 +90,7 @@ fn is_block_in_other_list<D: BlockDevice>(
 ) -> Result<bool, Error>
     ensures other { result ≡ Ok true → AreFileListsAtTwoPlaces list.now other.now }
     ensures has { result ≡ Ok true → HasBlockInList (disk_of_geometry_and_blocks (D.geometry device.old) (D.blocks device.old)) block (struct_of_file_list other.now) }
+    ensures lacks { result ≡ Ok false → AreFileListsAtTwoPlaces list.now other.now → LacksBlockIfWellFormed (disk_of_geometry_and_blocks (D.geometry device.old) (D.blocks device.old)) block other.now }
     ensures looks { OnlyReadsDevice D.BlockDevice device.old device.new result }
 {
     if is_list_of_same_slot(list, other) {
@@ -104,6 +108,7 @@ fn other_list_with_block<'a, D: BlockDevice>(
 ) -> Result<Option<FileList<'a>>, Error>
     ensures other { IfOk result (λ found. IfSome found (λ other. Contains lists.now other × AreFileListsAtTwoPlaces list.now other
         × HasBlockInList (disk_of_geometry_and_blocks (D.geometry device.old) (D.blocks device.old)) block (struct_of_file_list other))) }
+    ensures none { result ≡ Ok None → All (LacksBlockIfAtOtherPlace (disk_of_geometry_and_blocks (D.geometry device.old) (D.blocks device.old)) block list.now) lists.now }
     ensures looks { OnlyReadsDevice D.BlockDevice device.old device.new result }
 {
     for other in lists {
@@ -127,6 +132,8 @@ fn finding_on_shared_block<D: BlockDevice>(
     requires list { IsFileListOfThread (owned_pairs_view pairs.now) list.now }
     requires block { HasBlockInList (disk_of_geometry_and_blocks (D.geometry device.old) (D.blocks device.old)) block (struct_of_file_list list.now) }
     ensures found { IfOk result (λ found. IfSome found (BreaksRuleOfFinding (disk_of_geometry_and_blocks (D.geometry device.old) (D.blocks device.old)) (owned_pairs_view pairs.now))) }
+    ensures no_pair { result ≡ Ok None → ¬ Contains (blocks_of_pairs (owned_pairs_view pairs.now)) block }
+    ensures no_list { result ≡ Ok None → All (LacksBlockIfAtOtherPlace (disk_of_geometry_and_blocks (D.geometry device.old) (D.blocks device.old)) block list.now) lists.now }
     ensures looks { OnlyReadsDevice D.BlockDevice device.old device.new result }
 {
     if let Some(pair) = pair_with_block(pairs, block) {
@@ -146,7 +153,7 @@ fn finding_on_shared_block<D: BlockDevice>(
 fn finding_on_list<D: BlockDevice>(
     alloc: Global,
     device: &mut D,
-    marks: &mut Vec<bool>,
+    marks: &mut BlockMap,
     pairs: &[OwnedPair],
     lists: &[FileList<'_>],
     list: &FileList<'_>,
@@ -154,6 +161,7 @@ fn finding_on_list<D: BlockDevice>(
     requires lists { AreFileListsOfThread (owned_pairs_view pairs.now) lists.now }
     requires list { IsFileListOfThread (owned_pairs_view pairs.now) list.now }
     ensures found { IfOk result (λ found. IfSome found (BreaksRuleOfFinding (disk_of_geometry_and_blocks (D.geometry device.old) (D.blocks device.old)) (owned_pairs_view pairs.now))) }
+    ensures none { result ≡ Ok None → MarksOneMoreList (disk_of_geometry_and_blocks (D.geometry device.old) (D.blocks device.old)) (owned_pairs_view pairs.now) lists.now list.now marks.old marks.new }
     ensures looks { OnlyReadsDevice D.BlockDevice device.old device.new result }
 {
     match walk_list_and_mark_its_blocks(device, marks, list)? {
@@ -177,6 +185,7 @@ pub(crate) fn finding_on_lists<D: BlockDevice>(
     pairs: &[OwnedPair],
 ) -> Result<Option<Finding>, Error>
     ensures found { IfOk result (λ found. IfSome found (BreaksRuleOfFinding (disk_of_geometry_and_blocks (D.geometry device.old) (D.blocks device.old)) (owned_pairs_view pairs.now))) }
+    ensures none { result ≡ Ok None → HasDistinctBlocksInRange (block_count (disk_of_geometry_and_blocks (D.geometry device.old) (D.blocks device.old))) (owned_pairs_view pairs.now) → HasListsWithOwnBlocks (disk_of_geometry_and_blocks (D.geometry device.old) (D.blocks device.old)) (owned_pairs_view pairs.now) }
     ensures looks { OnlyReadsDevice D.BlockDevice device.old device.new result }
 {
     let lists = file_lists_of_pairs(alloc, pairs)?;

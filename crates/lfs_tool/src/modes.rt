@@ -14,10 +14,11 @@ use std::alloc::Global;
 // Lists the image.
 fn list_image_at_path<P: Places, W: ToolOutput>(
     alloc: Global,
-    places: &P,
+    places: &mut P,
     line: &Line<'_>,
     out: &mut W,
 ) -> Result<(), ToolError>
+    ensures kept { P.history places.new ≡ P.history places.old }
     ensures listed { OnOk result (ListsImageAtPath P.image_path P.Image.remaining line.now (W.contents out.old) (W.contents out.new)) }
     ensures writer { ReportsWriterFaults W.ToolOutput out.old out.new result }
     ensures beginning { IsErrOf result ToolError.Output → BeginsToListImageAtPath P.image_path P.Image.remaining line.now (W.contents out.old) (W.contents out.new) }
@@ -33,10 +34,11 @@ fn list_image_at_path<P: Places, W: ToolOutput>(
 // Checks the image.
 fn check_image_at_path<P: Places, W: ToolOutput>(
     alloc: Global,
-    places: &P,
+    places: &mut P,
     line: &Line<'_>,
     out: &mut W,
 ) -> Result<bool, ToolError>
+    ensures kept { P.history places.new ≡ P.history places.old }
     ensures checked { IfOk result (λ accepted. ChecksImageAtPath P.image_path P.Image.remaining line.now accepted (W.contents out.old) (W.contents out.new)) }
     ensures writer { ReportsWriterFaults W.ToolOutput out.old out.new result }
     ensures beginning { IsErrOf result ToolError.Output → BeginsToCheckImageAtPath P.image_path P.Image.remaining line.now (W.contents out.old) (W.contents out.new) }
@@ -118,8 +120,8 @@ pub fn run_mode_of_command_line<P: Places, W: ToolOutput>(
     ensures unlisted { is_mode_that_writes_lines line.now.mode ≡ false → out.new ≡ out.old }
 {
     match line.mode {
-        Mode::Check => return check_image_at_path(alloc, &*places, line, out),
-        Mode::List => list_image_at_path(alloc, &*places, line, out)?,
+        Mode::Check => return check_image_at_path(alloc, places, line, out),
+        Mode::List => list_image_at_path(alloc, places, line, out)?,
         Mode::Create(folder) => create_image_at_path(alloc, places, line, folder)?,
         Mode::Unpack(folder) => unpack_image_at_path(alloc, places, line, folder)?,
     }

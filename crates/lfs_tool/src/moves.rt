@@ -1,6 +1,6 @@
 // The global state of a thread: whether a move is set, and of which slot.
 
-ghost use Rattle.std.specs.Prelude.{◌≡◌, false, slice_get};
+ghost use Rattle.std.specs.Prelude.{◌≡◌, false, slice_get, true};
 ghost use Rattle.lfs_model.specs.Thread.{gstate_of_pairs, id_of_moved_slot_in_pair};
 ghost use Rattle.lfs_model.specs.View.{HasValidMoveOrNone};
 ghost use Rattle.lfs_tag.specs.FieldsView.{move_view};
@@ -68,7 +68,8 @@ fn is_no_move(state: &MoveState) -> bool
 // Returns whether no move is set, or one that names an entry (SPEC.md of littlefs, "0x7ff
 // LFS_TYPE_MOVESTATE").
 pub(crate) fn is_move_none_or_of_entry(pairs: &[OwnedPair]) -> bool
-    ensures { result ≡ false → ¬ HasValidMoveOrNone (owned_pairs_view pairs.now) (gstate_of_pairs (owned_pairs_view pairs.now)) }
+    ensures no { result ≡ false → ¬ HasValidMoveOrNone (owned_pairs_view pairs.now) (gstate_of_pairs (owned_pairs_view pairs.now)) }
+    ensures is { result ≡ true → HasValidMoveOrNone (owned_pairs_view pairs.now) (gstate_of_pairs (owned_pairs_view pairs.now)) }
 {
     let state = global_state_of_pairs(pairs);
     is_no_move(&state) || (state.kind == DELETE && does_move_name_entry_of_pairs(&state, pairs))

@@ -1,11 +1,13 @@
 // The order of the names in a directory.
 
-ghost use Rattle.std.specs.Prelude.{◌≡◌, IfOk, IfSome, IsSome, false, true};
+ghost use Rattle.std.specs.Prelude.{◌≡◌, IfOk, IfSome, IsSome, List, None, Ok, false, true};
 ghost use Rattle.std.specs.declared.cmp.Ordering.TheVariants.{Less};
 ghost use Rattle.lfs_model.specs.Names.{name_cmp};
-ghost use Rattle.lfs_tool.specs.BrokenOrder.{AreNamesAtPlaces, AreNamesNotInOrder, IsNameBehindNameInDirectory};
+ghost use Rattle.lfs_model.specs.Slots.{Slot};
+ghost use Rattle.lfs_tool.specs.BrokenOrder.{AreNamesAtPlaces, AreNamesInNoOrder, AreNamesNotInOrder, IsNameBehindNameInDirectory};
 ghost use Rattle.lfs_tool.specs.DirectoryWalks.{IsTrueFindingOfPairs};
-ghost use Rattle.lfs_tool.specs.EntryPlaces.{AreEntryPlacesOfReachedDirectory, AreNeighboursInReachedDirectory, name_at_place, slot_at_place};
+ghost use Rattle.lfs_tool.specs.EntryPlaces.{AreEntryPlacesOfReachedDirectory, AreNeighboursInReachedDirectory, ArePlacesOfEntries, name_at_place, slot_at_place};
+ghost use Rattle.lfs_tool.specs.KeptRules.{AreNamesInSomeOrder, AreNeighboursInSomeOrder};
 ghost use Rattle.lfs_tool.specs.OwnedSlotView.{owned_pairs_view};
 
 use crate::entry_places::{EntryPlace, named_slot_at_place, slot_at_place};
@@ -31,6 +33,18 @@ pub(crate) fn are_names_in_order(
     let before = slot_at_place(pairs, earlier);
     let slot = slot_at_place(pairs, later);
     name_cmp(order, &before.name, &slot.name).is_lt()
+}
+
+// Returns whether the name at the later place comes behind the one at the earlier place, in one of the
+// orders of names.
+fn are_names_in_some_order(pairs: &[OwnedPair], earlier: EntryPlace, later: EntryPlace) -> bool
+    requires earlier { IsSome (slot_at_place (owned_pairs_view pairs.now) earlier) }
+    requires later { IsSome (slot_at_place (owned_pairs_view pairs.now) later) }
+    ensures are { result ≡ true → AreNamesInSomeOrder (name_at_place (owned_pairs_view pairs.now) earlier) (name_at_place (owned_pairs_view pairs.now) later) }
+    ensures no { result ≡ false → AreNamesInNoOrder (name_at_place (owned_pairs_view pairs.now) earlier) (name_at_place (owned_pairs_view pairs.now) later) }
+{
+    are_names_in_order(pairs, NameOrder::LongerFirst, earlier, later)
+        || are_names_in_order(pairs, NameOrder::ShorterFirst, earlier, later)
 }
 
 // Returns the later one of two neighbours in a directory, and the name of the earlier one.
@@ -59,14 +73,13 @@ pub(crate) fn finding_on_name_order(
     places: &[EntryPlace],
 ) -> Result<Option<Finding>, AllocError>
     requires { AreEntryPlacesOfReachedDirectory (owned_pairs_view pairs.now) places.now }
-    ensures { IfOk result (λ found. IfSome found (IsTrueFindingOfPairs (owned_pairs_view pairs.now))) }
+    ensures found { IfOk result (λ found. IfSome found (IsTrueFindingOfPairs (owned_pairs_view pairs.now))) }
+    ensures none { result ≡ Ok None → (entries : List Slot) → ArePlacesOfEntries (owned_pairs_view pairs.now) places.now entries → AreNeighboursInSomeOrder entries }
 {
     for index in 1..places.len() {
         let earlier = places[index - 1];
         let later = places[index];
-        if !are_names_in_order(pairs, NameOrder::LongerFirst, earlier, later)
-            && !are_names_in_order(pairs, NameOrder::ShorterFirst, earlier, later)
-        {
+        if !are_names_in_some_order(pairs, earlier, later) {
             let name = name_behind_name(alloc, pairs, earlier, later)?;
             return Ok(Some(Finding::OutOfOrder(name)));
         }

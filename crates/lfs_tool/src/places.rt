@@ -48,9 +48,11 @@ pub trait Places {
     ghost shows: { Self → Bool } = { λ _. false };
 
     /// Returns the image at a path, to be read.
-    fn image(&self, path: &str) -> Result<Self::Image, Error>
+    fn image(&mut self, path: &str) -> Result<Self::Image, Error>
         ensures path { IfOk result (λ i. image_path i ≡ path.now) }
-        ensures err { IfErr result (λ e. e ≡ Error.NoMemory) };
+        ensures err { IfErr result (λ e. e ≡ Error.NoMemory) }
+        ensures kept { history self.new ≡ history self.old }
+        ensures shows { shows self.new ≡ shows self.old };
 
     /// Returns the image at a path, to be made. No call of it was made yet.
     fn new_image(&mut self, path: &str) -> Result<Self::NewImage, Error>

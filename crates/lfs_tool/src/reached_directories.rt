@@ -1,12 +1,13 @@
 // The directories to which paths lead.
 
-ghost use Rattle.std.specs.Prelude.{◌≡◌, ◌++◌, ◌∷◌, [], ◌&&◌, ◌<◌, None, Some, IfOk, IfSome, OnOk, length, slice_get, true};
+ghost use Rattle.std.specs.Prelude.{◌≡◌, ◌++◌, ◌∷◌, [], ◌&&◌, ◌<◌, None, Some, IfOk, IfSome, OnOk, length, slice_get};
 ghost use Rattle.lfs_model.specs.Shown.{directories_in_thread, entries_by_directory_in_thread};
 ghost use Rattle.lfs_model.specs.Slots.{pair_address_of_array, same_pair};
 ghost use Rattle.lfs_model.specs.Thread.{IsAddressOfDirectoryFirstPair, pair_count_before_root};
 ghost use Rattle.lfs_tool.specs.EntryPlaces.{entries_from_pair};
+ghost use Rattle.lfs_tool.specs.KeptRules.{IsFirstPairOfDirectory};
 ghost use Rattle.lfs_tool.specs.OwnedSlotView.{owned_pair_view, owned_pairs_view};
-ghost use Rattle.lfs_tool.specs.ReachedDirectories.{AreReachedDirectories};
+ghost use Rattle.lfs_tool.specs.ReachedDirectories.{AreNumbersOfDirectories, AreReachedDirectories, BeginsNoneOfDirectories, IsOneOfDirectories};
 
 use crate::entry_places::EntryPlace;
 use crate::owned_parts::OwnedPair;
@@ -38,7 +39,8 @@ pub(crate) struct ReachedDirectory {
 pub(crate) struct ReachedDirectories {
     pub all: Vec<ReachedDirectory>,
     // For each pair the number of the directory that begins with it, if it's one of these.
-    numbers: Vec<Option<usize>>,
+    pub numbers: Vec<Option<usize>>,
+    ghost numbered: { AreNumbersOfDirectories numbers.items all.items },
 }
 
 // Returns whether the directory at an address begins with the pair. `begins` tells whether any
@@ -58,6 +60,7 @@ pub(crate) fn first_pair_of_directory(
 ) -> Option<usize>
     requires { root ≡ pair_count_before_root (owned_pairs_view pairs.now) }
     ensures first { IfSome result (λ first. entries_by_directory_in_thread (owned_pairs_view pairs.now) (pair_address_of_array at) ≡ entries_from_pair (owned_pairs_view pairs.now) first) }
+    ensures begins { IfSome result (λ first. IsFirstPairOfDirectory (owned_pairs_view pairs.now) first (pair_address_of_array at)) }
     ensures none { result ≡ None → ¬ IsAddressOfDirectoryFirstPair (directories_in_thread (owned_pairs_view pairs.now)) (pair_address_of_array at) }
 {
     let mut begins = true;
@@ -79,55 +82,60 @@ pub(crate) fn reached_root_directory(
 ) -> Result<ReachedDirectories, AllocError>
     requires root { root ≡ pair_count_before_root (owned_pairs_view pairs.now) }
     requires below { root < length pairs.now }
-    ensures { IfOk result (λ reached. AreReachedDirectories (owned_pairs_view pairs.now) 0 reached.all.items) }
+    ensures root { IfOk result (λ reached. AreReachedDirectories (owned_pairs_view pairs.now) 0 reached.all.items) }
+    ensures numbers { IfOk result (λ reached. length reached.numbers.items ≡ length pairs.now) }
 {
-    let mut numbers = Vec::from_elem(alloc, None, pairs.len())?;
-    numbers[root] = Some(0);
-    let mut all = Vec::new(alloc);
-    all.push(ReachedDirectory {
+    let numbers = Vec::from_elem(alloc, None, pairs.len())?;
+    let mut reached = ReachedDirectories {
+        all: Vec::new(alloc),
+        numbers,
+    };
+    let directory = ReachedDirectory {
         first: root,
         at: pairs[root].at,
         entry: None,
-    })?;
-    Ok(ReachedDirectories { all, numbers })
+    };
+    push_reached_directory(&mut reached, directory)?;
+    Ok(reached)
 }
 
 // Returns the number of the directory that begins with the pair of that number, if it's one of these.
-pub(crate) fn number_of_directory(reached: &ReachedDirectories, first: usize) -> Option<usize> {
+pub(crate) fn number_of_directory(reached: &ReachedDirectories, first: usize) -> Option<usize>
+    ensures some { IfSome result (λ i. (d : ReachedDirectory) × ((slice_get reached.now.all.items i ≡ Some d) × (d.first ≡ first))) }
+    ensures none { result ≡ None → BeginsNoneOfDirectories reached.now.all.items first }
+{
     match reached.numbers.get(first) {
         Some(number) => *number,
         None => None,
     }
 }
 
-// Returns the directory at an address, which begins with the pair of that number, if it's one of
-// these.
-pub(crate) fn reached_directory_at(
+// Returns the directory that begins with the pair of that number, if it's one of these.
+pub(crate) fn directory_of_first_pair(
     reached: &ReachedDirectories,
     first: usize,
-    at: [u32; 2],
 ) -> Option<ReachedDirectory>
-    ensures { IfSome result (λ d. (i : _) × ((slice_get reached.now.all.items i ≡ Some d) × (same_pair (pair_address_of_array d.at) (pair_address_of_array at) ≡ true))) }
+    ensures some { IfSome result (λ d. IsOneOfDirectories reached.now.all.items d × (d.first ≡ first)) }
+    ensures none { result ≡ None → BeginsNoneOfDirectories reached.now.all.items first }
 {
-    let number = number_of_directory(reached, first)?;
-    let directory = reached.all.get(number)?;
-    if is_same_pair(directory.at, at) {
-        Some(*directory)
-    } else {
-        None
+    match number_of_directory(reached, first) {
+        Some(number) => Some(reached.all[number]),
+        None => None,
     }
 }
 
-// Adds a directory to which a path leads.
+// Adds a directory to which a path leads. It begins with a pair with which none of the others does.
 pub(crate) fn push_reached_directory(
     reached: &mut ReachedDirectories,
     directory: ReachedDirectory,
 ) -> Result<(), AllocError>
-    ensures { OnOk result (reached.new.all.items ≡ reached.old.all.items ++ directory ∷ []) }
+    requires none { BeginsNoneOfDirectories reached.old.all.items directory.first }
+    requires below { directory.first < length reached.old.numbers.items }
+    ensures more { OnOk result (reached.new.all.items ≡ reached.old.all.items ++ directory ∷ []) }
+    ensures numbers { length reached.new.numbers.items ≡ length reached.old.numbers.items }
 {
-    if directory.first < reached.numbers.len() {
-        reached.numbers[directory.first] = Some(reached.all.len());
-    }
+    let number = reached.all.len();
     reached.all.push(directory)?;
+    reached.numbers[directory.first] = Some(number);
     Ok(())
 }

@@ -2,7 +2,7 @@ ghost use Rattle.std.specs.Prelude.{◌≡◌, IfErr, IfOk, map};
 ghost use Rattle.lfs_tool_folders.specs.Paths.{image_path};
 ghost use Rattle.lfs_tool.specs.LoggedAnswers.{answer_by_log, answers_in_events};
 ghost use Rattle.lfs_tool.specs.Paths.{path_of_old_image_file};
-ghost use Rattle.lfs_tool.specs.StandardStreams.{is_standard_stream, is_path_of_standard_stream, path_or_dash_of_file_or_standard};
+ghost use Rattle.lfs_tool.specs.StandardStreams.{IsStandardStreamTaken, is_standard_stream, is_path_of_standard_stream, path_or_dash_of_file_or_standard};
 
 use crate::file_or_standard::is_standard_stream_path;
 use crate::{
@@ -12,7 +12,6 @@ use crate::{
 use lfs_device::Error;
 use lfs_tool_folders::{FaultLog, Folder, LoggedFaults, PathFault, TargetFolder};
 use std::alloc::AllocError;
-use std::cell::Cell;
 use std::io;
 use std::io::{BufReader, Read, Write};
 use std::rt::Files;
@@ -30,7 +29,7 @@ pub struct RealPlaces<'a, R, I, O, E, C> {
     rt: &'a R,
     faults: LoggedFaults<'a>,
     // The standard streams, until they are used.
-    input: Cell<Option<I>>,
+    input: Option<I>,
     output: Option<O>,
     // A terminal and a clock, if it is told how far the work is.
     terminal: Option<(E, C)>,
@@ -57,7 +56,7 @@ where
     E: Write + Copy + Drop,
     C: Clock + Copy + Drop,
 {
-    ghost use Rattle.std.specs.Prelude.{[], is_some};
+    ghost use Rattle.std.specs.Prelude.{[], Some, is_some};
     ghost use Rattle.lfs_tool.specs.RealPlaceAnswers.{answers_of_log, has_terminal};
 
     /// Makes the places of a runtime, with its standard input and output, and with the terminal and the clock
@@ -72,11 +71,12 @@ where
         ensures terminal { has_terminal result ≡ is_some terminal }
         ensures answers { answers_of_log result ≡ [] }
         ensures history { result.history.events ≡ [] }
+        ensures streams { (result.input ≡ Some input) × (result.output ≡ Some output) }
     {
         RealPlaces {
             rt,
             faults: LoggedFaults::new(log),
-            input: Cell::new(Some(input)),
+            input: Some(input),
             output: Some(output),
             terminal,
             history: PlaceHistory::empty(),
@@ -85,14 +85,18 @@ where
 
     // Returns what is read at a path.
     fn image_input_at_path(
-        &self,
+        &mut self,
         path: &str,
     ) -> Result<FileOrStandard<OldImage<'a, R>, I>, AllocError>
         ensures path { IfOk result (λ i. path_or_dash_of_file_or_standard path_of_old_image_file i ≡ path.now) }
         ensures kind { IfOk result (λ i. is_standard_stream i ≡ is_path_of_standard_stream path.now) }
+        ensures taken { IfOk result (IsStandardStreamTaken self.old.input self.new.input) }
+        ensures output { self.new.output ≡ self.old.output }
+        ensures history { self.new.history ≡ self.old.history }
+        ensures terminal { has_terminal self.new ≡ has_terminal self.old }
     {
         if is_standard_stream_path(path) {
-            return Ok(FileOrStandard::Standard(self.input.replace(None)));
+            return Ok(FileOrStandard::Standard(self.input.take()));
         }
         let file = OldImage::new(self.rt.alloc(), self.rt, path)?;
         Ok(FileOrStandard::File(file))
@@ -105,6 +109,8 @@ where
     ) -> Result<FileOrStandard<NewImage<'a, R>, O>, AllocError>
         ensures path { IfOk result (λ i. path_or_dash_of_file_or_standard image_path i ≡ path.now) }
         ensures kind { IfOk result (λ i. is_standard_stream i ≡ is_path_of_standard_stream path.now) }
+        ensures taken { IfOk result (IsStandardStreamTaken self.old.output self.new.output) }
+        ensures input { self.new.input ≡ self.old.input }
         ensures history { self.new.history ≡ self.old.history }
         ensures terminal { has_terminal self.new ≡ has_terminal self.old }
     {
@@ -124,12 +130,13 @@ where
     E: Write + Copy + Drop,
     C: Clock + Copy + Drop,
 {
-    ghost use Rattle.std.specs.Prelude.{◌∷◌, Some, is_some};
+    ghost use Rattle.std.specs.Prelude.{◌∷◌, OnOk, Some, is_some};
     ghost use Rattle.std.specs.Option.{option_and_then};
     ghost use Rattle.lfs_tool_folders.specs.Roots.{root_path_of_source_folder, file_size_read_limit, root_path_of_target_folder};
     ghost use Rattle.lfs_tool.specs.AmountsTold.{IsToldOfNothing};
-    ghost use Rattle.lfs_tool.specs.Paths.{path_of_new_image, path_of_old_image};
-    ghost use Rattle.lfs_tool.specs.PlaceEvents.{FaultAnswered, WorkBegan};
+    ghost use Rattle.lfs_tool.specs.Paths.{noted_path_of_new_image, noted_path_of_old_image, path_of_new_image, path_of_old_image, stream_of_new_image, stream_of_old_image};
+    ghost use Rattle.lfs_tool.specs.PlaceEvents.{FaultAnswered, ImageOpened, WorkBegan};
+    ghost use Rattle.lfs_tool.specs.WatchedStreams.{flush_count, unflushed_write_count, watched_fault_count};
     ghost use Rattle.lfs_tool.specs.RealPlaceAnswers.{IsAnsweredByLog, answers_of_log, has_terminal};
 
     type Image = WatchedStream<BufReader<NotedStream<'a, FileOrStandard<OldImage<'a, R>, I>>>>;
@@ -157,12 +164,19 @@ where
     ghost shows = { has_terminal };
 
     fn image(
-        &self,
+        &mut self,
         path: &str,
     ) -> Result<
         WatchedStream<BufReader<NotedStream<'a, FileOrStandard<OldImage<'a, R>, I>>>>,
         Error,
-    > {
+    >
+        ensures path { IfOk result (λ i. path_of_old_image i ≡ path.now) }
+        ensures err { IfErr result (λ e. e ≡ Error.NoMemory) }
+        ensures kept { (self.new.history.events ≡ self.old.history.events) × (self.new.output ≡ self.old.output) }
+        ensures shows { has_terminal self.new ≡ has_terminal self.old }
+        ensures stream { IfOk result (λ i. IsStandardStreamTaken self.old.input self.new.input (stream_of_old_image i)) }
+        ensures noted { IfOk result (λ i. noted_path_of_old_image i ≡ path.now) }
+    {
         let image = self.image_input_at_path(path)?;
         let image = NotedStream::new(self.rt.alloc(), image, path, self.faults.log())?;
         let Ok(reader) = BufReader::with_capacity(self.rt.alloc(), READ_AHEAD, image) else {
@@ -174,7 +188,14 @@ where
     fn new_image(
         &mut self,
         path: &str,
-    ) -> Result<WatchedStream<NotedStream<'a, FileOrStandard<NewImage<'a, R>, O>>>, Error> {
+    ) -> Result<WatchedStream<NotedStream<'a, FileOrStandard<NewImage<'a, R>, O>>>, Error>
+        ensures path { IfOk result (λ i. path_of_new_image i ≡ path.now) }
+        ensures fresh { IfOk result (λ i. (watched_fault_count i ≡ 0) × (unflushed_write_count i ≡ 0) × (flush_count i ≡ 0)) }
+        ensures opened { OnOk result (self.new.history.events ≡ ImageOpened path.now ∷ self.old.history.events) }
+        ensures err { IfErr result (λ e. (e ≡ Error.NoMemory) × (self.new.history.events ≡ self.old.history.events)) }
+        ensures shows { (has_terminal self.new ≡ has_terminal self.old) × (self.new.input ≡ self.old.input) }
+        ensures stream { IfOk result (λ i. IsStandardStreamTaken self.old.output self.new.output (stream_of_new_image i) × (noted_path_of_new_image i ≡ path.now)) }
+    {
         let image = self.image_output_at_path(path)?;
         let image = NotedStream::new(self.rt.alloc(), image, path, self.faults.log())?;
         self.history = self.history.with_opened_image(path);

@@ -1,14 +1,19 @@
 // What is wrong with the image of a device.
 
-ghost use Rattle.std.specs.Prelude.{◌≡◌, ◌<◌, IfOk, IfSome, length};
+ghost use Rattle.std.specs.Prelude.{◌≡◌, ◌<◌, IfOk, IfSome, None, Ok, length, nat_eq};
+ghost use Rattle.std.specs.List.{IsDistinct};
 ghost use Rattle.lfs_device.specs.Shown.{disk_of_geometry_and_blocks};
 ghost use Rattle.lfs_model.specs.Disk.{Disk};
-ghost use Rattle.lfs_model.specs.Thread.{pair_count_before_root};
+ghost use Rattle.lfs_model.specs.Thread.{blocks_of_pairs, gstate_of_pairs, pair_count_before_root};
+ghost use Rattle.lfs_model.specs.View.{HasValidMoveOrNone};
+ghost use Rattle.lfs_model.specs.declared.order.NameOrder.{NameOrder};
 ghost use Rattle.lfs_tool.specs.BrokenRules.{BreaksRuleOfFinding};
 ghost use Rattle.lfs_tool.specs.Device.{HasSizesOfGeometry, OnlyReadsDevice};
 ghost use Rattle.lfs_tool.specs.Findings.{IsTrueFindingOfDisk};
+ghost use Rattle.lfs_tool.specs.KeptRules.{AreDirectoriesInTree, AreRequiredSlotsEntries, BeginsRootWithSuperblock, HasSuperblockNameInFirstSlot, KeepsAllRules, KeepsPairRules};
 ghost use Rattle.lfs_tool.specs.OwnedSlotView.{owned_pairs_view};
-ghost use Rattle.lfs_tool.specs.PairReads.{AreAllThreadPairsOrFinding};
+ghost use Rattle.lfs_tool.specs.PairReads.{AreAllThreadPairsOrFinding, AreOwnedPairsOfThread};
+ghost use Rattle.lfs_tool.specs.Verdict.{IsAcceptedInSomeNameOrder};
 
 use crate::directory_checks::finding_on_directories;
 use crate::findings::Finding;
@@ -33,7 +38,11 @@ fn finding_on_slots_and_directories(
 ) -> Result<Option<Finding>, AllocError>
     requires root { root ≡ pair_count_before_root (owned_pairs_view pairs.now) }
     requires below { root < length pairs.now }
-    ensures { IfOk result (λ found. IfSome found (λ f. (disk : Disk) → BreaksRuleOfFinding disk (owned_pairs_view pairs.now) f)) }
+    requires distinct { IsDistinct nat_eq (blocks_of_pairs (owned_pairs_view pairs.now)) }
+    ensures found { IfOk result (λ found. IfSome found (λ f. (disk : Disk) → BreaksRuleOfFinding disk (owned_pairs_view pairs.now) f)) }
+    ensures named { result ≡ Ok None → BeginsRootWithSuperblock (owned_pairs_view pairs.now) → HasSuperblockNameInFirstSlot (owned_pairs_view pairs.now) }
+    ensures slots { result ≡ Ok None → AreRequiredSlotsEntries (owned_pairs_view pairs.now) }
+    ensures directories { result ≡ Ok None → (order : NameOrder) × AreDirectoriesInTree order (owned_pairs_view pairs.now) }
 {
     if let Some(finding) = finding_on_superblock_name(alloc, pairs)? {
         return Ok(Some(finding));
@@ -46,7 +55,8 @@ fn finding_on_slots_and_directories(
 
 // Returns what is wrong with the move that pairs set.
 fn finding_on_move(pairs: &[OwnedPair]) -> Option<Finding>
-    ensures { IfSome result (λ f. (disk : Disk) → BreaksRuleOfFinding disk (owned_pairs_view pairs.now) f) }
+    ensures none { result ≡ None → HasValidMoveOrNone (owned_pairs_view pairs.now) (gstate_of_pairs (owned_pairs_view pairs.now)) }
+    ensures found { IfSome result (λ f. (disk : Disk) → BreaksRuleOfFinding disk (owned_pairs_view pairs.now) f) }
 {
     if is_move_none_or_of_entry(pairs) {
         None
@@ -61,11 +71,11 @@ fn finding_on_pairs(
     geometry: &Geometry,
     pairs: &[OwnedPair],
 ) -> Result<Option<Finding>, AllocError>
-    ensures { IfOk result (λ found. IfSome found (λ f. (disk : Disk) → HasSizesOfGeometry disk geometry.now → BreaksRuleOfFinding disk (owned_pairs_view pairs.now) f)) }
+    requires some { 0 < length pairs.now }
+    requires distinct { IsDistinct nat_eq (blocks_of_pairs (owned_pairs_view pairs.now)) }
+    ensures found { IfOk result (λ found. IfSome found (λ f. (disk : Disk) → HasSizesOfGeometry disk geometry.now → BreaksRuleOfFinding disk (owned_pairs_view pairs.now) f)) }
+    ensures none { result ≡ Ok None → (disk : Disk) → HasSizesOfGeometry disk geometry.now → (order : NameOrder) × KeepsPairRules disk order (owned_pairs_view pairs.now) }
 {
-    if pairs.is_empty() {
-        return Ok(None);
-    }
     let root = root_pair_index(pairs);
     if let Some(finding) = finding_on_superblock_chain(geometry, pairs, root) {
         return Ok(Some(finding));
@@ -82,7 +92,9 @@ fn finding_on_pairs_and_lists<D: BlockDevice>(
     device: &mut D,
     pairs: &[OwnedPair],
 ) -> Result<Option<Finding>, Error>
+    requires thread { AreOwnedPairsOfThread (disk_of_geometry_and_blocks (D.geometry device.old) (D.blocks device.old)) pairs.now }
     ensures found { IfOk result (λ found. IfSome found (BreaksRuleOfFinding (disk_of_geometry_and_blocks (D.geometry device.old) (D.blocks device.old)) (owned_pairs_view pairs.now))) }
+    ensures none { result ≡ Ok None → (order : NameOrder) × KeepsAllRules (disk_of_geometry_and_blocks (D.geometry device.old) (D.blocks device.old)) order (owned_pairs_view pairs.now) }
     ensures looks { OnlyReadsDevice D.BlockDevice device.old device.new result }
 {
     let geometry = device.geometry();
@@ -103,6 +115,7 @@ fn finding_on_followed_thread<D: BlockDevice>(
 ) -> Result<Option<Finding>, Error>
     requires { AreAllThreadPairsOrFinding (disk_of_geometry_and_blocks (D.geometry device.old) (D.blocks device.old)) followed }
     ensures found { IfOk result (λ found. IfSome found (IsTrueFindingOfDisk (disk_of_geometry_and_blocks (D.geometry device.old) (D.blocks device.old)))) }
+    ensures none { result ≡ Ok None → IsAcceptedInSomeNameOrder (disk_of_geometry_and_blocks (D.geometry device.old) (D.blocks device.old)) }
     ensures looks { OnlyReadsDevice D.BlockDevice device.old device.new result }
 {
     match followed {
@@ -117,8 +130,7 @@ fn finding_on_followed_thread<D: BlockDevice>(
 /// entries lead, and whether paths lead to all. Last come the move, the first entry of the
 /// superblock's log and the lists of files. Only reads are made.
 ///
-/// Returns None where the image breaks no rule that the search looks for. The image may still not
-/// be accepted then.
+/// Returns None only where the image is accepted, in one of the two orders of names.
 ///
 /// Errors: `Io` where a read failed. `NoMemory` where memory isn't granted.
 pub fn find_broken_rule_on_device<D: BlockDevice>(
@@ -126,10 +138,9 @@ pub fn find_broken_rule_on_device<D: BlockDevice>(
     device: &mut D,
 ) -> Result<Option<Finding>, Error>
     ensures found { IfOk result (λ found. IfSome found (IsTrueFindingOfDisk (disk_of_geometry_and_blocks (D.geometry device.old) (D.blocks device.old)))) }
+    ensures none { result ≡ Ok None → IsAcceptedInSomeNameOrder (disk_of_geometry_and_blocks (D.geometry device.old) (D.blocks device.old)) }
     ensures looks { OnlyReadsDevice D.BlockDevice device.old device.new result }
 {
-    match read_pairs_of_thread(alloc, device)? {
-        Some(followed) => finding_on_followed_thread(alloc, device, followed),
-        None => Ok(None),
-    }
+    let followed = read_pairs_of_thread(alloc, device)?;
+    finding_on_followed_thread(alloc, device, followed)
 }

@@ -1,12 +1,13 @@
 // Slots that are no entries.
 
-ghost use Rattle.std.specs.Prelude.{◌≡◌, ◌↔◌, ◌<◌, ◌⊎◌, ℕ, IfOk, IfSome, IsTrue, List, Some, slice_get};
+ghost use Rattle.std.specs.Prelude.{◌≡◌, ◌↔◌, ◌<◌, ◌≤◌, ◌⊎◌, ℕ, IfOk, IfSome, IsTrue, List, None, Ok, Some, slice_get};
 ghost use Rattle.lfs_model.specs.Disk.{Disk};
 ghost use Rattle.lfs_model.specs.Slots.{pair_address_of_array};
 ghost use Rattle.lfs_model.specs.Thread.{Pair, pair_count_before_root};
-ghost use Rattle.lfs_model.specs.View.{IsStructOfKind};
+ghost use Rattle.lfs_model.specs.View.{IsFileOrDirectoryEntry, IsStructOfKind};
 ghost use Rattle.lfs_tool.specs.BrokenRules.{IsTrueOfNamedEntrySlot, BreaksRuleOfFinding, IsSlotRequiredToBeEntry};
-ghost use Rattle.lfs_tool.specs.Entries.{BreaksEntryRule};
+ghost use Rattle.lfs_tool.specs.Entries.{AreSlotsEntriesFrom, BreaksEntryRule};
+ghost use Rattle.lfs_tool.specs.KeptRules.{AreRequiredSlotsEntries};
 ghost use Rattle.lfs_tool.specs.OwnedSlotView.{owned_slot_view, owned_pair_view, owned_pairs_view};
 
 use crate::findings::{Finding, NamedSlot};
@@ -37,7 +38,8 @@ fn has_struct_of_its_kind(slot: &OwnedSlot) -> bool
 
 // Returns what is wrong with a slot that has to be an entry.
 fn entry_defect_of_slot(slot: &OwnedSlot) -> Option<EntryDefect>
-    ensures { IfSome result (BreaksEntryRule (owned_slot_view slot.now)) }
+    ensures defect { IfSome result (BreaksEntryRule (owned_slot_view slot.now)) }
+    ensures none { result ≡ None → IsFileOrDirectoryEntry (owned_slot_view slot.now) }
 {
     if slot.kind.is_superblock() {
         return Some(EntryDefect::IsSuperblock);
@@ -82,7 +84,8 @@ fn finding_on_entry_slot(
     id: usize,
     slot: &OwnedSlot,
 ) -> Result<Option<Finding>, AllocError>
-    ensures { IfOk result (λ found. IfSome found (λ f. (disk : Disk) (ps : List Pair) → IsSlotRequiredToBeEntry ps (pair_address_of_array pair) id (owned_slot_view slot.now) → BreaksRuleOfFinding disk ps f)) }
+    ensures found { IfOk result (λ found. IfSome found (λ f. (disk : Disk) (ps : List Pair) → IsSlotRequiredToBeEntry ps (pair_address_of_array pair) id (owned_slot_view slot.now) → BreaksRuleOfFinding disk ps f)) }
+    ensures none { result ≡ Ok None → IsFileOrDirectoryEntry (owned_slot_view slot.now) }
 {
     let Some(fault) = entry_defect_of_slot(slot) else {
         return Ok(None);
@@ -97,11 +100,13 @@ fn finding_on_entry_slots_of_pair(
     pair: &OwnedPair,
     from: usize,
 ) -> Result<Option<Finding>, AllocError>
-    ensures { IfOk result (λ found. IfSome found (λ f. (disk : Disk) (ps : List Pair) (index : ℕ) → slice_get ps index ≡ Some (owned_pair_view pair.now) → (pair_count_before_root ps < index) ⊎ (0 < from) → BreaksRuleOfFinding disk ps f)) }
+    ensures found { IfOk result (λ found. IfSome found (λ f. (disk : Disk) (ps : List Pair) (index : ℕ) → slice_get ps index ≡ Some (owned_pair_view pair.now) → (pair_count_before_root ps < index) ⊎ (0 < from) → BreaksRuleOfFinding disk ps f)) }
+    ensures none { result ≡ Ok None → AreSlotsEntriesFrom from (owned_pair_view pair.now) }
 {
     for id in from..pair.slots.len() {
-        if let Some(finding) = finding_on_entry_slot(alloc, pair.at, id, &pair.slots[id])? {
-            return Ok(Some(finding));
+        let found = finding_on_entry_slot(alloc, pair.at, id, &pair.slots[id])?;
+        if found.is_some() {
+            return Ok(found);
         }
     }
     Ok(None)
@@ -110,7 +115,8 @@ fn finding_on_entry_slots_of_pair(
 // Returns the number of the first slot of a pair that has to be an entry. So many pairs are before
 // the root directory.
 fn first_entry_slot_id(root: usize, index: usize) -> usize
-    ensures { (root < index) ⊎ (0 < result) }
+    ensures behind { (root < index) ⊎ (0 < result) }
+    ensures all { (id : ℕ) → (root < index) ⊎ (0 < id) → result ≤ id }
 {
     if root < index { 0 } else { 1 }
 }
@@ -123,12 +129,14 @@ pub(crate) fn finding_on_entry_slots(
     root: usize,
 ) -> Result<Option<Finding>, AllocError>
     requires { root ≡ pair_count_before_root (owned_pairs_view pairs.now) }
-    ensures { IfOk result (λ found. IfSome found (λ f. (disk : Disk) → BreaksRuleOfFinding disk (owned_pairs_view pairs.now) f)) }
+    ensures found { IfOk result (λ found. IfSome found (λ f. (disk : Disk) → BreaksRuleOfFinding disk (owned_pairs_view pairs.now) f)) }
+    ensures none { result ≡ Ok None → AreRequiredSlotsEntries (owned_pairs_view pairs.now) }
 {
     for index in 0..pairs.len() {
         let from = first_entry_slot_id(root, index);
-        if let Some(finding) = finding_on_entry_slots_of_pair(alloc, &pairs[index], from)? {
-            return Ok(Some(finding));
+        let found = finding_on_entry_slots_of_pair(alloc, &pairs[index], from)?;
+        if found.is_some() {
+            return Ok(found);
         }
     }
     Ok(None)

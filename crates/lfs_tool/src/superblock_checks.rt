@@ -1,6 +1,6 @@
 // The superblock's chain.
 
-ghost use Rattle.std.specs.Prelude.{◌≡◌, ◌≢◌, ◌<◌, ◌≤◌, ℕ, IfSome, List, None, Some, false, length, slice_get};
+ghost use Rattle.std.specs.Prelude.{◌≡◌, ◌≢◌, ◌<◌, ◌≤◌, ◌+◌, ℕ, IfSome, List, None, Some, false, length, slice_get, true};
 ghost use Rattle.lfs_model.specs.Disk.{Disk};
 ghost use Rattle.lfs_model.specs.EntryTypes.{SuperblockFields};
 ghost use Rattle.lfs_model.specs.Slots.{Inline, Struct as ModelStruct, pair_address_of_array};
@@ -8,6 +8,8 @@ ghost use Rattle.lfs_model.specs.Thread.{Pair, pair_count_before_root};
 ghost use Rattle.lfs_tag.specs.FieldsView.{superblock_view};
 ghost use Rattle.lfs_tool.specs.BrokenRules.{HasSuperblockFields, BreaksRuleOfFinding, IsFirstStructOfSuperblockChainPair, IsWrongSuperblockFieldForDisk};
 ghost use Rattle.lfs_tool.specs.Device.{HasSizesOfGeometry};
+ghost use Rattle.lfs_tool.specs.KeptRules.{HasSameSuperblocksInChain};
+ghost use Rattle.lfs_tool.specs.KeptSuperblocks.{HasInlineSuperblockIfAnySlot, HaveInlineSuperblocksUpTo, HaveSameBytesIfInline, HaveSameInlineBytesIfAnySlot, HaveSameInlineBytesUpTo, IsInlineSuperblockStruct};
 ghost use Rattle.lfs_lookup.specs.Items.{owned_struct_view};
 ghost use Rattle.lfs_tool.specs.OwnedSlotView.{owned_slot_view, owned_pair_view, owned_pairs_view};
 
@@ -42,11 +44,13 @@ fn superblock_fields_in_bytes(bytes: &[u8]) -> Option<Superblock>
 }
 
 // Returns which of these fields is wrong for the image.
+#[tactic(auto, using(crate::proofs::KeptSuperblocks::kept_struct))]
 pub(crate) fn wrong_superblock_number(
     geometry: &Geometry,
     fields: &Superblock,
 ) -> Option<WrongNumber>
-    ensures { IfSome result (λ stated. (disk : Disk) → HasSizesOfGeometry disk geometry.now → IsWrongSuperblockFieldForDisk disk (superblock_view fields.now) stated) }
+    ensures found { IfSome result (λ stated. (disk : Disk) → HasSizesOfGeometry disk geometry.now → IsWrongSuperblockFieldForDisk disk (superblock_view fields.now) stated) }
+    ensures none { result ≡ None → (disk : Disk) (s : ModelStruct) → HasSizesOfGeometry disk geometry.now → HasSuperblockFields s (superblock_view fields.now) → IsInlineSuperblockStruct disk s }
 {
     wrong_number_in_superblock_fields(geometry.block_size, geometry.block_count as usize, fields)
 }
@@ -57,7 +61,8 @@ fn finding_on_superblock_fields(
     pair: [u32; 2],
     fields: &Superblock,
 ) -> Option<Finding>
-    ensures { IfSome result (λ f. (disk : Disk) (ps : List Pair) (s : ModelStruct) → HasSizesOfGeometry disk geometry.now → IsFirstStructOfSuperblockChainPair ps (pair_address_of_array pair) s → HasSuperblockFields s (superblock_view fields.now) → BreaksRuleOfFinding disk ps f) }
+    ensures found { IfSome result (λ f. (disk : Disk) (ps : List Pair) (s : ModelStruct) → HasSizesOfGeometry disk geometry.now → IsFirstStructOfSuperblockChainPair ps (pair_address_of_array pair) s → HasSuperblockFields s (superblock_view fields.now) → BreaksRuleOfFinding disk ps f) }
+    ensures none { result ≡ None → (disk : Disk) (s : ModelStruct) → HasSizesOfGeometry disk geometry.now → HasSuperblockFields s (superblock_view fields.now) → IsInlineSuperblockStruct disk s }
 {
     match wrong_superblock_number(geometry, fields) {
         Some(stated) => Some(Finding::OtherFields { pair, stated }),
@@ -67,7 +72,8 @@ fn finding_on_superblock_fields(
 
 // Returns what is wrong with the superblock in a pair of the chain.
 fn finding_on_superblock(geometry: &Geometry, pair: [u32; 2], first: &OwnedSlot) -> Option<Finding>
-    ensures { IfSome result (λ f. (disk : Disk) (ps : List Pair) → HasSizesOfGeometry disk geometry.now → IsFirstStructOfSuperblockChainPair ps (pair_address_of_array pair) (owned_slot_view first.now).struct → BreaksRuleOfFinding disk ps f) }
+    ensures found { IfSome result (λ f. (disk : Disk) (ps : List Pair) → HasSizesOfGeometry disk geometry.now → IsFirstStructOfSuperblockChainPair ps (pair_address_of_array pair) (owned_slot_view first.now).struct → BreaksRuleOfFinding disk ps f) }
+    ensures none { result ≡ None → (disk : Disk) → HasSizesOfGeometry disk geometry.now → IsInlineSuperblockStruct disk (owned_slot_view first.now).struct }
 {
     match superblock_fields_of_struct(&first.structure) {
         Some(fields) => finding_on_superblock_fields(geometry, pair, &fields),
@@ -77,7 +83,8 @@ fn finding_on_superblock(geometry: &Geometry, pair: [u32; 2], first: &OwnedSlot)
 
 // Returns what is wrong with the superblock in a pair of the chain, if the pair has one.
 fn finding_on_superblock_of_pair(geometry: &Geometry, pair: &OwnedPair) -> Option<Finding>
-    ensures { IfSome result (λ f. (disk : Disk) (ps : List Pair) (index : ℕ) → HasSizesOfGeometry disk geometry.now → slice_get ps index ≡ Some (owned_pair_view pair.now) → index ≤ pair_count_before_root ps → BreaksRuleOfFinding disk ps f) }
+    ensures found { IfSome result (λ f. (disk : Disk) (ps : List Pair) (index : ℕ) → HasSizesOfGeometry disk geometry.now → slice_get ps index ≡ Some (owned_pair_view pair.now) → index ≤ pair_count_before_root ps → BreaksRuleOfFinding disk ps f) }
+    ensures none { result ≡ None → (disk : Disk) → HasSizesOfGeometry disk geometry.now → HasInlineSuperblockIfAnySlot disk (owned_pair_view pair.now) }
 {
     if pair.slots.is_empty() {
         None
@@ -95,7 +102,8 @@ fn finding_on_chain_superblocks(
 ) -> Option<Finding>
     requires below { root < length pairs.now }
     requires root { root ≡ pair_count_before_root (owned_pairs_view pairs.now) }
-    ensures { IfSome result (λ f. (disk : Disk) → HasSizesOfGeometry disk geometry.now → BreaksRuleOfFinding disk (owned_pairs_view pairs.now) f) }
+    ensures found { IfSome result (λ f. (disk : Disk) → HasSizesOfGeometry disk geometry.now → BreaksRuleOfFinding disk (owned_pairs_view pairs.now) f) }
+    ensures none { result ≡ None → (disk : Disk) → HasSizesOfGeometry disk geometry.now → HaveInlineSuperblocksUpTo disk (root + 1) (owned_pairs_view pairs.now) }
 {
     for index in 0..root + 1 {
         if let Some(finding) = finding_on_superblock_of_pair(geometry, &pairs[index]) {
@@ -107,7 +115,8 @@ fn finding_on_chain_superblocks(
 
 // Returns whether two structs of superblocks have the same bytes, or one of them isn't a superblock's.
 fn has_same_bytes(one: &OwnedStruct, other: &OwnedStruct) -> bool
-    ensures { result ≡ false → owned_struct_view one.now ≢ owned_struct_view other.now }
+    ensures other { result ≡ false → owned_struct_view one.now ≢ owned_struct_view other.now }
+    ensures same { result ≡ true → HaveSameBytesIfInline (owned_struct_view one.now) (owned_struct_view other.now) }
 {
     match (one, other) {
         (OwnedStruct::Inline(one), OwnedStruct::Inline(other)) => one == other,
@@ -117,8 +126,9 @@ fn has_same_bytes(one: &OwnedStruct, other: &OwnedStruct) -> bool
 
 // Returns what is wrong with the superblock in a pair of the chain beside the one of the root directory.
 fn finding_on_two_superblocks(pair: &OwnedPair, root: &OwnedPair) -> Option<Finding>
-    ensures { IfSome result (λ f. (disk : Disk) (ps : List Pair) (index : ℕ) (last : ℕ) → slice_get ps index ≡ Some (owned_pair_view pair.now) → index ≤ pair_count_before_root ps
+    ensures found { IfSome result (λ f. (disk : Disk) (ps : List Pair) (index : ℕ) (last : ℕ) → slice_get ps index ≡ Some (owned_pair_view pair.now) → index ≤ pair_count_before_root ps
         → slice_get ps last ≡ Some (owned_pair_view root.now) → last ≤ pair_count_before_root ps → BreaksRuleOfFinding disk ps f) }
+    ensures none { result ≡ None → HaveSameInlineBytesIfAnySlot (owned_pair_view pair.now) (owned_pair_view root.now) }
 {
     let (Some(one), Some(other)) = (pair.slots.first(), root.slots.first()) else {
         return None;
@@ -136,7 +146,8 @@ fn finding_on_two_superblocks(pair: &OwnedPair, root: &OwnedPair) -> Option<Find
 fn finding_on_other_superblocks(pairs: &[OwnedPair], root: usize) -> Option<Finding>
     requires below { root < length pairs.now }
     requires root { root ≡ pair_count_before_root (owned_pairs_view pairs.now) }
-    ensures { IfSome result (λ f. (disk : Disk) → BreaksRuleOfFinding disk (owned_pairs_view pairs.now) f) }
+    ensures found { IfSome result (λ f. (disk : Disk) → BreaksRuleOfFinding disk (owned_pairs_view pairs.now) f) }
+    ensures none { result ≡ None → HaveSameInlineBytesUpTo root root (owned_pairs_view pairs.now) }
 {
     for index in 0..root {
         if let Some(finding) = finding_on_two_superblocks(&pairs[index], &pairs[root]) {
@@ -155,7 +166,8 @@ pub(crate) fn finding_on_superblock_chain(
 ) -> Option<Finding>
     requires below { root < length pairs.now }
     requires root { root ≡ pair_count_before_root (owned_pairs_view pairs.now) }
-    ensures { IfSome result (λ f. (disk : Disk) → HasSizesOfGeometry disk geometry.now → BreaksRuleOfFinding disk (owned_pairs_view pairs.now) f) }
+    ensures found { IfSome result (λ f. (disk : Disk) → HasSizesOfGeometry disk geometry.now → BreaksRuleOfFinding disk (owned_pairs_view pairs.now) f) }
+    ensures none { result ≡ None → (disk : Disk) → HasSizesOfGeometry disk geometry.now → HasSameSuperblocksInChain disk (owned_pairs_view pairs.now) }
 {
     if !starts_with_superblock(&pairs[root].slots) {
         return Some(Finding::NoSuperblock);

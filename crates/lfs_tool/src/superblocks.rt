@@ -1,7 +1,8 @@
 // The numbers of a superblock, by its place in the bytes alone.
 
-ghost use Rattle.std.specs.Prelude.{◌≡◌, ◌⊎◌, ◌<◌, ◌/◌, ◌^◌, IfSome};
+ghost use Rattle.std.specs.Prelude.{◌≡◌, ◌⊎◌, ◌<◌, ◌/◌, ◌^◌, IfSome, None};
 ghost use Rattle.lfs_tag.specs.FieldsView.{superblock_view};
+ghost use Rattle.lfs_tool.specs.KeptSuperblocks.{HasSizesAndVersion};
 ghost use Rattle.lfs_tool.specs.WrongNumbers.{IsWrongNumberInImageBytes, IsWrongSuperblockField, IsSuperblockAtOffset};
 
 use crate::findings::WrongNumber;
@@ -13,7 +14,8 @@ pub(crate) fn wrong_number_in_superblock_fields(
     count: usize,
     fields: &Superblock,
 ) -> Option<WrongNumber>
-    ensures { IfSome result (IsWrongSuperblockField block_size count (superblock_view fields.now)) }
+    ensures found { IfSome result (IsWrongSuperblockField block_size count (superblock_view fields.now)) }
+    ensures none { result ≡ None → HasSizesAndVersion block_size count (superblock_view fields.now) }
 {
     if fields.block_size != block_size {
         return Some(WrongNumber::BlockSize(fields.block_size));

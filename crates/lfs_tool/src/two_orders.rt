@@ -1,13 +1,16 @@
 // Names in two orders.
 
-ghost use Rattle.std.specs.Prelude.{◌≡◌, All, IfOk, IfSome, IsSome};
+ghost use Rattle.std.specs.Prelude.{◌≡◌, All, IfOk, IfSome, IsSome, List, None, Ok, false, true};
+ghost use Rattle.lfs_model.specs.Slots.{Slot};
 ghost use Rattle.lfs_model.specs.Thread.{gstate_of_pairs};
 ghost use Rattle.lfs_tag.specs.FieldsView.{move_view};
-ghost use Rattle.lfs_tool.specs.BrokenOrder.{AreNamesInOneOrder, IsNameBehindNameInDirectory};
+ghost use Rattle.lfs_tool.specs.BrokenOrder.{AreNamesInOneOrder, AreNamesInOtherOrderToo, IsNameBehindNameInDirectory};
 ghost use Rattle.lfs_tool.specs.DirectoryWalks.{IsTrueFindingOfPairs};
-ghost use Rattle.lfs_tool.specs.EntryPlaces.{AreEntryPlacesOfReachedDirectory};
+ghost use Rattle.lfs_tool.specs.EntryPlaces.{AreEntryPlacesOfReachedDirectory, ArePlacesOfEntries, name_at_place, slot_at_place};
+ghost use Rattle.lfs_tool.specs.KeptRules.{AreNeighboursInSomeOrder};
 ghost use Rattle.lfs_tool.specs.OwnedSlotView.{owned_pairs_view};
 ghost use Rattle.lfs_tool.specs.ReachedDirectories.{IsReachedDirectory};
+ghost use Rattle.lfs_tool.specs.SortedDirectories.{AreDirectoriesSortedInOneOrder, AreNeighboursInOtherOrderToo, HoldsOfEachDirectory};
 
 use crate::entry_places::{EntryPlace, entry_places_of_directory};
 use crate::findings::{Finding, NameBehindName};
@@ -17,6 +20,24 @@ use crate::reached_directories::ReachedDirectory;
 use lfs_device::NameOrder;
 use lfs_tag::MoveState;
 use std::alloc::{AllocError, Global};
+
+// Returns whether the name at the later place comes behind the one at the earlier place in an order of
+// names, and not in the other one.
+fn are_names_in_one_order(
+    pairs: &[OwnedPair],
+    order: NameOrder,
+    other: NameOrder,
+    earlier: EntryPlace,
+    later: EntryPlace,
+) -> bool
+    requires earlier { IsSome (slot_at_place (owned_pairs_view pairs.now) earlier) }
+    requires later { IsSome (slot_at_place (owned_pairs_view pairs.now) later) }
+    ensures are { result ≡ true → AreNamesInOneOrder order other (name_at_place (owned_pairs_view pairs.now) earlier) (name_at_place (owned_pairs_view pairs.now) later) }
+    ensures no { result ≡ false → AreNamesInOtherOrderToo order other (name_at_place (owned_pairs_view pairs.now) earlier) (name_at_place (owned_pairs_view pairs.now) later) }
+{
+    are_names_in_order(pairs, order, earlier, later)
+        && !are_names_in_order(pairs, other, earlier, later)
+}
 
 // Returns the first name in a directory that comes behind the one before it in one order of names, and
 // not in the other one. The places are those of its entries.
@@ -29,14 +50,13 @@ fn name_in_one_order(
     places: &[EntryPlace],
 ) -> Result<Option<NameBehindName>, AllocError>
     requires { AreEntryPlacesOfReachedDirectory (owned_pairs_view pairs.now) places.now }
-    ensures { IfOk result (λ found. IfSome found (IsNameBehindNameInDirectory (AreNamesInOneOrder order other) (owned_pairs_view pairs.now))) }
+    ensures found { IfOk result (λ found. IfSome found (IsNameBehindNameInDirectory (AreNamesInOneOrder order other) (owned_pairs_view pairs.now))) }
+    ensures none { result ≡ Ok None → (entries : List Slot) → ArePlacesOfEntries (owned_pairs_view pairs.now) places.now entries → AreNeighboursInOtherOrderToo order other entries }
 {
     for index in 1..places.len() {
         let earlier = places[index - 1];
         let later = places[index];
-        if are_names_in_order(pairs, order, earlier, later)
-            && !are_names_in_order(pairs, other, earlier, later)
-        {
+        if are_names_in_one_order(pairs, order, other, earlier, later) {
             let name = name_behind_name(alloc, pairs, earlier, later)?;
             return Ok(Some(name));
         }
@@ -56,7 +76,8 @@ fn name_in_one_order_in_directories(
 ) -> Result<Option<NameBehindName>, AllocError>
     requires state { move_view state.now ≡ gstate_of_pairs (owned_pairs_view pairs.now) }
     requires reached { All (IsReachedDirectory (owned_pairs_view pairs.now)) directories.now }
-    ensures { IfOk result (λ found. IfSome found (IsNameBehindNameInDirectory (AreNamesInOneOrder order other) (owned_pairs_view pairs.now))) }
+    ensures found { IfOk result (λ found. IfSome found (IsNameBehindNameInDirectory (AreNamesInOneOrder order other) (owned_pairs_view pairs.now))) }
+    ensures none { result ≡ Ok None → HoldsOfEachDirectory (AreNeighboursInOtherOrderToo order other) (owned_pairs_view pairs.now) directories.now }
 {
     for directory in directories {
         let places = entry_places_of_directory(alloc, state, pairs, directory.first)?;
@@ -76,7 +97,8 @@ pub(crate) fn finding_on_two_orders(
 ) -> Result<Option<Finding>, AllocError>
     requires state { move_view state.now ≡ gstate_of_pairs (owned_pairs_view pairs.now) }
     requires reached { All (IsReachedDirectory (owned_pairs_view pairs.now)) directories.now }
-    ensures { IfOk result (λ found. IfSome found (IsTrueFindingOfPairs (owned_pairs_view pairs.now))) }
+    ensures found { IfOk result (λ found. IfSome found (IsTrueFindingOfPairs (owned_pairs_view pairs.now))) }
+    ensures none { result ≡ Ok None → HoldsOfEachDirectory AreNeighboursInSomeOrder (owned_pairs_view pairs.now) directories.now → AreDirectoriesSortedInOneOrder (owned_pairs_view pairs.now) directories.now }
 {
     let (shorter, longer) = (NameOrder::ShorterFirst, NameOrder::LongerFirst);
     let found = name_in_one_order_in_directories(

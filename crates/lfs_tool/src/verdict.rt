@@ -50,6 +50,6 @@ pub enum ImageVerdict {
         summary: ImageSummary,
         orders: AcceptedOrders,
     },
-    /// A rule that the image breaks. None where the search found none.
-    Refused(Option<Finding>),
+    /// The first rule that the image breaks.
+    Refused(Finding),
 }

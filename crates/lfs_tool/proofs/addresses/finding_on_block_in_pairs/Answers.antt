@@ -3,8 +3,8 @@ use Rattle.lfs_model.specs.Thread.{Pair}
 use Rattle.lfs_tool.proofs.HeldPairs.{held_there}
 use Rattle.lfs_tool.proofs.addresses.finding_on_block_in_pairs.Goals as goal
 
-pub returns-then-pair_has_block : goal.returns-then-pair_has_block
-returns-then-pair_has_block c disk held =
+pub returns-then-pair_has_block-clause-found : goal.returns-then-pair_has_block-clause-found
+returns-then-pair_has_block-clause-found c disk held =
     let there = held_there c.args.pairs.now held.pairs c.loop-held.held-index c.held-item.result held.are c.loop-held-test.true c.held-item.is in
     record {
       pairs = held.pairs;

@@ -1,4 +1,4 @@
-use Rattle.std.proofs.Common.{◌≡◌, Some, None, subst}
+use Rattle.std.proofs.Common.{◌≡◌, Some, subst}
 use Rattle.lfs_tool.specs.declared.verdict.ImageVerdict.TheVariants as verdict
 use Rattle.lfs_tool.specs.CheckResults.{IsVerdictOnBytes}
 use Rattle.lfs_tool.proofs.examination.check_result_of_verdict.Goals as goal
@@ -11,25 +11,14 @@ returns-in-Some-Accepted c block_size page image stated judged given =
     let is : c.args.verdict ≡ Some (verdict.Accepted e.summary e.orders) = cc in
     subst (IsVerdictOnBytes block_size page image) is judged
 
-pub returns-in-Some-Refused-Some : goal.returns-in-Some-Refused-Some
-returns-in-Some-Refused-Some c block_size page image stated judged given =
-    let e = c.in-Some-Refused-Some in
+pub returns-in-Some-Refused : goal.returns-in-Some-Refused
+returns-in-Some-Refused c block_size page image stated judged given =
+    let e = c.in-Some-Refused in
     let outer = e.is in
     let inner = e.field-0-is in
-    let last = e.field-0-0-is in
-    let is : c.args.verdict ≡ Some (verdict.Refused (Some e.finding)) = cc in
+    let is : c.args.verdict ≡ Some (verdict.Refused e.finding) = cc in
     let j = subst (IsVerdictOnBytes block_size page image) is judged in
     c.refused_check_result.ensures block_size page image (λ image_is order. (j.1 order).0) stated (j.0, λ order. (j.1 order).1) given
-
-pub returns-in-Some-Refused-None : goal.returns-in-Some-Refused-None
-returns-in-Some-Refused-None c block_size page image stated judged given =
-    let e = c.in-Some-Refused-None in
-    let outer = e.is in
-    let inner = e.field-0-is in
-    let last = e.field-0-0-is in
-    let is : c.args.verdict ≡ Some (verdict.Refused None) = cc in
-    let j = subst (IsVerdictOnBytes block_size page image) is judged in
-    c.refused_check_result-in-Some-Refused-None.ensures block_size page image (λ image_is order. (j.1 order).0) stated j.0 given
 
 pub returns-in-None : goal.returns-in-None
 returns-in-None c block_size page image stated judged given =

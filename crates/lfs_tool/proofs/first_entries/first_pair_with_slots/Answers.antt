@@ -9,8 +9,8 @@ has_first : (slots : List OwnedSlot) (n : ℕ) → n ≡ length slots → (n == 
 has_first [] n e some = absurd (let none : (n == 0) ≡ true = ap (λ (k : ℕ). k == 0) e in cc)
 has_first (s ∷ slots) n e some = refl
 
-pub returns-then-not-is_empty : goal.returns-then-not-is_empty
-returns-then-not-is_empty c =
+pub returns-then-not-is_empty-clause-some : goal.returns-then-not-is_empty-clause-some
+returns-then-not-is_empty-clause-some c =
     let pairs = c.args.pairs.now in
     let p = c.pair-item.result in
     let at = c.loop-pair.pair-index in

@@ -26,10 +26,15 @@ returns-in-Ok-clause-verdict c =
     let m = c.in-Ok.ensures.mounted in
     IfOk-weaker c.judge_thread.result _ _ (λ v h order. verdict_alike c.in-Ok.thread.kept.disk (disk_with_name_order order disk) LongerFirst v (ap (λ (d : Disk). disk_with_name_order LongerFirst d) m.disk_is) h) c.judge_thread.ensures.verdict
 
-pub returns-in_ok-found-in-Err-default-Corrupt-clause-verdict : goal.returns-in_ok-found-in-Err-default-Corrupt-clause-verdict
-returns-in_ok-found-in-Err-default-Corrupt-clause-verdict c =
+pub finding_on_refused_device-requires : goal.finding_on_refused_device-requires
+finding_on_refused_device-requires c =
+    let e = c.in-Err-default-Corrupt in
+    λ order ps a. e.ensures.corrupt e.field-0-1-is order ps (subst (λ (d : Disk). IsAcceptedImage d ps) (e.ensures.back.disk order) a)
+
+pub returns-in_ok-finding-in-Err-default-Corrupt-clause-verdict : goal.returns-in_ok-finding-in-Err-default-Corrupt-clause-verdict
+returns-in_ok-finding-in-Err-default-Corrupt-clause-verdict c =
     let e = c.in-Err-default-Corrupt in λ order. (
       (λ other ps a. e.ensures.corrupt e.field-0-1-is other ps a),
-      found_alike (disk_of_geometry_and_blocks (geometry_of_ram_device e.device) (ram_blocks e.device)) (disk_with_name_order order (disk_of_geometry_and_blocks (geometry_of_ram_device c.args.device) (ram_blocks c.args.device))) LongerFirst c.in_ok-found-in-Err-default-Corrupt.found
-          (e.ensures.back.disk LongerFirst) c.in_ok-found-in-Err-default-Corrupt.ensures.found,
+      found_alike (disk_of_geometry_and_blocks (geometry_of_ram_device e.device) (ram_blocks e.device)) (disk_with_name_order order (disk_of_geometry_and_blocks (geometry_of_ram_device c.args.device) (ram_blocks c.args.device))) LongerFirst c.in_ok-finding-in-Err-default-Corrupt.finding
+          (e.ensures.back.disk LongerFirst) c.in_ok-finding-in-Err-default-Corrupt.ensures.found,
     )

@@ -12,7 +12,7 @@ name_of o = option_map_or (λ s. s.name) o []
 
 pub returns : goal.returns
 returns c =
-    let place = c.in_ok-place.ensures in
+    let place = c.in_ok-place.ensures.is in
     let n = c.requires.neighbours in
     record {
       path = n.path;

@@ -1,18 +1,34 @@
-use Rattle.std.proofs.Common.{ℕ, ◌≡◌, ◌<◌, ◌⊎◌, List, Some, arith, subst}
-use Rattle.std.specs.Prelude.{IfSome, slice_get}
-use Rattle.lfs_model.specs.Disk.{Disk}
-use Rattle.lfs_model.specs.Thread.{Pair, pair_count_before_root}
-use Rattle.lfs_tool.specs.BrokenRules.{BreaksRuleOfFinding}
+use Rattle.std.proofs.Common.{◌<◌, ◌⊎◌, ◌∙◌, Ok, ap, arith, subst, sym}
+use Rattle.std.proofs.lemmas.List.{length-map}
 use Rattle.lfs_tool.specs.OwnedSlotView.{owned_pair_view, owned_pairs_view}
-use Rattle.lfs_tool.specs.declared.findings.Finding.{Finding}
-use Rattle.lfs_tool.proofs.HeldPlaces.{pair_there}
+use Rattle.lfs_tool.proofs.EntrySlots.{all_required_slots, one_pair_more}
+use Rattle.lfs_tool.proofs.HeldPlaces.{pair_there, some_weaker}
+use Rattle.lfs_tool.proofs.ReachedAddresses.{not_some}
 use Rattle.lfs_tool.proofs.slots.finding_on_entry_slots.Goals as goal
 
-pub returns-in-Some : goal.returns-in-Some
-returns-in-Some c disk =
+pub returns-then-is_some-clause-found : goal.returns-then-is_some-clause-found
+returns-then-is_some-clause-found c =
     let pairs = c.args.pairs.now in
+    let at = c.loop-index.index in
     let from = c.first_entry_slot_id-from.result in
-    let holds : Finding → Type 0 = λ f. (disk : Disk) (ps : List Pair) (index : ℕ) → slice_get ps index ≡ Some (owned_pair_view c.index-pairs-index.result) → (pair_count_before_root ps < index) ⊎ (0 < from) → BreaksRuleOfFinding disk ps f in
-    let found = subst (λ o. IfSome o holds) c.in-Some.is c.in_ok-finding.ensures in
-    found disk (owned_pairs_view pairs) c.loop-index.index (pair_there pairs c.loop-index.index c.index-pairs-index.result (omega arith) c.index-pairs-index.is)
-    (subst (λ r. (r < c.loop-index.index) ⊎ (0 < from)) c.requires c.first_entry_slot_id-from.ensures)
+    some_weaker c.in_ok-found.found _ _
+    (λ f holds disk. holds disk (owned_pairs_view pairs) at (pair_there pairs at c.index-pairs-index.result (omega arith) c.index-pairs-index.is)
+    (subst (λ r. (r < at) ⊎ (0 < from)) c.requires c.first_entry_slot_id-from.ensures.behind))
+    c.in_ok-found.ensures.found
+
+pub loop-index-preserved : goal.loop-index-preserved
+loop-index-preserved c =
+    let pairs = c.args.pairs.now in
+    let at = c.loop-index.index in
+    let from = c.first_entry_slot_id-from.result in
+    one_pair_more (owned_pairs_view pairs) at from (owned_pair_view c.index-pairs-index.result)
+    (pair_there pairs at c.index-pairs-index.result (omega arith) c.index-pairs-index.is)
+    (c.in_ok-found.ensures.none (ap (λ o. Ok o) (not_some c.in_ok-found.found (sym c.is_some.ensures ∙ c.if-is_some.false))))
+    (λ id required. c.first_entry_slot_id-from.ensures.all id (subst (λ r. (r < at) ⊎ (0 < id)) (sym c.requires) required))
+    c.loop-index.invariant
+
+pub returns-clause-none : goal.returns-clause-none
+returns-clause-none c none =
+    let pairs = c.args.pairs.now in
+    let end = c.loop-index-test.false in
+    all_required_slots (owned_pairs_view pairs) c.loop-index.index (omega (arith, length-map pairs owned_pair_view)) c.loop-index.invariant

@@ -1,26 +1,39 @@
-use Rattle.std.proofs.Common.{List, arith, refl, subst}
-use Rattle.std.specs.Prelude.{IfSome}
-use Rattle.lfs_model.specs.Disk.{Disk}
-use Rattle.lfs_model.specs.Slots.{pair_address_of_array}
-use Rattle.lfs_model.specs.Thread.{Pair}
-use Rattle.lfs_tool.specs.BrokenRules.{BreaksRuleOfFinding, IsSlotRequiredToBeEntry}
+use Rattle.std.proofs.Common.{◌∙◌, Ok, ap, arith, refl, sym}
+use Rattle.std.proofs.lemmas.List.{length-map}
 use Rattle.lfs_tool.specs.OwnedSlotView.{owned_slot_view, owned_pair_view}
-use Rattle.lfs_tool.specs.declared.findings.Finding.{Finding}
-use Rattle.lfs_tool.proofs.HeldPlaces.{further_on, slot_there}
+use Rattle.lfs_tool.proofs.EntrySlots.{all_slots_from, one_slot_more}
+use Rattle.lfs_tool.proofs.HeldPlaces.{further_on, slot_there, some_weaker}
+use Rattle.lfs_tool.proofs.ReachedAddresses.{not_some}
 use Rattle.lfs_tool.proofs.slots.finding_on_entry_slots_of_pair.Goals as goal
 
-pub returns-in-Some : goal.returns-in-Some
-returns-in-Some c disk ps index there behind =
+pub returns-then-is_some-clause-found : goal.returns-then-is_some-clause-found
+returns-then-is_some-clause-found c =
     let slots = c.args.pair.now.slots in
-    let holds : Finding → Type 0 = λ f. (disk : Disk) (ps : List Pair) → IsSlotRequiredToBeEntry ps (pair_address_of_array c.args.pair.now.at) c.loop-id.id (owned_slot_view c.index.result.now) → BreaksRuleOfFinding disk ps f in
-    let found = subst (λ o. IfSome o holds) c.in-Some.is c.in_ok-finding.ensures in
     let end = c.len-id-end.ensures in
     let test = c.loop-id-test.true in
-    found disk ps (record {
+    some_weaker c.in_ok-found.found _ _
+    (λ f holds disk ps index there behind. holds disk ps (record {
       index = index;
       pair = owned_pair_view c.args.pair.now;
       there = there;
       at_is = refl;
       slot = slot_there slots.items c.loop-id.id c.index.result.now (omega (arith, end, test, slots.ok.0)) c.index.ensures;
       behind = further_on c.args.from c.loop-id.id (omega arith) behind;
-    })
+    }))
+    c.in_ok-found.ensures.found
+
+pub loop-id-preserved : goal.loop-id-preserved
+loop-id-preserved c =
+    let slots = c.args.pair.now.slots in
+    let end = c.len-id-end.ensures in
+    let test = c.loop-id-test.true in
+    one_slot_more c.args.from c.loop-id.id (owned_pair_view c.args.pair.now) (owned_slot_view c.index.result.now)
+    (slot_there slots.items c.loop-id.id c.index.result.now (omega (arith, end, test, slots.ok.0)) c.index.ensures)
+    (c.in_ok-found.ensures.none (ap (λ o. Ok o) (not_some c.in_ok-found.found (sym c.is_some.ensures ∙ c.if-is_some.false)))) c.loop-id.invariant
+
+pub returns-clause-none : goal.returns-clause-none
+returns-clause-none c none =
+    let slots = c.args.pair.now.slots in
+    let end = c.len-id-end.ensures in
+    let test = c.loop-id-test.false in
+    all_slots_from c.args.from c.loop-id.id (owned_pair_view c.args.pair.now) (omega (arith, end, test, slots.ok.0, length-map slots.items owned_slot_view)) c.loop-id.invariant

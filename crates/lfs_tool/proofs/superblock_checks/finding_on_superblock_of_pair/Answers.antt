@@ -9,8 +9,8 @@ use Rattle.lfs_tool.specs.OwnedSlotView.{owned_slot_view, owned_pair_view}
 use Rattle.lfs_tool.proofs.HeldPlaces.{not_none, slot_there, some_weaker}
 use Rattle.lfs_tool.proofs.superblock_checks.finding_on_superblock_of_pair.Goals as goal
 
-pub returns-else-is_empty : goal.returns-else-is_empty
-returns-else-is_empty c =
+pub returns-else-is_empty-clause-found : goal.returns-else-is_empty-clause-found
+returns-else-is_empty-clause-found c =
     let slots = c.args.pair.now.slots in
     let some = not_none (vec_len slots) (sym c.is_empty.ensures ∙ c.if-is_empty.false) in
     some_weaker c.finding_on_superblock.result
@@ -25,4 +25,4 @@ returns-else-is_empty c =
       slot = owned_slot_view c.index.result.now;
       first = slot_there slots.items 0 c.index.result.now (omega (arith, some, slots.ok.0)) c.index.ensures;
       struct = refl;
-    })) c.finding_on_superblock.ensures
+    })) c.finding_on_superblock.ensures.found

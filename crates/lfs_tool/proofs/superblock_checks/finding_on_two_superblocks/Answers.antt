@@ -3,8 +3,8 @@ use Rattle.lfs_tool.specs.OwnedSlotView.{owned_pair_view, owned_slot_view}
 use Rattle.lfs_tool.proofs.HeldPlaces.{first_there}
 use Rattle.lfs_tool.proofs.superblock_checks.finding_on_two_superblocks.Goals as goal
 
-pub returns : goal.returns
-returns c disk ps index last there chained root_there root_chained =
+pub returns-clause-found : goal.returns-clause-found
+returns-clause-found c disk ps index last there chained root_there root_chained =
     let one = owned_slot_view c.in-Some-Some.one.now in
     let other = owned_slot_view c.in-Some-Some.other.now in (
       one.struct,
@@ -32,7 +32,7 @@ returns c disk ps index last there chained root_there root_chained =
               first = first_there c.args.root.now.slots.items c.deref-2.result.now c.in-Some-Some.other.now c.deref-2.ensures.value c.in-Some-Some.ensures'.value;
               struct = refl;
             },
-            c.has_same_bytes.ensures c.if-has_same_bytes.false,
+            c.has_same_bytes.ensures.other c.if-has_same_bytes.false,
           ),
         ),
       ),

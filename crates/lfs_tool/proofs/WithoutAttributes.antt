@@ -1,0 +1,279 @@
+-- An image's rules say the same of pairs with attributes and without.
+use Rattle.std.proofs.Common.{ℕ, zero, suc, ◌≡◌, ◌+◌, ◌&&◌, ◌∙◌, inl, inr, not, Bool, true, false, cond, List, [], ◌∷◌, ◌++◌, map, drop, remove, filter, flat_map, option_and_then, option_map, Option, Some, None, refl, sym, ap, ap₂, subst, arith}
+use Rattle.std.specs.Prelude.{All, Any, slice_get, ◌==◌}
+use Rattle.std.specs.List.{fold}
+use Rattle.std.proofs.lemmas.List.{drop-map, get_or-map, length-map, map-append}
+use Rattle.std.proofs.lemmas.List.Folds.{flat_map-map}
+use Rattle.std.proofs.lemmas.Option.{slice_get-map}
+use Rattle.lfs_model.specs.Disk.{Disk}
+use Rattle.lfs_model.specs.Names.{Name, same_name}
+use Rattle.lfs_model.specs.Shown.{IsDirectoryAddressReachedBySomePath, IsPathToDirectory, all_slots_not_moved, directories_in_thread, entries_by_directory_in_thread, skip_list_blocks_of_struct, used_blocks}
+use Rattle.lfs_model.specs.Slots.{Gstate, Slot, gstate_kind_of_set_move, gstate_xor, is_superblock, same_pair, zero_gstate}
+use Rattle.lfs_model.specs.Thread.{IsAddressOfDirectoryFirstPair, Pair, ThreadDirectory, blocks_of_pairs, directories_of_pairs, directories_with_pair_prepended, entries_not_moved, entries_of_directory, first_pair_address, gstate_of_pairs, has_no_slot_or_only_superblock, has_slots, has_superblock_in_first_nonempty_pair, is_hard_tail, may_superblock_chain_continue_after_pair, pair_count_before_root, pairs_from_first_with_slots, pairs_from_root_directory_on, root_directory_address_of_pairs, slots_not_moved, starts_with_superblock, starts_with_superblock_or_default_without_slots}
+use Rattle.lfs_model.specs.Tree.{EntriesByDirectory, Path, branch_address_of_struct, child_slot_of, directory_address_at_path, entry_of_name, names_of_directory_at_address, root_slot, slot_at_path}
+use Rattle.lfs_model.specs.View.{HasValidMoveOrNone, IsEntrySlotInThread, IsSomeSlotButNotSuperblock, first_pair_slots, first_slot_name}
+use Rattle.lfs_tool.specs.OwnedSlots.{pair_without_attributes, pairs_without_attributes, slot_without_attributes}
+
+-- ---- what a map makes of each element
+
+-- P holds of what a map makes of each
+pub of_each : {X Y : Type 0} (f : X → Y) (P : Y → Type 0) (xs : List X) → All P (map f xs) → All (λ x. P (f x)) xs
+of_each f P xs h k d l =
+    let n = length-map xs f in
+    subst P (get_or-map f xs k d (f d) l) (h k (f d) (omega (arith, n, l)))
+
+-- P holds of what a map makes of one
+pub of_some : {X Y : Type 0} (f : X → Y) (P : Y → Type 0) (xs : List X) → Any P (map f xs) → Any (λ x. P (f x)) xs
+of_some f P [] (k, y, l, e, h) = absurd (omega (arith, l))
+of_some f P (x ∷ xs) (zero, y, l, e, h) = (zero, x, omega arith, refl, subst P (sym e) h)
+of_some f P (x ∷ xs) (suc k, y, l, e, h) =
+    let (j, z, m, same, holds) = of_some f P xs (k, y, omega (arith, l), e, h) in
+    (suc j, z, omega (arith, m), same, holds)
+
+map-remove : {X Y : Type 0} (f : X → Y) (xs : List X) (i : ℕ) → remove (map f xs) i ≡ map f (remove xs i)
+map-remove f [] zero = refl
+map-remove f [] (suc i) = refl
+map-remove f (x ∷ xs) zero = refl
+map-remove f (x ∷ xs) (suc i) = ap (λ ys. f x ∷ ys) (map-remove f xs i)
+
+-- ---- the global state and the blocks
+
+moves_alike : (ps : List Pair) → map (λ p. p.content.move) (pairs_without_attributes ps) ≡ map (λ p. p.content.move) ps
+moves_alike [] = refl
+moves_alike (p ∷ ps) = ap (λ ms. p.content.move ∷ ms) (moves_alike ps)
+
+pub gstate_alike : (ps : List Pair) → gstate_of_pairs (pairs_without_attributes ps) ≡ gstate_of_pairs ps
+gstate_alike ps = ap (fold gstate_xor zero_gstate) (moves_alike ps)
+
+pub blocks_alike : (ps : List Pair) → blocks_of_pairs (pairs_without_attributes ps) ≡ blocks_of_pairs ps
+blocks_alike [] = refl
+blocks_alike (p ∷ ps) = ap (λ bs. p.at.0 ∷ p.at.1 ∷ bs) (blocks_alike ps)
+
+-- ---- the superblock's chain and the root
+
+starts_or_default_alike : (slots : List Slot) (a b : Bool) → a ≡ b → starts_with_superblock_or_default_without_slots (map slot_without_attributes slots) a ≡ starts_with_superblock_or_default_without_slots slots b
+starts_or_default_alike [] a b e = e
+starts_or_default_alike (s ∷ slots) a b e = refl
+
+meets_alike : (ps : List Pair) → has_superblock_in_first_nonempty_pair (pairs_without_attributes ps) ≡ has_superblock_in_first_nonempty_pair ps
+meets_alike [] = refl
+meets_alike (p ∷ ps) =
+    starts_or_default_alike p.content.slots (is_hard_tail p.content.tail && has_superblock_in_first_nonempty_pair (pairs_without_attributes ps)) (is_hard_tail p.content.tail && has_superblock_in_first_nonempty_pair ps)
+    (ap (λ b. is_hard_tail p.content.tail && b) (meets_alike ps))
+
+alone_alike : (slots : List Slot) → has_no_slot_or_only_superblock (map slot_without_attributes slots) ≡ has_no_slot_or_only_superblock slots
+alone_alike [] = refl
+alone_alike (s ∷ []) = refl
+alone_alike (s ∷ t ∷ slots) = refl
+
+pub root_number_alike : (ps : List Pair) → pair_count_before_root (pairs_without_attributes ps) ≡ pair_count_before_root ps
+root_number_alike [] = refl
+root_number_alike (p ∷ ps) =
+    let goes : may_superblock_chain_continue_after_pair (pair_without_attributes p) ≡ may_superblock_chain_continue_after_pair p = ap (λ b. b && is_hard_tail p.content.tail) (alone_alike p.content.slots) in
+    ap₂ (λ b n. cond b (1 + n) 0) (ap₂ (λ a b. a && b) (meets_alike ps) goes) (root_number_alike ps)
+
+pub root_pairs_alike : (ps : List Pair) → pairs_from_root_directory_on (pairs_without_attributes ps) ≡ pairs_without_attributes (pairs_from_root_directory_on ps)
+root_pairs_alike ps = ap (λ n. drop n (pairs_without_attributes ps)) (root_number_alike ps) ∙ drop-map pair_without_attributes (pair_count_before_root ps) ps
+
+pub starts_alike : (slots : List Slot) → starts_with_superblock (map slot_without_attributes slots) ≡ starts_with_superblock slots
+starts_alike [] = refl
+starts_alike (s ∷ slots) = refl
+
+pub first_slots_alike : (ps : List Pair) → first_pair_slots (pairs_without_attributes ps) ≡ map slot_without_attributes (first_pair_slots ps)
+first_slots_alike [] = refl
+first_slots_alike (p ∷ ps) = refl
+
+pub root_starts_alike : (ps : List Pair) → starts_with_superblock (first_pair_slots (pairs_from_root_directory_on (pairs_without_attributes ps))) ≡ starts_with_superblock (first_pair_slots (pairs_from_root_directory_on ps))
+root_starts_alike ps =
+    ap (λ qs. starts_with_superblock (first_pair_slots qs)) (root_pairs_alike ps)
+    ∙ ap starts_with_superblock (first_slots_alike (pairs_from_root_directory_on ps))
+    ∙ starts_alike (first_pair_slots (pairs_from_root_directory_on ps))
+
+pub first_address_alike : (ps : List Pair) → first_pair_address (pairs_without_attributes ps) ≡ first_pair_address ps
+first_address_alike [] = refl
+first_address_alike (p ∷ ps) = refl
+
+pub root_address_alike : (ps : List Pair) → root_directory_address_of_pairs (pairs_without_attributes ps) ≡ root_directory_address_of_pairs ps
+root_address_alike ps = ap first_pair_address (root_pairs_alike ps) ∙ first_address_alike (pairs_from_root_directory_on ps)
+
+-- ---- the first pair that has a slot
+
+has_alike : (slots : List Slot) → has_slots (map slot_without_attributes slots) ≡ has_slots slots
+has_alike [] = refl
+has_alike (s ∷ slots) = refl
+
+pub with_slots_alike : (ps : List Pair) → pairs_from_first_with_slots (pairs_without_attributes ps) ≡ pairs_without_attributes (pairs_from_first_with_slots ps)
+with_slots_alike [] = refl
+with_slots_alike (p ∷ ps) = ap (λ b. cond b (pairs_without_attributes (p ∷ ps)) (pairs_from_first_with_slots (pairs_without_attributes ps))) (has_alike p.content.slots) ∙ go (has_slots p.content.slots) (with_slots_alike ps)
+  where
+    go : (b : Bool) → pairs_from_first_with_slots (pairs_without_attributes ps) ≡ pairs_without_attributes (pairs_from_first_with_slots ps)
+        → cond b (pairs_without_attributes (p ∷ ps)) (pairs_from_first_with_slots (pairs_without_attributes ps)) ≡ pairs_without_attributes (cond b (p ∷ ps) (pairs_from_first_with_slots ps))
+    go true e = refl
+    go false e = e
+
+pub with_slots_address_alike : (ps : List Pair) → first_pair_address (pairs_from_first_with_slots (pairs_without_attributes ps)) ≡ first_pair_address (pairs_from_first_with_slots ps)
+with_slots_address_alike ps = ap first_pair_address (with_slots_alike ps) ∙ first_address_alike (pairs_from_first_with_slots ps)
+
+name_of_first : (slots : List Slot) → option_map (λ s. s.name) (slice_get (map slot_without_attributes slots) 0) ≡ option_map (λ s. s.name) (slice_get slots 0)
+name_of_first [] = refl
+name_of_first (s ∷ slots) = refl
+
+first_name : (ps : List Pair) → first_slot_name (pairs_without_attributes ps) ≡ first_slot_name ps
+first_name [] = refl
+first_name (p ∷ ps) = name_of_first p.content.slots
+
+pub first_name_alike : (ps : List Pair) → first_slot_name (pairs_from_first_with_slots (pairs_without_attributes ps)) ≡ first_slot_name (pairs_from_first_with_slots ps)
+first_name_alike ps = ap first_slot_name (with_slots_alike ps) ∙ first_name (pairs_from_first_with_slots ps)
+
+-- ---- slots that aren't moved
+
+pub not_moved_alike : (g : Gstate) (p : Pair) → slots_not_moved g (pair_without_attributes p) ≡ map slot_without_attributes (slots_not_moved g p)
+not_moved_alike g p = go (g.kind == gstate_kind_of_set_move && same_pair g.pair p.at)
+  where
+    go : (b : Bool) → cond b (remove (map slot_without_attributes p.content.slots) g.id) (map slot_without_attributes p.content.slots) ≡ map slot_without_attributes (cond b (remove p.content.slots g.id) p.content.slots)
+    go true = map-remove slot_without_attributes p.content.slots g.id
+    go false = refl
+
+abbrev other_slots : List Slot → List Slot
+other_slots slots = filter (λ s. not (is_superblock s)) slots
+
+others_alike : (slots : List Slot) → other_slots (map slot_without_attributes slots) ≡ map slot_without_attributes (other_slots slots)
+others_alike [] = refl
+others_alike (s ∷ slots) = go (not (is_superblock s)) (others_alike slots)
+  where
+    go : (b : Bool) → other_slots (map slot_without_attributes slots) ≡ map slot_without_attributes (other_slots slots)
+        → cond b (slot_without_attributes s ∷ other_slots (map slot_without_attributes slots)) (other_slots (map slot_without_attributes slots)) ≡ map slot_without_attributes (cond b (s ∷ other_slots slots) (other_slots slots))
+    go true e = ap (λ ss. slot_without_attributes s ∷ ss) e
+    go false e = e
+
+pub entries_not_moved_alike : (g : Gstate) (p : Pair) → entries_not_moved g (pair_without_attributes p) ≡ map slot_without_attributes (entries_not_moved g p)
+entries_not_moved_alike g p = ap other_slots (not_moved_alike g p) ∙ others_alike (slots_not_moved g p)
+
+all_not_moved : (g : Gstate) (ps : List Pair) → flat_map (slots_not_moved g) (pairs_without_attributes ps) ≡ map slot_without_attributes (flat_map (slots_not_moved g) ps)
+all_not_moved g [] = refl
+all_not_moved g (p ∷ ps) = ap₂ (λ xs ys. xs ++ ys) (not_moved_alike g p) (all_not_moved g ps) ∙ sym (map-append slot_without_attributes (slots_not_moved g p) (flat_map (slots_not_moved g) ps))
+
+pub all_not_moved_alike : (ps : List Pair) → all_slots_not_moved (pairs_without_attributes ps) ≡ map slot_without_attributes (all_slots_not_moved ps)
+all_not_moved_alike ps = ap (λ g. flat_map (slots_not_moved g) (pairs_without_attributes ps)) (gstate_alike ps) ∙ all_not_moved (gstate_of_pairs ps) ps
+
+pub used_alike : (disk : Disk) (ps : List Pair) → used_blocks disk (pairs_without_attributes ps) ≡ used_blocks disk ps
+used_alike disk ps =
+    let owned : List Slot → List ℕ = λ slots. flat_map (λ (s : Slot). skip_list_blocks_of_struct disk s.struct) slots in
+    ap₂ (λ bs slots. bs ++ owned slots) (blocks_alike ps) (all_not_moved_alike ps)
+    ∙ ap (λ bs. blocks_of_pairs ps ++ bs) (flat_map-map (λ (s : Slot). skip_list_blocks_of_struct disk s.struct) slot_without_attributes (all_slots_not_moved ps))
+
+-- ---- directories
+
+abbrev pub directory_without_attributes : ThreadDirectory → ThreadDirectory
+directory_without_attributes d = record d { slots = map slot_without_attributes d.slots }
+
+prepended_alike : (at : ℕ × ℕ) (hard : Bool) (slots : List Slot) (ds : List ThreadDirectory)
+    → directories_with_pair_prepended at hard (map slot_without_attributes slots) (map directory_without_attributes ds) ≡ map directory_without_attributes (directories_with_pair_prepended at hard slots ds)
+prepended_alike at hard slots [] = refl
+prepended_alike at true slots (d ∷ ds) = ap (λ (ss : List Slot). record { at = at; slots = ss } ∷ map directory_without_attributes ds) (sym (map-append slot_without_attributes slots d.slots))
+prepended_alike at false slots (d ∷ ds) = refl
+
+directories_alike : (g : Gstate) (ps : List Pair) → directories_of_pairs g (pairs_without_attributes ps) ≡ map directory_without_attributes (directories_of_pairs g ps)
+directories_alike g [] = refl
+directories_alike g (p ∷ ps) =
+    ap₂ (λ entries ds. directories_with_pair_prepended p.at (is_hard_tail p.content.tail) entries ds) (entries_not_moved_alike g p) (directories_alike g ps)
+    ∙ prepended_alike p.at (is_hard_tail p.content.tail) (entries_not_moved g p) (directories_of_pairs g ps)
+
+pub directories_in_thread_alike : (ps : List Pair) → directories_in_thread (pairs_without_attributes ps) ≡ map directory_without_attributes (directories_in_thread ps)
+directories_in_thread_alike ps = ap₂ (λ g qs. directories_of_pairs g qs) (gstate_alike ps) (root_pairs_alike ps) ∙ directories_alike (gstate_of_pairs ps) (pairs_from_root_directory_on ps)
+
+entries_of_alike : (ds : List ThreadDirectory) (at : ℕ × ℕ) → entries_of_directory (map directory_without_attributes ds) at ≡ map slot_without_attributes (entries_of_directory ds at)
+entries_of_alike [] at = refl
+entries_of_alike (d ∷ ds) at = go (same_pair d.at at) (entries_of_alike ds at)
+  where
+    go : (b : Bool) → entries_of_directory (map directory_without_attributes ds) at ≡ map slot_without_attributes (entries_of_directory ds at)
+        → cond b (map slot_without_attributes d.slots) (entries_of_directory (map directory_without_attributes ds) at) ≡ map slot_without_attributes (cond b d.slots (entries_of_directory ds at))
+    go true e = refl
+    go false e = e
+
+pub entries_alike : (ps : List Pair) (at : ℕ × ℕ) → entries_by_directory_in_thread (pairs_without_attributes ps) at ≡ map slot_without_attributes (entries_by_directory_in_thread ps at)
+entries_alike ps at = ap (λ ds. entries_of_directory ds at) (directories_in_thread_alike ps) ∙ entries_of_alike (directories_in_thread ps) at
+
+names_of_slots : (slots : List Slot) → map (λ s. s.name) (map slot_without_attributes slots) ≡ map (λ s. s.name) slots
+names_of_slots [] = refl
+names_of_slots (s ∷ slots) = ap (λ names. s.name ∷ names) (names_of_slots slots)
+
+pub names_alike : (ps : List Pair) (at : ℕ × ℕ) → names_of_directory_at_address (entries_by_directory_in_thread (pairs_without_attributes ps)) at ≡ names_of_directory_at_address (entries_by_directory_in_thread ps) at
+names_alike ps at = ap (map (λ s. s.name)) (entries_alike ps at) ∙ names_of_slots (entries_by_directory_in_thread ps at)
+
+pub first_pair_with : (ps : List Pair) (at : ℕ × ℕ) → IsAddressOfDirectoryFirstPair (directories_in_thread (pairs_without_attributes ps)) at → IsAddressOfDirectoryFirstPair (directories_in_thread ps) at
+first_pair_with ps at h =
+    of_some directory_without_attributes (λ (d : ThreadDirectory). same_pair d.at at ≡ true) (directories_in_thread ps)
+    (subst (λ ds. IsAddressOfDirectoryFirstPair ds at) (directories_in_thread_alike ps) h)
+
+-- ---- paths
+
+named_alike : (name : Name) (slots : List Slot) → entry_of_name name (map slot_without_attributes slots) ≡ option_map slot_without_attributes (entry_of_name name slots)
+named_alike name [] = refl
+named_alike name (s ∷ slots) = go (same_name name s.name) (named_alike name slots)
+  where
+    go : (b : Bool) → entry_of_name name (map slot_without_attributes slots) ≡ option_map slot_without_attributes (entry_of_name name slots)
+        → cond b (Some (slot_without_attributes s)) (entry_of_name name (map slot_without_attributes slots)) ≡ option_map slot_without_attributes (cond b (Some s) (entry_of_name name slots))
+    go true e = refl
+    go false e = e
+
+-- paths lead to the same slots
+module _ (bare whole : EntriesByDirectory) (alike : (at : ℕ × ℕ) → bare at ≡ map slot_without_attributes (whole at)) where
+  child_alike : (s : Slot) (name : Name) → child_slot_of bare (slot_without_attributes s) name ≡ option_map slot_without_attributes (child_slot_of whole s name)
+  child_alike s name = go (branch_address_of_struct s.struct)
+    where
+      go : (o : Option (ℕ × ℕ)) → option_and_then (λ at. entry_of_name name (bare at)) o ≡ option_map slot_without_attributes (option_and_then (λ at. entry_of_name name (whole at)) o)
+      go None = refl
+      go (Some at) = ap (entry_of_name name) (alike at) ∙ named_alike name (whole at)
+
+  slot_alike : (path : Path) (s : Slot) → slot_at_path bare (slot_without_attributes s) path ≡ option_map slot_without_attributes (slot_at_path whole s path)
+  slot_alike [] s = refl
+  slot_alike (name ∷ path) s = ap (option_and_then (λ child. slot_at_path bare child path)) (child_alike s name) ∙ go (child_slot_of whole s name) (slot_alike path)
+    where
+      go : (o : Option Slot) → ((t : Slot) → slot_at_path bare (slot_without_attributes t) path ≡ option_map slot_without_attributes (slot_at_path whole t path))
+          → option_and_then (λ child. slot_at_path bare child path) (option_map slot_without_attributes o) ≡ option_map slot_without_attributes (option_and_then (λ child. slot_at_path whole child path) o)
+      go None below = refl
+      go (Some t) below = below t
+
+  directory_alike : (root : ℕ × ℕ) (path : Path) → directory_address_at_path bare root path ≡ directory_address_at_path whole root path
+  directory_alike root path = ap (option_and_then (λ found. branch_address_of_struct found.struct)) (slot_alike path (root_slot root)) ∙ go (slot_at_path whole (root_slot root) path)
+    where
+      go : (o : Option Slot) → option_and_then (λ found. branch_address_of_struct found.struct) (option_map slot_without_attributes o) ≡ option_and_then (λ found. branch_address_of_struct found.struct) o
+      go None = refl
+      go (Some t) = refl
+
+pub path_alike : (ps : List Pair) (path : Path)
+    → directory_address_at_path (entries_by_directory_in_thread (pairs_without_attributes ps)) (root_directory_address_of_pairs (pairs_without_attributes ps)) path ≡ directory_address_at_path (entries_by_directory_in_thread ps) (root_directory_address_of_pairs ps) path
+path_alike ps path =
+    ap (λ root. directory_address_at_path (entries_by_directory_in_thread (pairs_without_attributes ps)) root path) (root_address_alike ps)
+    ∙ directory_alike (entries_by_directory_in_thread (pairs_without_attributes ps)) (entries_by_directory_in_thread ps) (entries_alike ps) (root_directory_address_of_pairs ps) path
+
+pub path_without : (ps : List Pair) (path : Path) (at : ℕ × ℕ) → IsPathToDirectory ps path at → IsPathToDirectory (pairs_without_attributes ps) path at
+path_without ps path at h = path_alike ps path ∙ h
+
+pub path_with : (ps : List Pair) (path : Path) (at : ℕ × ℕ) → IsPathToDirectory (pairs_without_attributes ps) path at → IsPathToDirectory ps path at
+path_with ps path at h = sym (path_alike ps path) ∙ h
+
+pub reached_with : (ps : List Pair) (first : ℕ × ℕ) → IsDirectoryAddressReachedBySomePath (pairs_without_attributes ps) first → IsDirectoryAddressReachedBySomePath ps first
+reached_with ps first (path, at, (leads, same)) = (path, at, (path_with ps path at leads, same))
+
+-- ---- the move
+
+other_slot_with : (slots : List Slot) (id : ℕ) → IsSomeSlotButNotSuperblock (slice_get (map slot_without_attributes slots) id) → IsSomeSlotButNotSuperblock (slice_get slots id)
+other_slot_with slots id h = go (slice_get slots id) (subst IsSomeSlotButNotSuperblock (slice_get-map slot_without_attributes slots id) h)
+  where
+    go : (o : Option Slot) → IsSomeSlotButNotSuperblock (option_map slot_without_attributes o) → IsSomeSlotButNotSuperblock o
+    go None k = k
+    go (Some s) k = k
+
+entry_with : (ps : List Pair) (pair : ℕ × ℕ) (id : ℕ) → IsEntrySlotInThread (pairs_without_attributes ps) pair id → IsEntrySlotInThread ps pair id
+entry_with ps pair id h =
+    let (k, p, l, e, (same, slot)) = of_some pair_without_attributes (λ (q : Pair). (same_pair pair q.at ≡ true) × IsSomeSlotButNotSuperblock (slice_get q.content.slots id)) ps h in
+    (k, p, l, e, (same, other_slot_with p.content.slots id slot))
+
+pub move_with : (ps : List Pair) → HasValidMoveOrNone (pairs_without_attributes ps) (gstate_of_pairs (pairs_without_attributes ps)) → HasValidMoveOrNone ps (gstate_of_pairs ps)
+move_with ps h = go (subst (HasValidMoveOrNone (pairs_without_attributes ps)) (gstate_alike ps) h)
+  where
+    go : HasValidMoveOrNone (pairs_without_attributes ps) (gstate_of_pairs ps) → HasValidMoveOrNone ps (gstate_of_pairs ps)
+    go (inl none) = inl none
+    go (inr (kind, slot)) = inr (kind, entry_with ps (gstate_of_pairs ps).pair (gstate_of_pairs ps).id slot)

@@ -5,8 +5,9 @@ use crate::images::{
     SHORT_NAMES, SHORTER, SOFT_TAIL, TURNED,
 };
 use crate::texts::check_text;
+use lfs_device::{Error, Geometry, RamDevice};
 use lfs_fixtures::{BlockFilling, FixtureEntries, image_with_second_commit};
-use lfs_tool::WatchedStream;
+use lfs_tool::{WatchedStream, find_broken_rule_on_device};
 use std::alloc::{AllocError, Global};
 use std::test::Fail;
 
@@ -560,6 +561,25 @@ fn entries_moves_and_lists_are_checked(rt: HostRuntime) -> Result<(), Fail> {
 fn directories_are_checked(rt: HostRuntime) -> Result<(), Fail> {
     for row in BROKEN_DIRECTORIES {
         assert!(rt; has_expected_check_text(rt.alloc(), row)?, "{:?}", row.2);
+    }
+    Ok(())
+}
+
+// Whether the search finds a rule that an image breaks.
+fn is_rule_broken(alloc: Global, row: Row<'_>) -> Result<bool, Error> {
+    let image = image_with_second_commit(alloc, row.0, row.1)?;
+    let mut device = RamDevice::from_bytes(Geometry::new(4096, 256, 16)?, image)?;
+    let found = find_broken_rule_on_device(alloc, &mut device)?;
+    Ok(found.is_some())
+}
+
+#[test]
+fn accepted_images_break_no_rule(rt: HostRuntime) -> Result<(), Fail> {
+    for row in ACCEPTED {
+        assert!(rt; !is_rule_broken(rt.alloc(), row)?, "{:?}", row.2);
+    }
+    for row in BROKEN_DIRECTORIES {
+        assert!(rt; is_rule_broken(rt.alloc(), row)?, "{:?}", row.2);
     }
     Ok(())
 }

@@ -13,7 +13,7 @@ ones whose newest log has one more commit, or that are checked with other sizes.
   has any: the superblock in block 0 or 1 by its place, the sizes, the thread, the superblock's chain, the other slots, the walk
   to all directories (the order of names in each, and where its entries lead), names in two orders, the directories that no path
   reaches, the move, the first entry of the superblock's log, the lists of files.
-  One of them is for the rule at which the reader stops. So there always is one, and `no single rule was found` never comes.
+  One of them is for the rule at which the reader stops. So there always is one.
 
 Prints for each kind of image how many were accepted, how often each line on order, recovery and writing came of these, and for
 each kind of line of the others how often it came, how often the reader stopped at the same rule, and at which others. An image

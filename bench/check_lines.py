@@ -15,7 +15,6 @@ VERSION = 0x00020000
 LIMITS = (255, 2147483647, 1022)
 LARGEST_IMAGE = 268435456
 STRUCTS = {FILE: (INLINE, LIST), FOLDER: (PAIR_STRUCT,)}
-NO_RULE = "no single rule was found"  # of no image: each that isn't accepted has a true line
 
 # For each rule of the reader the kinds of lines for it. Where the reader stops at a rule, a line of one of its kinds is true.
 LINES_OF = {
@@ -51,7 +50,7 @@ class Known:
 
     def first(self):
         """The true lines of the first part that has any: text to kind."""
-        part = next((part for part in self.parts if part), [("no rule", NO_RULE)])
+        part = next(part for part in self.parts if part)
         return {text: kind for kind, text in part}
 
 

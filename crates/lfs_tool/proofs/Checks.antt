@@ -1,12 +1,23 @@
 -- What is checked of the bytes that were read.
-use Rattle.std.proofs.Common.{◌≡◌, ◌∙◌, ◌++◌, ◌<◌, ◌≤◌, ℕ, List, Option, Some, None, ap, append_assoc, arith, length, subst, take}
+use Rattle.std.proofs.Common.{◌≡◌, ◌∙◌, ◌++◌, ◌<◌, ◌≤◌, ℕ, List, Option, Some, None, ap, append_assoc, arith, length, refl, subst, take}
 use Rattle.std.specs.Prelude.{IfSome}
 use Rattle.std.proofs.lemmas.List.{length-take, take_all}
 use Rattle.lfs_model.specs.Disk.{IsImageOfWholeBlocks}
-use Rattle.lfs_tool.specs.CheckResults.{IsCheckResultOfBytes, AreReportedSizesThoseGivenToCheck}
+use Rattle.lfs_tool.specs.CheckResults.{AreReportedSizesThoseGivenToCheck, IsCheckResultOfBytes, IsWrongNumberIfAny, IsShortEnoughForImage}
+use Rattle.lfs_tool.specs.WrongNumbers.{HasNoWrongNumberInImageBytes, IsWrongNumberInImageBytes}
 use Rattle.lfs_tool.specs.declared.check_result.CheckResult.{CheckResult}
 use Rattle.lfs_tool.specs.declared.check_result.GivenSizes.{GivenSizes}
+use Rattle.lfs_tool.specs.declared.findings.WrongNumber.{WrongNumber}
 use Rattle.lfs_tool.proofs.Images.{image_fits, most}
+
+-- ---- the reason that comes first
+
+-- a number that was looked for
+pub number_or_none : (block_size : ℕ) (image : List ℕ) (stated : Option WrongNumber) → IfSome stated (IsWrongNumberInImageBytes image block_size) → (stated ≡ None → HasNoWrongNumberInImageBytes image block_size) → IsShortEnoughForImage image → IsWrongNumberIfAny block_size image stated
+number_or_none block_size image None found none fits = λ short. none refl
+number_or_none block_size image (Some number) found none fits = (fits, found)
+
+-- ---- bytes that were read
 
 -- one text behind another
 pub onto : (before between after a b : List ℕ) → between ≡ before ++ a → after ≡ between ++ b → after ≡ before ++ (a ++ b)

@@ -1,11 +1,17 @@
--- Lists of files: what a walk along one met, and which place one is at.
-use Rattle.std.proofs.Common.{ℕ, zero, suc, ◌≡◌, ◌<◌, ◌-◌, ◌∙◌, ◌⊎◌, inl, inr, List, [], ◌∷◌, length, reverse, Option, Some, None, refl, sym, ap, subst, arith}
+-- Lists of files: what a walk along one met, which slots have one, and which place one is at.
+use Rattle.std.proofs.Common.{ℕ, zero, suc, ◌≡◌, ◌<◌, ◌≤◌, ◌-◌, ◌∙◌, ◌⊎◌, inl, inr, List, [], ◌∷◌, length, reverse, Option, Some, None, refl, sym, ap, subst, arith}
 use Rattle.std.specs.Prelude.{IfSome, slice_get}
 use Rattle.std.specs.List.{FoldsTo}
+use Rattle.std.proofs.lemmas.Bool.{cases_lt}
 use Rattle.std.proofs.lemmas.List.{get_or-reverse, length-reverse}
 use Rattle.std.proofs.lemmas.Option.{get_or_from_slice_get, slice_get-get_or, slice_get_within}
-use Rattle.lfs_model.specs.Slots.{Slot, pair_address_of_array}
-use Rattle.lfs_model.specs.Thread.{Pair}
+use Rattle.lfs_model.specs.Disk.{Disk}
+use Rattle.lfs_model.specs.Slots.{Ctz, Directory, File, Inline, KindOfSlot, Slot, Superblock, pair_address_of_array}
+use Rattle.lfs_model.specs.Thread.{Pair, pair_count_before_root}
+use Rattle.lfs_model.specs.View.{IsStructOfKind}
+use Rattle.lfs_model.specs.declared.order.NameOrder.{NameOrder}
+use Rattle.lfs_tool.specs.FileLists.{AreSlotsWithListsFiles}
+use Rattle.lfs_tool.specs.KeptRules.{KeepsPairRules}
 use Rattle.lfs_tool.specs.SlotsInThread.{IsTrueOfUnmovedSlot, IsUnmovedSlotOfPairInThread}
 use Rattle.lfs_tool.specs.declared.findings.NamedSlot.{NamedSlot}
 use Rattle.lfs_tool.proofs.HeldPlaces.{some_weaker}
@@ -56,6 +62,28 @@ all_keep R part keep (b ∷ bs) p q (j, r, h) = sym (keep p b j r) ∙ all_keep 
 -- a block noted on the way back is one of the list
 pub noted_in_list : (bs : List ℕ) (noted given : Option ℕ) → noted ≡ given → IfSome noted (Among (reverse bs)) → IfSome given (Among bs)
 noted_in_list bs noted given e h = subst (λ o. IfSome o (Among bs)) e (some_weaker noted (Among (reverse bs)) (Among bs) (among_reversed bs) h)
+
+-- ---- slots with lists
+
+-- a list matches the kind of a file alone
+file_kind : (kind : KindOfSlot) (head size : ℕ) → IsStructOfKind kind (Ctz head size) → kind ≡ File
+file_kind File head size h = refl
+file_kind Directory head size h = absurd h
+file_kind Superblock head size h = absurd h
+
+-- where pairs keep their rules, each slot with a list is a file's: it is an entry, as the superblocks of the chain have bytes
+pub slots_with_lists_are_files : (disk : Disk) (order : NameOrder) (ps : List Pair) → KeepsPairRules disk order ps → AreSlotsWithListsFiles ps
+slots_with_lists_are_files disk order ps kept index pair id s head size there at list = go id refl (cases_lt (pair_count_before_root ps) index)
+  where
+    of_entry : (pair_count_before_root ps < index) ⊎ (0 < id) → s.kind ≡ File
+    of_entry required = file_kind s.kind head size (subst (IsStructOfKind s.kind) list (kept.slots index pair id s there at required).struct)
+
+    go : (n : ℕ) → id ≡ n → (pair_count_before_root ps < index) ⊎ (index ≤ pair_count_before_root ps) → s.kind ≡ File
+    go n e (inl behind) = of_entry (inl behind)
+    go zero e (inr in_chain) =
+        let bytes : s.struct ≡ Inline kept.superblocks.bytes = kept.superblocks.each index pair s there in_chain (subst (λ (i : ℕ). slice_get pair.content.slots i ≡ Some s) e at) in
+        absurd (let clash : Ctz head size ≡ Inline kept.superblocks.bytes = sym list ∙ bytes in cc)
+    go (suc n) e (inr in_chain) = of_entry (inr (omega (arith, e)))
 
 -- ---- places
 

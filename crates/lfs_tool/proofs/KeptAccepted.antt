@@ -21,7 +21,7 @@ use Rattle.lfs_tool.proofs.WithoutAttributes.{all_not_moved_alike, blocks_alike,
 
 -- ---- the thread
 
-links_to_end : (from : Option (ℕ × ℕ)) (ps : List Pair) → ArePairsLinkedByTails from ps None → AreLinkedByTails from ps
+pub links_to_end : (from : Option (ℕ × ℕ)) (ps : List Pair) → ArePairsLinkedByTails from ps None → AreLinkedByTails from ps
 links_to_end from [] h = h
 links_to_end from (p ∷ ps) h = (h.0, links_to_end (pair_address_named_by_tail p.content.tail) ps h.1)
 

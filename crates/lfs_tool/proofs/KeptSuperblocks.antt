@@ -1,17 +1,17 @@
 -- The superblocks of a chain in which nothing is wrong, and the first pair that has a slot.
-use Rattle.std.proofs.Common.{ℕ, zero, suc, ◌≡◌, ◌+◌, ◌<◌, ◌≤◌, ◌⊎◌, inl, inr, ◌∙◌, Bool, true, false, cond, List, [], ◌∷◌, drop, Option, Some, None, refl, sym, ap, subst, arith}
+use Rattle.std.proofs.Common.{ℕ, zero, suc, ◌≡◌, ◌+◌, ◌<◌, ◌≤◌, ◌⊎◌, ◌&&◌, inl, inr, ◌∙◌, Bool, true, false, cond, List, [], ◌∷◌, drop, Option, Some, None, refl, sym, ap, subst, arith}
 use Rattle.std.specs.Prelude.{slice_get}
 use Rattle.std.specs.List.{AllByRecursion}
 use Rattle.std.specs.Option.{option_and_then}
-use Rattle.std.proofs.lemmas.Bool.{cases_lt}
+use Rattle.std.proofs.lemmas.Bool.{and_parts, cases_lt}
 use Rattle.std.proofs.lemmas.List.Elements.{recursion_from_All}
 use Rattle.std.proofs.lemmas.Option.{same_Some}
 use Rattle.lfs_model.specs.Content.{content_after_log_entries, content_of_pair_at, current_block_of_pair_at, empty_raw_pair_content, pair_content_if_slots_complete}
 use Rattle.lfs_model.specs.Disk.{Disk, block_count}
 use Rattle.lfs_model.specs.EntryTypes.{SuperblockFields}
 use Rattle.lfs_model.specs.Log.{log_entries_of_block}
-use Rattle.lfs_model.specs.Slots.{Branch, Ctz, Inline, PairContent, Slot, Struct}
-use Rattle.lfs_model.specs.Thread.{Pair, blocks_of_pairs, first_pair_address, has_slots, pair_count_before_root, pairs_from_first_with_slots, starts_with_superblock}
+use Rattle.lfs_model.specs.Slots.{Branch, Ctz, Inline, PairContent, Slot, Struct, is_superblock}
+use Rattle.lfs_model.specs.Thread.{Pair, blocks_of_pairs, first_pair_address, has_no_slot_or_only_superblock, has_slots, has_superblock_in_first_nonempty_pair, is_hard_tail, may_superblock_chain_continue_after_pair, pair_count_before_root, pairs_from_first_with_slots, starts_with_superblock}
 use Rattle.lfs_model.specs.View.{first_pair_slots}
 use Rattle.lfs_tool.specs.BrokenRules.{HasSuperblockFields}
 use Rattle.lfs_tool.specs.KeptRules.{BeginsRootWithSuperblock, HasDistinctBlocksInRange, HasSameSuperblocksInChain}
@@ -57,6 +57,38 @@ root_slot (p ∷ ps) zero starts = go p.content.slots refl starts
     go [] is k = absurd (cc)
     go (s ∷ slots) is k = record { pair = p; slot = s; there = refl; first = ap (λ (xs : List Slot). slice_get xs 0) is }
 root_slot (p ∷ ps) (suc root) starts = let r = root_slot ps root starts in record { pair = r.pair; slot = r.slot; there = r.there; first = r.first }
+
+-- where a pair has no slot or a superblock alone, slot 0 is a superblock
+only_superblock : (slots : List Slot) (s : Slot) → has_no_slot_or_only_superblock slots ≡ true → slice_get slots 0 ≡ Some s → is_superblock s ≡ true
+only_superblock [] s only first = absurd (cc)
+only_superblock (x ∷ []) s only first = subst (λ (y : Slot). is_superblock y ≡ true) (same_Some x s first) only
+only_superblock (x ∷ y ∷ slots) s only first = absurd (cc)
+
+begins_with : (slots : List Slot) (s : Slot) → starts_with_superblock slots ≡ true → slice_get slots 0 ≡ Some s → is_superblock s ≡ true
+begins_with [] s starts first = absurd (cc)
+begins_with (x ∷ slots) s starts first = subst (λ (y : Slot). is_superblock y ≡ true) (same_Some x s first) starts
+
+-- where the root directory begins with a superblock, slot 0 of each pair of the chain is one
+pub superblock_of_chain : (ps : List Pair) (index : ℕ) (pair : Pair) (s : Slot) → BeginsRootWithSuperblock ps → slice_get ps index ≡ Some pair → index ≤ pair_count_before_root ps → slice_get pair.content.slots 0 ≡ Some s → is_superblock s ≡ true
+superblock_of_chain [] index pair s begins there chained first = absurd (cc)
+superblock_of_chain (p ∷ ps) index pair s begins there chained first =
+    go (superblock_of_chain ps) (has_superblock_in_first_nonempty_pair ps) (may_superblock_chain_continue_after_pair p) refl index begins there chained
+  where
+    at_first : p ≡ pair → slice_get p.content.slots 0 ≡ Some s
+    at_first same = ap (λ (q : Pair). slice_get q.content.slots 0) same ∙ first
+
+    go : ((i : ℕ) (q : Pair) (t : Slot) → BeginsRootWithSuperblock ps → slice_get ps i ≡ Some q → i ≤ pair_count_before_root ps → slice_get q.content.slots 0 ≡ Some t → is_superblock t ≡ true)
+        → (meets continues : Bool) → may_superblock_chain_continue_after_pair p ≡ continues → (i : ℕ)
+        → starts_with_superblock (first_pair_slots (drop (cond (meets && continues) (1 + pair_count_before_root ps) 0) (p ∷ ps))) ≡ true → slice_get (p ∷ ps) i ≡ Some pair → i ≤ cond (meets && continues) (1 + pair_count_before_root ps) 0
+        → is_superblock s ≡ true
+    go later true true continues zero starts here below = only_superblock p.content.slots s (and_parts (has_no_slot_or_only_superblock p.content.slots) (is_hard_tail p.content.tail) continues).0 (at_first (same_Some p pair here))
+    go later true true continues (suc i) starts here below =
+        let next : 1 + pair_count_before_root ps ≡ suc (pair_count_before_root ps) = omega arith in
+        later i pair s (subst (λ (n : ℕ). starts_with_superblock (first_pair_slots (drop n (p ∷ ps))) ≡ true) next starts) here (omega (arith, below)) first
+    go later true false continues zero starts here below = begins_with p.content.slots s starts (at_first (same_Some p pair here))
+    go later true false continues (suc i) starts here below = absurd (omega (arith, below))
+    go later false continues is zero starts here below = begins_with p.content.slots s starts (at_first (same_Some p pair here))
+    go later false continues is (suc i) starts here below = absurd (omega (arith, below))
 
 pub kept_chain : (disk : Disk) (ps : List Pair) (root : ℕ) → root ≡ pair_count_before_root ps → BeginsRootWithSuperblock ps → HaveInlineSuperblocksUpTo disk (root + 1) ps → HaveSameInlineBytesUpTo root root ps → HasSameSuperblocksInChain disk ps
 kept_chain disk ps root is begins inline same =

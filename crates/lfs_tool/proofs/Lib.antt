@@ -27,6 +27,12 @@ pub mod Reordered
 pub mod Judged
 pub mod WithoutAttributes
 pub mod KeptAccepted
+pub mod AcceptedKept
+pub mod ThreadFindings
+pub mod BrokenFileLists
+pub mod NoWrongNumbers
+pub mod BrokenKept
+pub mod RefusedFindings
 mod Placing
 pub mod ExcerptsAlike
 pub mod AcceptedAlike
@@ -54,6 +60,7 @@ mod Runs
 mod Refusing
 mod ImagesMade
 mod Walking
+pub mod LostStreams
 pub mod AmountsTold
 pub mod PaddedBytes
 pub mod NewImageCalls

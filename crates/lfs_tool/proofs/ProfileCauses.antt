@@ -14,7 +14,7 @@ use Rattle.lfs_model.proofs.Superblocks.{entry_is_other}
 use Rattle.lfs_lookup.specs.Profile.{HasSuperblockStructOf24Bytes}
 use Rattle.lfs_tool.specs.OutsideProfile.{HasInlineBytesWithinLimitIfEntry, HasWrittenLimitsIfSuperblock, IsEntrySlotWithLongInlineBytes, IsSuperblockSlotWithOtherLimits, IsTrueOfAllSlots, IsTrueOfSlotInThread}
 use Rattle.lfs_tool.specs.OwnedSlots.{pair_without_attributes, pairs_without_attributes, slot_without_attributes}
-use Rattle.lfs_tool.proofs.WithoutAttributes.{of_each, root_number_alike}
+use Rattle.lfs_tool.proofs.WithoutAttributes.{before_map, holds_there, of_each, root_number_alike}
 use Rattle.lfs_tool.specs.WritingProfiles.{ArePairsAndEntriesSmallEnough, IsEmptyPairAfterHardTail, IsEntryWithLongInlineBytes, IsSuperblockWithOtherLimits}
 
 -- ---- superblocks have 24 bytes
@@ -35,16 +35,6 @@ shaped_image disk ps ok =
     (All-append shaped (take n ps) (drop n ps)
     (All-weaker (λ (p : Pair). HasSuperblockWithInlineBytesIfAnySlot bytes p.content.slots) shaped (λ p. shaped_slots bytes p.content.slots is.len) (take n ps) chain)
     (All-weaker (λ (p : Pair). All IsFileOrDirectoryEntry p.content.slots) shaped (λ p. All-weaker IsFileOrDirectoryEntry HasSuperblockStructOf24Bytes shaped_entry p.content.slots) (drop n ps) ok.slots))
-
--- ---- by number
-
-holds_there : {X : Type 0} (P : X → Type 0) (xs : List X) (i : ℕ) (x : X) → All P xs → slice_get xs i ≡ Some x → P x
-holds_there P xs i x h e = subst P (get_or_from_slice_get xs i x x e) (h i x (slice_get_within xs i x e))
-
-before_map : {X Y : Type 0} (f : X → Y) (xs : List X) (i : ℕ) (y : Y) → slice_get (map f xs) i ≡ Some y → (x : X) × ((slice_get xs i ≡ Some x) × (f x ≡ y))
-before_map f [] i y e = absurd (cc)
-before_map f (x ∷ xs) zero y e = (x, (refl, same_Some (f x) y e))
-before_map f (x ∷ xs) (suc i) y e = before_map f xs i y e
 
 -- ---- places
 

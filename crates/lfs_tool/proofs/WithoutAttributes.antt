@@ -4,7 +4,7 @@ use Rattle.std.specs.Prelude.{All, Any, slice_get, ◌==◌}
 use Rattle.std.specs.List.{fold}
 use Rattle.std.proofs.lemmas.List.{drop-map, get_or-map, length-map, map-append}
 use Rattle.std.proofs.lemmas.List.Folds.{flat_map-map}
-use Rattle.std.proofs.lemmas.Option.{slice_get-map}
+use Rattle.std.proofs.lemmas.Option.{get_or_from_slice_get, same_Some, slice_get-map, slice_get_within}
 use Rattle.lfs_model.specs.Disk.{Disk}
 use Rattle.lfs_model.specs.Names.{Name, same_name}
 use Rattle.lfs_model.specs.Shown.{IsDirectoryAddressReachedBySomePath, IsPathToDirectory, all_slots_not_moved, directories_in_thread, entries_by_directory_in_thread, skip_list_blocks_of_struct, used_blocks}
@@ -29,6 +29,20 @@ of_some f P (x ∷ xs) (zero, y, l, e, h) = (zero, x, omega arith, refl, subst P
 of_some f P (x ∷ xs) (suc k, y, l, e, h) =
     let (j, z, m, same, holds) = of_some f P xs (k, y, omega (arith, l), e, h) in
     (suc j, z, omega (arith, m), same, holds)
+
+-- what a map makes is made of an element
+pub before_map : {X Y : Type 0} (f : X → Y) (xs : List X) (i : ℕ) (y : Y) → slice_get (map f xs) i ≡ Some y → (x : X) × ((slice_get xs i ≡ Some x) × (f x ≡ y))
+before_map f [] i y e = absurd (cc)
+before_map f (x ∷ xs) zero y e = (x, (refl, same_Some (f x) y e))
+before_map f (x ∷ xs) (suc i) y e = before_map f xs i y e
+
+-- P holds of one that a map makes
+pub some_of : {X Y : Type 0} (f : X → Y) (P : Y → Type 0) (xs : List X) → Any (λ x. P (f x)) xs → Any P (map f xs)
+some_of f P xs (k, x, l, e, h) = let n = length-map xs f in (k, f x, omega (arith, n, l), get_or-map f xs k x (f x) l ∙ ap f e, h)
+
+-- P holds of the element of that number
+pub holds_there : {X : Type 0} (P : X → Type 0) (xs : List X) (i : ℕ) (x : X) → All P xs → slice_get xs i ≡ Some x → P x
+holds_there P xs i x h e = subst P (get_or_from_slice_get xs i x x e) (h i x (slice_get_within xs i x e))
 
 map-remove : {X Y : Type 0} (f : X → Y) (xs : List X) (i : ℕ) → remove (map f xs) i ≡ map f (remove xs i)
 map-remove f [] zero = refl

@@ -5,11 +5,12 @@ use Rattle.lfs_model.specs.Disk.{Disk, block_count}
 use Rattle.lfs_model.specs.EntryTypes.{SuperblockFields, superblock_fields_of_struct_bytes}
 use Rattle.lfs_model.specs.Names.{is_valid_name}
 use Rattle.lfs_model.specs.Slots.{Branch, Ctz, Inline, Slot, Struct, pair_address_of_array, is_superblock}
-use Rattle.lfs_model.specs.Thread.{Pair, first_pair_address, gstate_of_pairs, pairs_from_first_with_slots, pairs_from_root_directory_on, starts_with_superblock, pair_count_before_root}
+use Rattle.lfs_model.specs.Thread.{Pair, first_pair_address, gstate_of_pairs, pairs_from_first_with_slots, pairs_from_root_directory_on, root_directory_address_of_pairs, starts_with_superblock, pair_count_before_root}
 use Rattle.lfs_model.specs.View.{BeginsWithLogEntry, HasValidMoveOrNone, IsStructOfKind, first_pair_slots, first_slot_name, superblock_name_log_entry}
 use Rattle.lfs_tool.specs.BrokenLists.{IsBlockInPairAndFile, IsBlockInTwoFiles, IsSlotWithBadList}
 use Rattle.lfs_tool.specs.BrokenDirectories.{AreEntriesThatLeadToOneDirectory, IsEntryThatLeadsToNoDirectory, IsEntryThatLeadsToRoot, IsUnreachedDirectory}
 use Rattle.lfs_tool.specs.BrokenOrder.{AreNamesInTwoOrders, IsNameOutOfOrder}
+use Rattle.lfs_tool.specs.KeptRules.{BeginsRootWithSuperblock}
 use Rattle.lfs_tool.specs.declared.findings.Finding.{Finding}
 use Rattle.lfs_tool.specs.declared.findings.Finding.TheVariants as finding
 use Rattle.lfs_tool.specs.declared.findings.NamedSlot.{NamedSlot}
@@ -28,7 +29,7 @@ HasSuperblockFields (Inline bytes) fields = (length bytes ≡ 24) × (superblock
 HasSuperblockFields (Ctz head size) fields = ⊥
 HasSuperblockFields (Branch to) fields = ⊥
 
--- a pair of the superblock's chain, with that struct in slot 0
+-- a pair of the superblock's chain, with a superblock of that struct in slot 0
 pub record IsFirstStructOfSuperblockChainPair (ps : List Pair) (at : ℕ × ℕ) (s : Struct) : Type 0 where
   pub index : ℕ
   pub pair : Pair
@@ -37,6 +38,7 @@ pub record IsFirstStructOfSuperblockChainPair (ps : List Pair) (at : ℕ × ℕ)
   pub at_is : pair.at ≡ at
   pub slot : Slot
   pub first : slice_get pair.content.slots 0 ≡ Some slot
+  pub superblock : is_superblock slot ≡ true
   pub struct : slot.struct ≡ s
 
 -- slot 0 of the first pair that has a slot, with another name than a superblock's
@@ -65,6 +67,10 @@ pub record IsSlotRequiredToBeEntry (ps : List Pair) (at : ℕ × ℕ) (id : ℕ)
 abbrev pub IsTrueOfNamedEntrySlot : (Slot → Type 0) → List Pair → NamedSlot → Type 0
 IsTrueOfNamedEntrySlot P ps place = (s : Slot) × (IsSlotRequiredToBeEntry ps (pair_address_of_array place.pair) place.slot s × ((place.name.items ≡ s.name) × P s))
 
+-- the root directory begins with a superblock, and there is another one elsewhere than in slot 0 of the chain
+abbrev pub IsSecondSuperblock : List Pair → NamedSlot → Type 0
+IsSecondSuperblock ps place = BeginsRootWithSuperblock ps × IsTrueOfNamedEntrySlot (λ s. is_superblock s ≡ true) ps place
+
 -- ---- all of them
 
 -- that rule is broken by these pairs, there
@@ -74,11 +80,11 @@ BreaksRuleOfFinding disk ps (finding.NoFields pair) = (s : Struct) × (IsFirstSt
 BreaksRuleOfFinding disk ps (finding.OtherFields pair stated) =
     (s : Struct) × (IsFirstStructOfSuperblockChainPair ps (pair_address_of_array pair) s × ((fields : SuperblockFields) × (HasSuperblockFields s fields × IsWrongSuperblockFieldForDisk disk fields stated)))
 BreaksRuleOfFinding disk ps (finding.OtherSuperblock pair root) =
-    (s : Struct) × (IsFirstStructOfSuperblockChainPair ps (pair_address_of_array pair) s × ((t : Struct) × (IsFirstStructOfSuperblockChainPair ps (pair_address_of_array root) t × (s ≢ t))))
+    (s : Struct) × (IsFirstStructOfSuperblockChainPair ps (pair_address_of_array pair) s × ((t : Struct) × (IsFirstStructOfSuperblockChainPair ps (pair_address_of_array root) t × (root_directory_address_of_pairs ps ≡ pair_address_of_array root) × (s ≢ t))))
 BreaksRuleOfFinding disk ps (finding.OtherName place) = IsFirstSlotWithOtherName ps place
-BreaksRuleOfFinding disk ps (finding.SecondSuperblock place) = IsTrueOfNamedEntrySlot (λ s. is_superblock s ≡ true) ps place
-BreaksRuleOfFinding disk ps (finding.OtherStruct place) = IsTrueOfNamedEntrySlot (λ s. ¬ IsStructOfKind s.kind s.struct) ps place
-BreaksRuleOfFinding disk ps (finding.BadName place) = IsTrueOfNamedEntrySlot (λ s. is_valid_name s.name ≡ false) ps place
+BreaksRuleOfFinding disk ps (finding.SecondSuperblock place) = IsSecondSuperblock ps place
+BreaksRuleOfFinding disk ps (finding.OtherStruct place) = IsTrueOfNamedEntrySlot (λ s. (is_superblock s ≡ false) × ¬ IsStructOfKind s.kind s.struct) ps place
+BreaksRuleOfFinding disk ps (finding.BadName place) = IsTrueOfNamedEntrySlot (λ s. (is_superblock s ≡ false) × (is_valid_name s.name ≡ false)) ps place
 BreaksRuleOfFinding disk ps (finding.OtherFirstEntry pair) = IsFirstPairWithOtherFirstEntry disk ps (pair_address_of_array pair)
 BreaksRuleOfFinding disk ps (finding.OutOfOrder name) = IsNameOutOfOrder ps name
 BreaksRuleOfFinding disk ps (finding.InTwoOrders shorter longer) = AreNamesInTwoOrders ps shorter longer

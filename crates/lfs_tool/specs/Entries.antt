@@ -10,8 +10,8 @@ use Rattle.lfs_tool.specs.declared.slots.EntryDefect.TheVariants as fault
 -- the slot has that defect
 abbrev pub BreaksEntryRule : Slot → EntryDefect → Type 0
 BreaksEntryRule s fault.IsSuperblock = is_superblock s ≡ true
-BreaksEntryRule s fault.OtherStruct = ¬ IsStructOfKind s.kind s.struct
-BreaksEntryRule s fault.BadName = is_valid_name s.name ≡ false
+BreaksEntryRule s fault.OtherStruct = (is_superblock s ≡ false) × ¬ IsStructOfKind s.kind s.struct
+BreaksEntryRule s fault.BadName = (is_superblock s ≡ false) × (is_valid_name s.name ≡ false)
 
 -- the slots of a pair from that number on are entries
 abbrev pub AreSlotsEntriesFrom : ℕ → Pair → Type 0

@@ -21,7 +21,7 @@ use Rattle.lfs_tool.specs.Needed.{IsTrueOfEnoughBlocks}
 use Rattle.lfs_tool.specs.PlaceEvents.{FaultAnswered}
 use Rattle.lfs_tool.specs.Reports.{WritesTextOrFails}
 use Rattle.lfs_tool.specs.RequestedSizes.{IsErrorWhereNoGeometryHasSizes}
-use Rattle.lfs_tool.specs.RunsAtPaths.{HasFaultAtPath, FailsToReadFolder, IsTrueOfSomethingAtPath, IsTrueForMode}
+use Rattle.lfs_tool.specs.RunsAtPaths.{HasFaultAtPath, FailsToReadFolder, IsTrueOfSomethingAtPath, IsTrueForMode, OpensImageToRead, OpensImageUnlessOutOfMemory}
 use Rattle.lfs_tool.specs.declared.needed_blocks.EnoughBlocks.{EnoughBlocks}
 use Rattle.lfs_tool.specs.declared.needed_blocks.EnoughBlocks.TheVariants as enough
 use Rattle.lfs_tool.specs.declared.needed_blocks.NeededBlocks.{NeededBlocks}
@@ -117,8 +117,8 @@ ExplainsTooFewBlocks folder_of limit_of shown line e =
 -- This explains the error: of sizes the rule that is broken, of an image what a check says, of too few blocks how many it takes. Of a
 -- path it is the fault that the places answer, which are asked for it at `Input` and `Output` alone.
 abbrev pub IsExplanationOfError : {P I N F T R : Type 0} → Ghosts P I N F T R → ImageInputGhosts I → SourceGhosts F → Line → P → P → ToolError → Explanation → Type 0
-IsExplanationOfError places input source line old new (Fs fs.Invalid) e = (places.history new ≡ places.history old) × ExplainsBrokenSizeRule places.image_path input.remaining line e
-IsExplanationOfError places input source line old new (Fs fs.Corrupt) e = (places.history new ≡ places.history old) × ExplainsErrorByImageCheck places.image_path input.remaining line e
+IsExplanationOfError places input source line old new (Fs fs.Invalid) e = IsTrueForMakingOrReadingMode line.mode (places.history new ≡ places.history old) (OpensImageToRead places line old new) × ExplainsBrokenSizeRule places.image_path input.remaining line e
+IsExplanationOfError places input source line old new (Fs fs.Corrupt) e = OpensImageToRead places line old new × ExplainsErrorByImageCheck places.image_path input.remaining line e
 IsExplanationOfError places input source line old new (Fs fs.NoSpace) e = (new ≡ old) × ExplainsTooFewBlocks places.folder_path places.folder_limit source.shown line e
 IsExplanationOfError places input source line old new (Fs other) e = (new ≡ old) × (e ≡ explanation.Nothing)
 IsExplanationOfError places input source line old new Input e = IsFaultAnsweredByPlaces places old new (Ok e)
@@ -132,6 +132,10 @@ FailsToReadImage path_of faults line Input = HasFaultAtPath path_of faults line.
 FailsToReadImage path_of faults line (Fs e) = e ≡ fs.NoMemory
 FailsToReadImage path_of faults line Output = ⊥
 
+-- the same, and the image is opened, unless memory ran out before
+abbrev pub FailsToReadOpenedImage : {P I N F T R : Type 0} → Ghosts P I N F T R → ImageInputGhosts I → Line → P → P → ToolError → Type 0
+FailsToReadOpenedImage places input line old new e = OpensImageUnlessOutOfMemory places line old new e × FailsToReadImage places.image_path input.faults line e
+
 -- memory isn't granted, no image has the line's sizes, or the folder fails where it is read again
 abbrev pub FailsToCountNeededBlocks : {F : Type 0} → (F → List ℕ) → (F → ℕ) → (F → Option TreeSource) → Line → List ℕ → ToolError → Type 0
 FailsToCountNeededBlocks folder_of faults shown line folder Input = FailsToReadFolder folder_of faults shown folder
@@ -141,9 +145,8 @@ FailsToCountNeededBlocks folder_of faults shown line folder Output = ⊥
 -- The second error comes in place of an explanation of the first. Only what is read again can fail: an image that is there, or the
 -- folder of one whose blocks were too few. Of a fault at a path the places answer that memory wasn't granted to note it.
 abbrev pub IsErrorInsteadOfExplanation : {P I N F T R : Type 0} → Ghosts P I N F T R → ImageInputGhosts I → SourceGhosts F → Line → P → P → ToolError → ToolError → Type 0
-IsErrorInsteadOfExplanation places input source line old new (Fs fs.Invalid) e =
-    (places.history new ≡ places.history old) × IsTrueForMode line.mode (FailsToReadImage places.image_path input.faults line e) (FailsToReadImage places.image_path input.faults line e) (λ _. ⊥) (λ _. FailsToReadImage places.image_path input.faults line e)
-IsErrorInsteadOfExplanation places input source line old new (Fs fs.Corrupt) e = (places.history new ≡ places.history old) × FailsToReadImage places.image_path input.faults line e
+IsErrorInsteadOfExplanation places input source line old new (Fs fs.Invalid) e = IsTrueForMakingOrReadingMode line.mode ⊥ (FailsToReadOpenedImage places input line old new e)
+IsErrorInsteadOfExplanation places input source line old new (Fs fs.Corrupt) e = FailsToReadOpenedImage places input line old new e
 IsErrorInsteadOfExplanation places input source line old new (Fs fs.NoSpace) e =
     (new ≡ old) × IsTrueForMode line.mode ⊥ ⊥ (λ folder. FailsToCountNeededBlocks places.folder_path source.faults source.shown line folder e) (λ _. ⊥)
 IsErrorInsteadOfExplanation places input source line old new (Fs other) e = ⊥

@@ -4,7 +4,7 @@ use Rattle.std.specs.List.{IsDistinct, flat_map}
 use Rattle.lfs_model.specs.BlockSets.{BlockStateList, IsBlockFree}
 use Rattle.lfs_model.specs.Disk.{Disk, block_count}
 use Rattle.lfs_model.specs.Shown.{skip_list_blocks_of_struct}
-use Rattle.lfs_model.specs.Slots.{Branch, Ctz, Gstate, Inline, Slot, Struct, pair_address_of_array}
+use Rattle.lfs_model.specs.Slots.{Branch, Ctz, File, Gstate, Inline, Slot, Struct, pair_address_of_array}
 use Rattle.lfs_model.specs.Thread.{Pair, blocks_of_pairs, gstate_of_pairs, id_of_moved_slot_in_pair}
 use Rattle.lfs_model.specs.View.{IsSkipListIfCtzStruct}
 use Rattle.lfs_tag.specs.FieldsView.{move_view}
@@ -21,18 +21,23 @@ use Rattle.lfs_tool.specs.declared.owned_parts.OwnedPair.{OwnedPair}
 
 -- ---- which lists
 
--- the list of a slot of the thread that no set move names
+-- each slot with a list is a file's
+abbrev pub AreSlotsWithListsFiles : List Pair → Type 0
+AreSlotsWithListsFiles ps = (index : ℕ) (pair : Pair) (id : ℕ) (s : Slot) (head size : ℕ) → slice_get ps index ≡ Some pair → slice_get pair.content.slots id ≡ Some s → s.struct ≡ Ctz head size → s.kind ≡ File
+
+-- the list of a file, in a slot of the thread that no set move names
 pub record IsFileListOfThread (ps : List Pair) (list : FileList) : Type 0 where
   pub there : IsUnmovedSlotOfPairInThread ps (pair_address_of_array list.pair) list.id (owned_slot_view list.slot.now)
+  pub file : (owned_slot_view list.slot.now).kind ≡ File
   pub struct : (owned_slot_view list.slot.now).struct ≡ Ctz list.head list.size
 
 abbrev pub AreFileListsOfThread : List Pair → List FileList → Type 0
 AreFileListsOfThread ps lists = All (IsFileListOfThread ps) lists
 
--- the lists that were added are of the thread, if the pair is one of its pairs
+-- the lists that were added are of the thread, if the pair is one of its pairs and only files have lists
 abbrev pub AddsFileListsOfPair : MoveState → OwnedPair → List FileList → List FileList → Type 0
 AddsFileListsOfPair state pair old new =
-    (ps : List Pair) (index : ℕ) → slice_get ps index ≡ Some (owned_pair_view pair) → move_view state ≡ gstate_of_pairs ps → AreFileListsOfThread ps old → AreFileListsOfThread ps new
+    (ps : List Pair) (index : ℕ) → AreSlotsWithListsFiles ps → slice_get ps index ≡ Some (owned_pair_view pair) → move_view state ≡ gstate_of_pairs ps → AreFileListsOfThread ps old → AreFileListsOfThread ps new
 
 -- the two lists are of different slots
 abbrev pub AreFileListsAtTwoPlaces : FileList → FileList → Type 0

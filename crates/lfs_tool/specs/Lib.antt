@@ -53,6 +53,7 @@ pub mod CheckResults
 pub mod CheckedLines
 pub mod ProgressLines
 pub mod AmountsTold
+pub mod ProgressSteps
 pub mod NewImageBytes
 pub mod NewImageDevice
 pub mod NewImageShape

@@ -8,6 +8,7 @@ use Rattle.lfs_tool.specs.ExitStatus.{standard_error_line_of_failure, is_failure
 use Rattle.lfs_tool.specs.declared.errors.Fault.{Fault}
 use Rattle.lfs_tool.specs.declared.errors.Fault.TheVariants as fault
 use Rattle.lfs_tool.specs.declared.errors.ToolError.{ToolError}
+use Rattle.lfs_tool.specs.KnownBytes.{AppendsBeginningOfBytes}
 use Rattle.lfs_tool.specs.Reports.{HasWrittenOneValueUnlessFailed}
 use Rattle.lfs_tool.specs.declared.writer.ToolOutput.{Ghosts}
 
@@ -16,10 +17,11 @@ abbrev pub AreWordsOfValidCommandLine : List (List ℕ) → Type 0
 AreWordsOfValidCommandLine words = ParserAcceptsWords words × HasOneMode (rows words) × HasValidNameOrder (rows words)
 
 -- The fault is shown: the run has its status. Unless the writer failed, the fault's own line or the parser's text was written and
--- flushed. Help is no fault.
+-- flushed. Where it failed, no more than a beginning of the line was written. Help is no fault.
 pub record IsFailureReportedWithStatus {W : Type 0} (g : Ghosts W) (f : Fault) (code : ℕ) (old new : W) : Type 0 where
   pub status : code ≡ exit_status_of_failure f
   pub line : g.faults new ≡ g.faults old → IfSome (standard_error_line_of_failure f) (λ line. Appends (g.contents old) (g.contents new) line × (g.pending new ≡ 0))
+  pub beginning : IfSome (standard_error_line_of_failure f) (AppendsBeginningOfBytes (g.contents old) (g.contents new))
   pub text : standard_error_line_of_failure f ≡ None → is_failure_a_help_request f ≡ false → HasWrittenOneValueUnlessFailed g old new
   pub help : is_failure_a_help_request f ≡ true → new ≡ old
 

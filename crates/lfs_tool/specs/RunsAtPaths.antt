@@ -8,7 +8,7 @@ use Rattle.lfs_tool.specs.KnownBytes.{AppendsBeginningOfBytes}
 use Rattle.lfs_tool.specs.Listings.{IsListingTextOfImage, RefusesToList}
 use Rattle.lfs_tool.specs.MadeImages.{IsToldOfRequestedImage, RefusesCopyOfSource, HasWrittenBeginningOfImage, HasWrittenImageOfSource}
 use Rattle.lfs_tool.specs.AmountsTold.{ProgressCall, IsToldOfNothing}
-use Rattle.lfs_tool.specs.PlaceEvents.{FolderClosed, FolderOpened, ImageDiscarded, ImageNotPlaced, ImageOpened, ImagePlaced, PlaceEvent, WorkBegan, WorkEnded}
+use Rattle.lfs_tool.specs.PlaceEvents.{FolderClosed, FolderOpened, ImageDiscarded, ImageNotPlaced, ImageOpened, ImagePlaced, OldImageOpened, PlaceEvent, WorkBegan, WorkEnded}
 use Rattle.lfs_tool.specs.Reports.{IsFlushedOnce, ReportsWriterFaults}
 use Rattle.lfs_tool.specs.Unpackings.{AreActionsUnpackingImage, FailsToUnpackKnownImage, HasUnpackedImage, IsToldOfActionsDone}
 use Rattle.lfs_tool.specs.CheckResults.{IsCheckResultOfBytes, is_accepted_check_result}
@@ -52,6 +52,14 @@ IsImageAcceptedUnlessModeIsCheck mode.List accepted = accepted ≡ true
 IsImageAcceptedUnlessModeIsCheck (mode.Create folder) accepted = accepted ≡ true
 IsImageAcceptedUnlessModeIsCheck (mode.Unpack folder) accepted = accepted ≡ true
 
+-- the image at the line's path is opened to be read, and nothing else is done
+abbrev pub OpensImageToRead : {P I N F T R : Type 0} → Ghosts P I N F T R → Line → P → P → Type 0
+OpensImageToRead places line old new = places.history new ≡ OldImageOpened line.image.now ∷ places.history old
+
+-- at this error too, unless memory ran out before
+abbrev pub OpensImageUnlessOutOfMemory : {P I N F T R : Type 0} → Ghosts P I N F T R → Line → P → P → ToolError → Type 0
+OpensImageUnlessOutOfMemory places line old new e = OpensImageToRead places line old new ⊎ ((e ≡ Fs fs.NoMemory) × (places.history new ≡ places.history old))
+
 -- the image at the line's path is listed: what is known to be written grew by its lines
 abbrev pub ListsImageAtPath : {I : Type 0} → (I → List ℕ) → (I → Option (List ℕ)) → Line → Option (List ℕ) → Option (List ℕ) → Type 0
 ListsImageAtPath path_of bytes line old new =
@@ -89,21 +97,21 @@ WritesWholeImage places output source line event old new folder =
 abbrev pub MakesImageAtPath : {P I N F T R : Type 0} → Ghosts P I N F T R → ToolOutputGhosts N → SourceGhosts F → Line → P → P → List ℕ → Type 0
 MakesImageAtPath places output source line old new folder = WritesWholeImage places output source line ImagePlaced old new folder
 
--- The image at the line's path is unpacked into the folder. That alone is opened to be written, and what was done there grew by
+-- The image at the line's path is opened once, and unpacked into the folder. That alone is opened to be written, and what was done there grew by
 -- what unpacks the image. The work was followed.
 abbrev pub UnpacksImageAtPath : {P I N F T R : Type 0} → Ghosts P I N F T R → ImageInputGhosts I → TargetGhosts T → Line → P → P → List ℕ → Type 0
 UnpacksImageAtPath places input target line old new folder =
     IsTrueOfSomethingAtPath places.image_path line.image.now (λ i. IsTrueOfSomethingAtPath places.new_folder_path folder (λ f. (after : _) × (told : _)
-    × ((places.history new ≡ FolderClosed (target.done after) ∷ WorkEnded told ∷ WorkBegan ∷ FolderOpened folder ∷ places.history old)
+    × ((places.history new ≡ FolderClosed (target.done after) ∷ WorkEnded told ∷ WorkBegan ∷ FolderOpened folder ∷ OldImageOpened line.image.now ∷ places.history old)
     × IfSome (input.remaining i) (λ image. HasUnpackedImage line.block_size line.page image (target.done f) (target.done after))
     × IsEndOfFollowedWork (λ begins ends. IfSome (input.remaining i) (λ image. IsToldOfActionsDone (AreActionsUnpackingImage line.block_size line.page image) (target.done f) (target.done after) begins ends (Ok (tt {0})))) told)))
 
--- What the line requests is done. A listing and a check write their lines, and open nothing to be written.
+-- What the line requests is done. A listing and a check write their lines, and open the image alone.
 abbrev pub IsModeDone : {P I N F T R W : Type 0} → Ghosts P I N F T R → ImageInputGhosts I → ToolOutputGhosts N → SourceGhosts F → TargetGhosts T → ToolOutputGhosts W → Line → P → P → W → W → Bool → Type 0
 IsModeDone places input output source target writer line old new out_old out_new accepted =
     IsImageAcceptedUnlessModeIsCheck line.mode accepted × IsTrueForMode line.mode
-    (ListsImageAtPath places.image_path input.remaining line (writer.contents out_old) (writer.contents out_new) × ReportsWriterFaults {X = Bool} writer out_old out_new (Ok accepted) × (places.history new ≡ places.history old))
-    (ChecksImageAtPath places.image_path input.remaining line accepted (writer.contents out_old) (writer.contents out_new) × ReportsWriterFaults {X = Bool} writer out_old out_new (Ok accepted) × (places.history new ≡ places.history old))
+    (ListsImageAtPath places.image_path input.remaining line (writer.contents out_old) (writer.contents out_new) × ReportsWriterFaults {X = Bool} writer out_old out_new (Ok accepted) × OpensImageToRead places line old new)
+    (ChecksImageAtPath places.image_path input.remaining line accepted (writer.contents out_old) (writer.contents out_new) × ReportsWriterFaults {X = Bool} writer out_old out_new (Ok accepted) × OpensImageToRead places line old new)
     (MakesImageAtPath places output source line old new)
     (UnpacksImageAtPath places input target line old new)
 
@@ -138,16 +146,16 @@ LeavesNoNewImage places output source line old new folder e = ((e ≡ Fs fs.NoMe
 -- memory ran out before a folder was opened.
 abbrev pub LeavesFolderUnfinished : {P I N F T R : Type 0} → Ghosts P I N F T R → ImageInputGhosts I → TargetGhosts T → Line → P → P → List ℕ → ToolError → Type 0
 LeavesFolderUnfinished places input target line old new folder e =
-    ((e ≡ Fs fs.NoMemory) × (places.history new ≡ places.history old))
+    ((e ≡ Fs fs.NoMemory) × (OpensImageToRead places line old new ⊎ (places.history new ≡ places.history old)))
     ⊎ IsTrueOfSomethingAtPath places.image_path line.image.now (λ i. IsTrueOfSomethingAtPath places.new_folder_path folder (λ f. (after : _) × (told : _)
-    × ((places.history new ≡ FolderClosed (target.done after) ∷ WorkEnded told ∷ WorkBegan ∷ FolderOpened folder ∷ places.history old)
+    × ((places.history new ≡ FolderClosed (target.done after) ∷ WorkEnded told ∷ WorkBegan ∷ FolderOpened folder ∷ OldImageOpened line.image.now ∷ places.history old)
     × FailsToUnpackKnownImage line.block_size line.page (input.remaining i) (target.done f) (target.done after) e × (e ≡ Output → target.faults after ≡ suc (target.faults f))
     × IsEndOfFollowedWork (λ begins ends. IfSome (input.remaining i) (λ image. IsToldOfActionsDone {X = Unit {0}} (AreActionsUnpackingImage line.block_size line.page image) (target.done f) (target.done after) begins ends (Err e))) told)))
 
--- What the line requests isn't done. A listing and a check open nothing to be written.
+-- What the line requests isn't done. A listing and a check open the image at most.
 abbrev pub LeavesModeUndone : {P I N F T R : Type 0} → Ghosts P I N F T R → ImageInputGhosts I → ToolOutputGhosts N → SourceGhosts F → TargetGhosts T → Line → P → P → ToolError → Type 0
 LeavesModeUndone places input output source target line old new e =
-    IsTrueForMode line.mode (places.history new ≡ places.history old) (places.history new ≡ places.history old) (λ folder. LeavesNoNewImage places output source line old new folder e) (λ folder. LeavesFolderUnfinished places input target line old new folder e)
+    IsTrueForMode line.mode (OpensImageUnlessOutOfMemory places line old new e) (OpensImageUnlessOutOfMemory places line old new e) (λ folder. LeavesNoNewImage places output source line old new folder e) (λ folder. LeavesFolderUnfinished places input target line old new folder e)
 
 -- ---- when an error comes
 

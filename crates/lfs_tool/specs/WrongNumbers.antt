@@ -1,5 +1,5 @@
 -- The numbers of a superblock by its place in an image's bytes, whatever the image's blocks hold.
-use Rattle.std.specs.Prelude.{ℕ, ◌≡◌, ◌≢◌, ◌⊎◌, ◌+◌, ◌/◌, ◌≤◌, List, length, slice_range, codes}
+use Rattle.std.specs.Prelude.{ℕ, ◌≡◌, ◌≢◌, ◌⊎◌, ◌+◌, ◌/◌, ◌<◌, ◌≤◌, List, length, slice_range, codes}
 use Rattle.lfs_model.specs.EntryTypes.{SuperblockFields, superblock_fields_of_struct_bytes}
 use Rattle.lfs_tool.specs.declared.findings.WrongNumber.{WrongNumber}
 use Rattle.lfs_tool.specs.declared.findings.WrongNumber.TheVariants as stated
@@ -16,10 +16,15 @@ pub record IsSuperblockAtOffset (bytes : List ℕ) (from : ℕ) (fields : Superb
   pub name : slice_range bytes (from + 8) (from + 16) ≡ codes "littlefs"
   pub struct : superblock_fields_of_struct_bytes (slice_range bytes (from + 20) (from + 44)) ≡ fields
 
--- a number in the superblock of block 0 or 1 is wrong for these bytes
+-- a number in the superblock of block 0 or 1 is wrong for these bytes, in blocks of that size
 pub record IsWrongNumberInImageBytes (bytes : List ℕ) (block_size : ℕ) (stated : WrongNumber) : Type 0 where
+  pub sized : 0 < block_size
   pub from : ℕ
   pub block : (from ≡ 0) ⊎ (from ≡ block_size)
   pub fields : SuperblockFields
   pub stands : IsSuperblockAtOffset bytes from fields
   pub unlike : IsWrongSuperblockField block_size (length bytes / block_size) fields stated
+
+-- no number in the superblock of block 0 or 1 is wrong
+abbrev pub HasNoWrongNumberInImageBytes : List ℕ → ℕ → Type 0
+HasNoWrongNumberInImageBytes bytes block_size = (stated : WrongNumber) → ¬ IsWrongNumberInImageBytes bytes block_size stated

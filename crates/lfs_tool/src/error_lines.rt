@@ -1,9 +1,10 @@
-ghost use Rattle.std.specs.Prelude.{◌≡◌, IfSome, None, false, true};
+ghost use Rattle.std.specs.Prelude.{◌≡◌, false, true};
 ghost use Rattle.std.specs.Io.KnownBytes.{Appends};
 ghost use Rattle.lfs_tool.specs.KnownBytes.{AppendsBeginningOfBytes};
-ghost use Rattle.lfs_tool.specs.ExitStatus.{standard_error_line_of_failure, is_failure_a_help_request, exit_status_of_failure};
+ghost use Rattle.lfs_tool.specs.ExitStatus.{is_failure_a_help_request};
 ghost use Rattle.lfs_tool.specs.Errors.{tool_error_line, tool_error_status};
 ghost use Rattle.lfs_tool.specs.Reports.{HasWrittenOneValueUnlessFailed};
+ghost use Rattle.lfs_tool.specs.RunEnds.{IsFailureReportedWithStatus};
 
 use crate::output::write_bytes_and_flush;
 use crate::{Fault, ToolError, ToolOutput};
@@ -44,15 +45,9 @@ fn write_error_line_and_return_status<E: ToolOutput>(err: &mut E, error: ToolErr
 /// a line of the tool's own is written whole, or the parser's text is shown, and either is flushed.
 /// No promise is made of the parser's text.
 pub fn report<O: ToolOutput, E: ToolOutput>(fault: &Fault, out: &mut O, err: &mut E) -> u8
-    ensures status { result ≡ exit_status_of_failure fault.now }
+    ensures shown { IsFailureReportedWithStatus E.ToolOutput fault.now result err.old err.new }
     ensures out { is_failure_a_help_request fault.now ≡ false → out.new ≡ out.old }
-    ensures err { is_failure_a_help_request fault.now ≡ true → err.new ≡ err.old }
-    ensures beginning { IfSome (standard_error_line_of_failure fault.now) (AppendsBeginningOfBytes (E.contents err.old) (E.contents err.new)) }
-    ensures line { E.faults err.new ≡ E.faults err.old → IfSome (standard_error_line_of_failure fault.now) (λ line. Appends (E.contents err.old) (E.contents err.new) line × (E.pending err.new ≡ 0)) }
-
-    // The parser's text is shown, and flushed.
     ensures help { is_failure_a_help_request fault.now ≡ true → HasWrittenOneValueUnlessFailed O.ToolOutput out.old out.new }
-    ensures text { standard_error_line_of_failure fault.now ≡ None → is_failure_a_help_request fault.now ≡ false → HasWrittenOneValueUnlessFailed E.ToolOutput err.old err.new }
 {
     match fault {
         Fault::Line(LineError::Modes) => write_line_and_return_status(

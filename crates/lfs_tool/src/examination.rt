@@ -1,8 +1,7 @@
 // Whether the bytes of an image are accepted, and with what, or why not.
 
-ghost use Rattle.std.specs.Prelude.{◌≡◌, ◌<◌, ◌^◌, List, ℕ, IfErr, IfOk, IfSome, IsErrOf, OnOk, length};
-ghost use Rattle.lfs_tool.specs.WrongNumbers.{IsWrongNumberInImageBytes};
-ghost use Rattle.lfs_tool.specs.CheckResults.{AreBytesNoAcceptedImage, IsCheckResultOfBytes, AreReportedSizesThoseGivenToCheck, IsVerdictOnBytes, IsReasonForRefusedBytes};
+ghost use Rattle.std.specs.Prelude.{◌≡◌, ◌<◌, ◌≤◌, ◌^◌, List, ℕ, IfErr, IfOk, IfSome, IsErrOf, None, OnOk, length};
+ghost use Rattle.lfs_tool.specs.CheckResults.{AreBytesNoAcceptedImage, IsCheckResultOfBytes, AreReportedSizesThoseGivenToCheck, IsReasonForRefusedBytes, IsVerdictOnBytes, IsWrongNumberIfAny};
 ghost use Rattle.lfs_tool.specs.KnownBytes.{IsErrorOfReaderFaultOrNoMemory};
 ghost use Rattle.lfs_tool.specs.Reports.{IsReadToEndOrPastImageLimit};
 
@@ -59,14 +58,16 @@ fn refused_check_result(
     reason: RefusalReason,
     given: GivenSizes,
 ) -> CheckResult
-    ensures { (block_size : ℕ) (page : ℕ) (image : List ℕ) → AreBytesNoAcceptedImage block_size page image → IfSome stated (IsWrongNumberInImageBytes image block_size)
-        → IsReasonForRefusedBytes block_size page image reason → AreReportedSizesThoseGivenToCheck block_size page image given → IsCheckResultOfBytes block_size page image result }
+    ensures { (block_size : ℕ) (page : ℕ) (image : List ℕ) → AreBytesNoAcceptedImage block_size page image → IsWrongNumberIfAny block_size image stated
+        → (stated ≡ None → IsReasonForRefusedBytes block_size page image reason) → AreReportedSizesThoseGivenToCheck block_size page image given → IsCheckResultOfBytes block_size page image result }
 {
-    let reason = match stated {
-        Some(stated) => RefusalReason::WrongNumber(stated),
-        None => reason,
-    };
-    CheckResult::Refused { reason, given }
+    match stated {
+        Some(stated) => CheckResult::Refused {
+            reason: RefusalReason::WrongNumber(stated),
+            given,
+        },
+        None => CheckResult::Refused { reason, given },
+    }
 }
 
 // Returns the result for the bytes.
@@ -75,7 +76,7 @@ fn check_result_of_verdict(
     verdict: Option<ImageVerdict>,
     given: GivenSizes,
 ) -> CheckResult
-    ensures { (block_size : ℕ) (page : ℕ) (image : List ℕ) → IfSome stated (IsWrongNumberInImageBytes image block_size) → IsVerdictOnBytes block_size page image verdict
+    ensures { (block_size : ℕ) (page : ℕ) (image : List ℕ) → IsWrongNumberIfAny block_size image stated → IsVerdictOnBytes block_size page image verdict
         → AreReportedSizesThoseGivenToCheck block_size page image given → IsCheckResultOfBytes block_size page image result }
 {
     match verdict {
@@ -97,7 +98,7 @@ fn check_result_of_bytes(
     block_size: u32,
     page: u32,
 ) -> Result<CheckResult, Error>
-    requires { length image.items < 2 ^ 32 }
+    requires { length image.items ≤ 268_435_456 }
     ensures checked { IfOk result (IsCheckResultOfBytes block_size page image.items) }
     ensures err { IfErr result (λ e. e ≡ Error.NoMemory) }
 {
@@ -112,7 +113,8 @@ fn check_result_of_bytes(
 /// its bytes. Of an image that isn't accepted, a wrong number in the superblock of block 0 or 1
 /// comes first. Then comes the first rule that the image breaks.
 ///
-/// The image is read first, to its end, or past the largest image's size of 268,435,456 bytes.
+/// The image is read first, to its end, or past the largest image's size of 268,435,456 bytes. So many
+/// bytes are no image, whatever its superblock says.
 ///
 /// # Errors
 /// - `Input` where the reader failed.

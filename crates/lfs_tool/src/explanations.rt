@@ -1,9 +1,9 @@
 // The cause for which a command line wasn't carried out.
 
-ghost use Rattle.std.specs.Prelude.{◌≡◌, IfErr, IfOk, IfSome, length, take};
-ghost use Rattle.lfs_tool.specs.Explained.{FailsToCountNeededBlocks, FailsToReadImage, ExplainsTooFewBlocks, ExplainsBrokenSizeRule, ExplainsErrorByImageCheck, IsSizeOfMadeOrReadImage, IsExplanationOfError, IsFaultAnsweredByPlaces, IsErrorFollowedByExplanationIfRequested, IsErrorInsteadOfExplanation, IsErrorInsteadOfExplanationOrItsLines, ExplainsNeededBlocksOfFolder, WritesExplanationOrErrorInstead, explanation_text, not_explained_text};
+ghost use Rattle.std.specs.Prelude.{◌≡◌, IfErr, IfOk, IfSome, OnOk, length, take};
+ghost use Rattle.lfs_tool.specs.Explained.{FailsToCountNeededBlocks, FailsToReadOpenedImage, IsTrueForMakingOrReadingMode, ExplainsTooFewBlocks, ExplainsBrokenSizeRule, ExplainsErrorByImageCheck, IsSizeOfMadeOrReadImage, IsExplanationOfError, IsFaultAnsweredByPlaces, IsErrorFollowedByExplanationIfRequested, IsErrorInsteadOfExplanation, IsErrorInsteadOfExplanationOrItsLines, ExplainsNeededBlocksOfFolder, WritesExplanationOrErrorInstead, explanation_text, not_explained_text};
 ghost use Rattle.lfs_tool.specs.Reports.{WritesTextOrFails};
-ghost use Rattle.lfs_tool.specs.RunsAtPaths.{IsTrueOfSomethingAtPath, IsTrueForMode};
+ghost use Rattle.lfs_tool.specs.RunsAtPaths.{IsTrueOfSomethingAtPath, IsTrueForMode, OpensImageToRead};
 
 use crate::creation::read_source_entries;
 use crate::explanation::{Explanation, explanation_lines};
@@ -26,8 +26,8 @@ fn image_size_at_path<P: Places>(
     line: &Line<'_>,
 ) -> Result<usize, ToolError>
     ensures size { IfOk result (λ size. IsTrueOfSomethingAtPath P.image_path line.now.image.now (λ i. IfSome (P.Image.remaining i) (λ image. size ≡ length (take 268435457 image)))) }
-    ensures err { IfErr result (FailsToReadImage P.image_path P.Image.faults line.now) }
-    ensures kept { P.history places.new ≡ P.history places.old }
+    ensures opened { OnOk result (OpensImageToRead P.Places line.now places.old places.new) }
+    ensures err { IfErr result (FailsToReadOpenedImage P.Places P.Image.ImageInput line.now places.old places.new) }
 {
     let mut image = places.image(line.image)?;
     let bytes = read_image(alloc, &mut image)?;
@@ -41,8 +41,8 @@ fn size_of_made_or_read_image<P: Places>(
     line: &Line<'_>,
 ) -> Result<usize, ToolError>
     ensures size { IfOk result (IsSizeOfMadeOrReadImage P.image_path P.Image.remaining line.now) }
-    ensures err { IfErr result (λ e. IsTrueForMode line.now.mode (FailsToReadImage P.image_path P.Image.faults line.now e) (FailsToReadImage P.image_path P.Image.faults line.now e) (λ _. ⊥) (λ _. FailsToReadImage P.image_path P.Image.faults line.now e)) }
-    ensures kept { P.history places.new ≡ P.history places.old }
+    ensures opened { OnOk result (IsTrueForMakingOrReadingMode line.now.mode (P.history places.new ≡ P.history places.old) (OpensImageToRead P.Places line.now places.old places.new)) }
+    ensures err { IfErr result (λ e. IsTrueForMakingOrReadingMode line.now.mode ⊥ (FailsToReadOpenedImage P.Places P.Image.ImageInput line.now places.old places.new e)) }
 {
     match line.mode {
         Mode::Create(_) => Ok(line.size as usize),
@@ -57,8 +57,8 @@ fn explanation_by_broken_size_rule<P: Places>(
     line: &Line<'_>,
 ) -> Result<Explanation, ToolError>
     ensures sizes { IfOk result (ExplainsBrokenSizeRule P.image_path P.Image.remaining line.now) }
-    ensures err { IfErr result (λ e. IsTrueForMode line.now.mode (FailsToReadImage P.image_path P.Image.faults line.now e) (FailsToReadImage P.image_path P.Image.faults line.now e) (λ _. ⊥) (λ _. FailsToReadImage P.image_path P.Image.faults line.now e)) }
-    ensures kept { P.history places.new ≡ P.history places.old }
+    ensures opened { OnOk result (IsTrueForMakingOrReadingMode line.now.mode (P.history places.new ≡ P.history places.old) (OpensImageToRead P.Places line.now places.old places.new)) }
+    ensures err { IfErr result (λ e. IsTrueForMakingOrReadingMode line.now.mode ⊥ (FailsToReadOpenedImage P.Places P.Image.ImageInput line.now places.old places.new e)) }
 {
     let size = size_of_made_or_read_image(alloc, places, line)?;
     let sizes = Sizes {
@@ -77,8 +77,8 @@ fn explanation_by_check<P: Places>(
     line: &Line<'_>,
 ) -> Result<Explanation, ToolError>
     ensures checked { IfOk result (ExplainsErrorByImageCheck P.image_path P.Image.remaining line.now) }
-    ensures err { IfErr result (FailsToReadImage P.image_path P.Image.faults line.now) }
-    ensures kept { P.history places.new ≡ P.history places.old }
+    ensures opened { OnOk result (OpensImageToRead P.Places line.now places.old places.new) }
+    ensures err { IfErr result (FailsToReadOpenedImage P.Places P.Image.ImageInput line.now places.old places.new) }
 {
     let mut image = places.image(line.image)?;
     let checked = check_result_of_image(alloc, &mut image, line.block_size, line.page)?;

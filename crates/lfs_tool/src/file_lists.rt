@@ -5,7 +5,7 @@ ghost use Rattle.lfs_model.specs.Slots.{pair_address_of_array};
 ghost use Rattle.lfs_model.specs.Thread.{Pair, id_of_moved_slot_in_pair};
 ghost use Rattle.lfs_tag.specs.FieldsView.{move_view};
 ghost use Rattle.lfs_tool.specs.EntryPlaces.{is_moved_slot};
-ghost use Rattle.lfs_tool.specs.FileLists.{AddsFileListsOfPair, AddsListOfSlot, AreFileListsAtTwoPlaces, AreFileListsOfThread, IsFileListOfThread, placed_list_view, placed_lists_of_pair, placed_lists_of_pairs, placed_lists_of_struct};
+ghost use Rattle.lfs_tool.specs.FileLists.{AddsFileListsOfPair, AddsListOfSlot, AreFileListsAtTwoPlaces, AreFileListsOfThread, AreSlotsWithListsFiles, IsFileListOfThread, placed_list_view, placed_lists_of_pair, placed_lists_of_pairs, placed_lists_of_struct};
 ghost use Rattle.lfs_tool.specs.OwnedSlotView.{owned_pair_view, owned_pairs_view, owned_slot_view};
 ghost use Rattle.lfs_tool.specs.SlotsInThread.{IsUnmovedSlotOfPairInThread};
 
@@ -40,7 +40,7 @@ fn is_slot_moved(state: &MoveState, pair: &OwnedPair, id: usize) -> bool
 
 // Returns the list of a slot, if it has one.
 fn file_list_of_slot<'a>(pair: [u32; 2], id: usize, slot: &'a OwnedSlot) -> Option<FileList<'a>>
-    ensures there { IfSome result (λ list. (ps : List Pair) → IsUnmovedSlotOfPairInThread ps (pair_address_of_array pair) id (owned_slot_view slot.now) → IsFileListOfThread ps list) }
+    ensures there { IfSome result (λ list. (ps : List Pair) → AreSlotsWithListsFiles ps → IsUnmovedSlotOfPairInThread ps (pair_address_of_array pair) id (owned_slot_view slot.now) → IsFileListOfThread ps list) }
     ensures list { MatchOption result (placed_lists_of_struct (pair_address_of_array pair) id (owned_slot_view slot.now).struct ≡ [])
         (λ list. placed_lists_of_struct (pair_address_of_array pair) id (owned_slot_view slot.now).struct ≡ placed_list_view list ∷ []) }
 {
@@ -98,6 +98,7 @@ pub(crate) fn file_lists_of_pairs<'a>(
     alloc: Global,
     pairs: &'a [OwnedPair],
 ) -> Result<Vec<FileList<'a>>, AllocError>
+    requires files { AreSlotsWithListsFiles (owned_pairs_view pairs.now) }
     ensures thread { IfOk result (λ lists. AreFileListsOfThread (owned_pairs_view pairs.now) lists.items) }
     ensures lists { IfOk result (λ lists. map placed_list_view lists.items ≡ placed_lists_of_pairs (owned_pairs_view pairs.now)) }
 {

@@ -1,7 +1,7 @@
-ghost use Rattle.std.specs.Prelude.{◌≡◌};
+ghost use Rattle.std.specs.Prelude.{◌≡◌, OnOk, false};
 ghost use Rattle.std.specs.Io.{ReadsAtMost, WritesAtMost};
 ghost use Rattle.std.specs.Io.KnownBytes.{Keeps, ReadConsumes, WriteAppends};
-ghost use Rattle.lfs_tool.specs.StandardStreams.{bytes_of_file_or_standard, is_standard_stream, is_path_of_standard_stream};
+ghost use Rattle.lfs_tool.specs.StandardStreams.{bytes_of_file_or_standard, is_missing_standard_stream, is_standard_stream, is_path_of_standard_stream};
 
 use std::io;
 use std::io::{ErrorKind, Read, Write};
@@ -36,7 +36,8 @@ impl<F: Read, S: Read> Read for FileOrStandard<F, S> {
     fn read(&mut self, buf: &mut [u8]) -> io::Result<usize>
         ensures bound { ReadsAtMost result buf.new }
         ensures bytes { ReadConsumes (bytes_of_file_or_standard F.remaining S.remaining self.old) (bytes_of_file_or_standard F.remaining S.remaining self.new) result buf.new }
-        ensures kind { is_standard_stream self.new ≡ is_standard_stream self.old }
+        ensures kind { (is_standard_stream self.new ≡ is_standard_stream self.old) × (is_missing_standard_stream self.new ≡ is_missing_standard_stream self.old) }
+        ensures there { OnOk result (is_missing_standard_stream self.old ≡ false) }
     {
         match self {
             FileOrStandard::File(file) => file.read(buf),
@@ -52,7 +53,8 @@ impl<F: Write, S: Write> Write for FileOrStandard<F, S> {
     fn write(&mut self, buf: &[u8]) -> io::Result<usize>
         ensures bound { WritesAtMost result buf.now }
         ensures bytes { WriteAppends (bytes_of_file_or_standard F.contents S.contents self.old) (bytes_of_file_or_standard F.contents S.contents self.new) result buf.now }
-        ensures kind { is_standard_stream self.new ≡ is_standard_stream self.old }
+        ensures kind { (is_standard_stream self.new ≡ is_standard_stream self.old) × (is_missing_standard_stream self.new ≡ is_missing_standard_stream self.old) }
+        ensures there { OnOk result (is_missing_standard_stream self.old ≡ false) }
     {
         match self {
             FileOrStandard::File(file) => file.write(buf),
@@ -63,7 +65,8 @@ impl<F: Write, S: Write> Write for FileOrStandard<F, S> {
 
     fn flush(&mut self) -> io::Result<()>
         ensures bytes { Keeps (bytes_of_file_or_standard F.contents S.contents self.old) (bytes_of_file_or_standard F.contents S.contents self.new) }
-        ensures kind { is_standard_stream self.new ≡ is_standard_stream self.old }
+        ensures kind { (is_standard_stream self.new ≡ is_standard_stream self.old) × (is_missing_standard_stream self.new ≡ is_missing_standard_stream self.old) }
+        ensures there { OnOk result (is_missing_standard_stream self.old ≡ false) }
     {
         match self {
             FileOrStandard::File(file) => file.flush(),

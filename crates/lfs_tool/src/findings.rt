@@ -118,7 +118,7 @@ pub enum Finding {
     },
     /// An entry leads to the root directory.
     LeadsToRoot(NamedSlot),
-    /// Two entries lead to one directory: the other one, and then the one at the place.
+    /// Two entries lead to one directory: the one at the place, and the other one.
     LeadsToSameDirectory {
         place: NamedSlot,
         other: NamedSlot,
@@ -141,7 +141,7 @@ pub enum Finding {
         pair: [u32; 2],
         place: NamedSlot,
     },
-    /// A block is in the lists of two files: in the other one, and then in the one at the place.
+    /// A block is in the lists of two files: the one at the place, and the other one.
     InTwoFiles {
         block: u32,
         place: NamedSlot,

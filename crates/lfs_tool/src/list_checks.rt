@@ -11,7 +11,7 @@ ghost use Rattle.lfs_tool.specs.BrokenLists.{IsPairInThreadWithBlock};
 ghost use Rattle.lfs_tool.specs.BrokenRules.{BreaksRuleOfFinding};
 ghost use Rattle.lfs_tool.specs.Device.{OnlyReadsDevice};
 ghost use Rattle.lfs_tool.specs.BrokenLists.{HasBlockInList};
-ghost use Rattle.lfs_tool.specs.FileLists.{AreFileListsAtTwoPlaces, AreFileListsOfThread, IsFileListOfThread, LacksBlockIfAtOtherPlace, LacksBlockIfWellFormed, MarksOneMoreList, struct_of_file_list};
+ghost use Rattle.lfs_tool.specs.FileLists.{AreFileListsAtTwoPlaces, AreFileListsOfThread, AreSlotsWithListsFiles, IsFileListOfThread, LacksBlockIfAtOtherPlace, LacksBlockIfWellFormed, MarksOneMoreList, struct_of_file_list};
 ghost use Rattle.lfs_tool.specs.KeptRules.{HasDistinctBlocksInRange, HasListsWithOwnBlocks};
 ghost use Rattle.lfs_tool.specs.OwnedSlotView.{owned_pairs_view};
 
@@ -184,6 +184,7 @@ pub(crate) fn finding_on_lists<D: BlockDevice>(
     device: &mut D,
     pairs: &[OwnedPair],
 ) -> Result<Option<Finding>, Error>
+    requires files { AreSlotsWithListsFiles (owned_pairs_view pairs.now) }
     ensures found { IfOk result (λ found. IfSome found (BreaksRuleOfFinding (disk_of_geometry_and_blocks (D.geometry device.old) (D.blocks device.old)) (owned_pairs_view pairs.now))) }
     ensures none { result ≡ Ok None → HasDistinctBlocksInRange (block_count (disk_of_geometry_and_blocks (D.geometry device.old) (D.blocks device.old))) (owned_pairs_view pairs.now) → HasListsWithOwnBlocks (disk_of_geometry_and_blocks (D.geometry device.old) (D.blocks device.old)) (owned_pairs_view pairs.now) }
     ensures looks { OnlyReadsDevice D.BlockDevice device.old device.new result }

@@ -1,8 +1,8 @@
 // The modes of a command line, at its places.
 
-ghost use Rattle.std.specs.Prelude.{◌≡◌, ◌≢◌, IfErr, IfOk, IsErrOf, OnOk, false};
+ghost use Rattle.std.specs.Prelude.{◌≡◌, ◌≢◌, IfErr, IfOk, IsErrOf, MatchResult, OnOk, false};
 ghost use Rattle.lfs_tool.specs.Reports.{ReportsWriterFaults};
-ghost use Rattle.lfs_tool.specs.RunsAtPaths.{BeginsToCheckImageAtPath, BeginsToListImageAtPath, ChecksImageAtPath, EndsModeWithError, HasFaultAtPath, FailsToReadFolder, IsModeDone, LeavesFolderUnfinished, LeavesNoNewImage, ListsImageAtPath, MakesImageAtPath, RefusesToListAtPath, RefusesToMakeImage, UnpacksImageAtPath, is_mode_that_writes_lines};
+ghost use Rattle.lfs_tool.specs.RunsAtPaths.{BeginsToCheckImageAtPath, BeginsToListImageAtPath, ChecksImageAtPath, EndsModeWithError, HasFaultAtPath, FailsToReadFolder, IsModeDone, LeavesFolderUnfinished, LeavesNoNewImage, ListsImageAtPath, MakesImageAtPath, OpensImageToRead, OpensImageUnlessOutOfMemory, RefusesToListAtPath, RefusesToMakeImage, UnpacksImageAtPath, is_mode_that_writes_lines};
 
 use crate::{
     Line, Mode, Places, ToolError, ToolOutput, check_for_command_line, create_for_command_line,
@@ -18,7 +18,7 @@ fn list_image_at_path<P: Places, W: ToolOutput>(
     line: &Line<'_>,
     out: &mut W,
 ) -> Result<(), ToolError>
-    ensures kept { P.history places.new ≡ P.history places.old }
+    ensures opened { MatchResult result (λ _. OpensImageToRead P.Places line.now places.old places.new) (OpensImageUnlessOutOfMemory P.Places line.now places.old places.new) }
     ensures listed { OnOk result (ListsImageAtPath P.image_path P.Image.remaining line.now (W.contents out.old) (W.contents out.new)) }
     ensures writer { ReportsWriterFaults W.ToolOutput out.old out.new result }
     ensures beginning { IsErrOf result ToolError.Output → BeginsToListImageAtPath P.image_path P.Image.remaining line.now (W.contents out.old) (W.contents out.new) }
@@ -38,7 +38,7 @@ fn check_image_at_path<P: Places, W: ToolOutput>(
     line: &Line<'_>,
     out: &mut W,
 ) -> Result<bool, ToolError>
-    ensures kept { P.history places.new ≡ P.history places.old }
+    ensures opened { MatchResult result (λ _. OpensImageToRead P.Places line.now places.old places.new) (OpensImageUnlessOutOfMemory P.Places line.now places.old places.new) }
     ensures checked { IfOk result (λ accepted. ChecksImageAtPath P.image_path P.Image.remaining line.now accepted (W.contents out.old) (W.contents out.new)) }
     ensures writer { ReportsWriterFaults W.ToolOutput out.old out.new result }
     ensures beginning { IsErrOf result ToolError.Output → BeginsToCheckImageAtPath P.image_path P.Image.remaining line.now (W.contents out.old) (W.contents out.new) }
@@ -101,7 +101,7 @@ fn unpack_image_at_path<P: Places>(
 /// Does what a command line requests, at the places of its paths. The lines of a listing and of a check
 /// are written to `out`. Returns false where an image was checked that isn't accepted, and else true.
 ///
-/// A listing and a check open nothing to be written. An image that is made is put in its place once it is
+/// An image that is read is opened once, and a listing and a check open nothing else. An image that is made is put in its place once it is
 /// whole. At any error nothing is put in its place. A making and an unpacking are followed by what the
 /// places give for that, which they have back as soon as the work ends.
 ///

@@ -1,4 +1,6 @@
 ghost use Rattle.std.specs.Prelude.{◌≡◌, IfOk};
+ghost use Rattle.std.specs.Io.{ReadsAtMost, WritesAtMost};
+ghost use Rattle.std.specs.Io.KnownBytes.{Keeps, ReadConsumes, WriteAppends};
 ghost use Rattle.std.specs.String.{string_bytes};
 
 use lfs_tool_folders::FaultLog;
@@ -54,7 +56,11 @@ impl<'a, T: Drop> NotedStream<'a, T> {
 impl<'a, R: Read + Drop> Read for NotedStream<'a, R> {
     ghost remaining = { λ n. R.remaining n.inner };
 
-    fn read(&mut self, buf: &mut [u8]) -> io::Result<usize> {
+    fn read(&mut self, buf: &mut [u8]) -> io::Result<usize>
+        ensures bound { ReadsAtMost result buf.new }
+        ensures bytes { ReadConsumes (R.remaining self.old.inner) (R.remaining self.new.inner) result buf.new }
+        ensures path { self.new.path ≡ self.old.path }
+    {
         let read = self.inner.read(buf);
         if let Err(error) = &read {
             self.note_error_at_path(error);
@@ -66,7 +72,11 @@ impl<'a, R: Read + Drop> Read for NotedStream<'a, R> {
 impl<'a, W: Write + Drop> Write for NotedStream<'a, W> {
     ghost contents = { λ n. W.contents n.inner };
 
-    fn write(&mut self, buf: &[u8]) -> io::Result<usize> {
+    fn write(&mut self, buf: &[u8]) -> io::Result<usize>
+        ensures bound { WritesAtMost result buf.now }
+        ensures bytes { WriteAppends (W.contents self.old.inner) (W.contents self.new.inner) result buf.now }
+        ensures path { self.new.path ≡ self.old.path }
+    {
         let written = self.inner.write(buf);
         if let Err(error) = &written {
             self.note_error_at_path(error);
@@ -74,7 +84,10 @@ impl<'a, W: Write + Drop> Write for NotedStream<'a, W> {
         written
     }
 
-    fn flush(&mut self) -> io::Result<()> {
+    fn flush(&mut self) -> io::Result<()>
+        ensures bytes { Keeps (W.contents self.old.inner) (W.contents self.new.inner) }
+        ensures path { self.new.path ≡ self.old.path }
+    {
         let flushed = self.inner.flush();
         if let Err(error) = &flushed {
             self.note_error_at_path(error);

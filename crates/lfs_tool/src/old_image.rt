@@ -1,4 +1,6 @@
-ghost use Rattle.std.specs.Prelude.{◌≡◌, IfOk};
+ghost use Rattle.std.specs.Prelude.{◌≡◌, IfOk, None, option_and_then};
+ghost use Rattle.std.specs.Io.{ReadsAtMost};
+ghost use Rattle.std.specs.Io.KnownBytes.{ReadConsumes};
 ghost use Rattle.std.specs.String.{string_bytes};
 
 use std::alloc::{AllocError, Global};
@@ -20,6 +22,7 @@ impl<'a, R: Files> OldImage<'a, R> {
     /// Keeps the path of the file. No file is opened yet.
     pub fn new(alloc: Global, files: &'a R, path: &str) -> Result<OldImage<'a, R>, AllocError>
         ensures path { IfOk result (λ i. string_bytes i.path ≡ path.now) }
+        ensures file { IfOk result (λ i. i.file ≡ None) }
     {
         Ok(OldImage {
             files,
@@ -30,7 +33,14 @@ impl<'a, R: Files> OldImage<'a, R> {
 }
 
 impl<'a, R: Files> Read for OldImage<'a, R> {
-    fn read(&mut self, buf: &mut [u8]) -> io::Result<usize> {
+    // What is left of its file, once it is opened.
+    ghost remaining = { λ i. option_and_then R.File.remaining i.file };
+
+    fn read(&mut self, buf: &mut [u8]) -> io::Result<usize>
+        ensures bound { ReadsAtMost result buf.new }
+        ensures bytes { ReadConsumes (option_and_then R.File.remaining self.old.file) (option_and_then R.File.remaining self.new.file) result buf.new }
+        ensures path { self.new.path ≡ self.old.path }
+    {
         if self.file.is_none() {
             self.file = Some(File::open(self.files, self.path.as_str())?);
         }

@@ -1,14 +1,13 @@
 ghost use Rattle.std.specs.Prelude.{◌≡◌, List, [], ◌∷◌};
 ghost use Rattle.std.specs.Borrow.{ftrue};
-ghost use Rattle.lfs_tool.specs.PlaceEvents.{FaultAnswered, FolderClosed, FolderOpened, ImageDiscarded, ImageNotPlaced, ImageOpened, ImagePlaced, PlaceEvent, WorkBegan, WorkEnded};
+ghost use Rattle.lfs_tool.specs.PlaceEvents.{FaultAnswered, FolderClosed, FolderOpened, ImageDiscarded, ImageNotPlaced, ImageOpened, ImagePlaced, OldImageOpened, PlaceEvent, WorkBegan, WorkEnded};
 
 use crate::{FollowsProgress, ToolOutput};
 use lfs_device::Error;
 use lfs_tool_folders::{PathFault, Target};
 use std::marker::Model;
 
-/// What was opened to be written at paths, how it came back, what a follower was told, and which faults
-/// were answered, for those who write `Places`. Only proofs read it: it takes no memory, and its methods
+/// What was opened at paths, how it came back, what a follower was told, and which faults were answered, for those who write `Places`. Only proofs read it: it takes no memory, and its methods
 /// do nothing at run time.
 #[derive(Drop)]
 pub struct PlaceHistory {
@@ -27,7 +26,14 @@ impl PlaceHistory {
         PlaceHistory::with_events_chosen_by_proof(&(), &())
     }
 
-    /// Adds that an image was opened at a path.
+    /// Adds that an image was opened at a path, to be read.
+    pub fn with_opened_old_image(&self, path: &str) -> PlaceHistory
+        ensures { result.events ≡ OldImageOpened path.now ∷ self.now.events }
+    {
+        PlaceHistory::with_events_chosen_by_proof(self, &path)
+    }
+
+    /// Adds that an image was opened at a path, to be made.
     pub fn with_opened_image(&self, path: &str) -> PlaceHistory
         ensures { result.events ≡ ImageOpened path.now ∷ self.now.events }
     {

@@ -1,9 +1,8 @@
-ghost use Rattle.std.specs.Prelude.{◌≡◌, ◌≤◌, ◌<◌, ◌+◌, ◌++◌, ◌⊎◌, [], ◌∷◌, List, false, length, true, None, Option, Some};
+ghost use Rattle.std.specs.Prelude.{◌≡◌, ◌≤◌, ◌<◌, ◌+◌, ◌++◌, ◌⊎◌, [], ◌∷◌, List, false, length, None, Option, Some};
 ghost use Rattle.std.specs.Option.{option_and_then};
 ghost use Rattle.std.specs.Duration.{as_nanos};
 ghost use Rattle.std.specs.Fmt.{decimal};
 ghost use Rattle.arrayvec.specs.ArrayString.{array_string_len};
-ghost use Rattle.lfs_tool.specs.Reports.{WritesTextOrFails};
 ghost use Rattle.lfs_tool.specs.AmountsTold.{AddCalled, BeginCalled, ProgressCall, done_told, told_with_more_done, told_with_whole, whole_told};
 ghost use Rattle.lfs_tool.specs.ProgressLines.{no_amount, part_of_whole, progress_line, sum_of_amounts};
 
@@ -154,9 +153,11 @@ fn progress_line_text(done: FilesAndBytes, whole: FilesAndBytes) -> ProgressLine
 }
 
 impl<W: ToolOutput + Drop, C: Clock + Drop> Progress<W, C> {
+    ghost use Rattle.lfs_tool.specs.ProgressSteps.{StaysEnded, WritesNoProgressLine, WritesProgressLine};
+
     /// Makes the line of a work that begins now. Nothing is written.
     pub fn new(out: W, clock: C) -> Progress<W, C>
-        ensures out { (result.out ≡ out) × (result.is_shown ≡ false) }
+        ensures out { (result.out ≡ out) × (result.clock ≡ clock) × (result.is_shown ≡ false) }
         ensures amounts { (result.whole ≡ no_amount) × (result.done ≡ no_amount) }
         ensures next { as_nanos result.next ≡ 1_000_000_000 }
         ensures calls { result.calls.calls ≡ [] }
@@ -178,8 +179,7 @@ impl<W: ToolOutput + Drop, C: Clock + Drop> Progress<W, C> {
     fn write_progress_line_if_due_at_elapsed_time(&mut self, gone: Duration)
         ensures amounts { (self.new.whole ≡ self.old.whole) × (self.new.done ≡ self.old.done) × (self.new.calls ≡ self.old.calls) }
         ensures early { as_nanos gone ≤ as_nanos self.old.next → self.new ≡ self.old }
-        ensures line { as_nanos self.old.next < as_nanos gone → WritesTextOrFails W.ToolOutput (progress_line self.old.done self.old.whole) self.old.out self.new.out }
-        ensures shown { as_nanos self.old.next < as_nanos gone → self.new.is_shown ≡ true }
+        ensures line { as_nanos self.old.next < as_nanos gone → WritesProgressLine W.ToolOutput self.old self.new }
         ensures later { as_nanos self.old.next < as_nanos gone → as_nanos gone ≤ as_nanos self.new.next }
     {
         if gone.as_nanos() <= self.next.as_nanos() {
@@ -196,7 +196,8 @@ impl<W: ToolOutput + Drop, C: Clock + Drop> Progress<W, C> {
     // Writes the line, where it is time.
     fn write_progress_line_if_due(&mut self)
         ensures amounts { (self.new.whole ≡ self.old.whole) × (self.new.done ≡ self.old.done) × (self.new.calls ≡ self.old.calls) }
-        ensures line { (self.new.out ≡ self.old.out) ⊎ WritesTextOrFails W.ToolOutput (progress_line self.old.done self.old.whole) self.old.out self.new.out }
+        ensures line { WritesNoProgressLine self.old self.new ⊎ WritesProgressLine W.ToolOutput self.old self.new }
+        ensures ended { StaysEnded self.old self.new }
     {
         let Some(began) = self.began else {
             return;
@@ -209,12 +210,15 @@ impl<W: ToolOutput + Drop, C: Clock + Drop> Progress<W, C> {
 }
 
 impl<W: ToolOutput + Drop, C: Clock + Drop> FollowsProgress for Progress<W, C> {
+    ghost use Rattle.lfs_tool.specs.ProgressSteps.{StaysEnded, WritesNoProgressLine, WritesProgressLine};
+
     ghost told = { λ p. Some p.calls.calls };
 
     fn begin(&mut self, whole: FilesAndBytes)
         ensures amounts { (self.new.whole ≡ whole) × (self.new.done ≡ self.old.done) }
         ensures calls { self.new.calls.calls ≡ BeginCalled whole ∷ self.old.calls.calls }
-        ensures line { (self.new.out ≡ self.old.out) ⊎ WritesTextOrFails W.ToolOutput (progress_line self.new.done self.new.whole) self.old.out self.new.out }
+        ensures line { WritesNoProgressLine self.old self.new ⊎ WritesProgressLine W.ToolOutput self.old self.new }
+        ensures ended { StaysEnded self.old self.new }
     {
         self.whole = whole;
         self.calls = self.calls.with_begin(whole);
@@ -224,7 +228,8 @@ impl<W: ToolOutput + Drop, C: Clock + Drop> FollowsProgress for Progress<W, C> {
     fn add(&mut self, more: FilesAndBytes)
         ensures amounts { (self.new.whole ≡ self.old.whole) × (self.new.done ≡ sum_of_amounts self.old.done more) }
         ensures calls { self.new.calls.calls ≡ AddCalled more ∷ self.old.calls.calls }
-        ensures line { (self.new.out ≡ self.old.out) ⊎ WritesTextOrFails W.ToolOutput (progress_line self.new.done self.new.whole) self.old.out self.new.out }
+        ensures line { WritesNoProgressLine self.old self.new ⊎ WritesProgressLine W.ToolOutput self.old self.new }
+        ensures ended { StaysEnded self.old self.new }
     {
         self.done = self.done.plus(more);
         self.calls = self.calls.with_add(more);

@@ -1,8 +1,8 @@
-ghost use Rattle.std.specs.Prelude.{◌≡◌, IfErr, IfOk, map};
+ghost use Rattle.std.specs.Prelude.{◌≡◌, IfErr, IfOk, OnErr, false, map};
 ghost use Rattle.lfs_tool_folders.specs.Paths.{image_path};
 ghost use Rattle.lfs_tool.specs.LoggedAnswers.{answer_by_log, answers_in_events};
-ghost use Rattle.lfs_tool.specs.Paths.{path_of_old_image_file};
-ghost use Rattle.lfs_tool.specs.StandardStreams.{IsStandardStreamTaken, is_standard_stream, is_path_of_standard_stream, path_or_dash_of_file_or_standard};
+ghost use Rattle.lfs_tool.specs.Paths.{IsNewFileUnmade, IsOldFileUnopened, path_of_old_image_file};
+ghost use Rattle.lfs_tool.specs.StandardStreams.{IsStandardStreamKeptOrLost, IsStandardStreamTaken, is_standard_stream, is_path_of_standard_stream, path_or_dash_of_file_or_standard};
 
 use crate::file_or_standard::is_standard_stream_path;
 use crate::{
@@ -41,7 +41,9 @@ pub struct RealPlaces<'a, R, I, O, E, C> {
 // Puts the file of an image at its path. A standard stream has its bytes already.
 fn put_file_or_standard_in_place<R: Files, O: Drop>(
     image: FileOrStandard<NewImage<'_, R>, O>,
-) -> io::Result<()> {
+) -> io::Result<()>
+    ensures standard { OnErr result (is_standard_stream image.entry ≡ false) }
+{
     match image {
         FileOrStandard::File(file) => file.place(),
         FileOrStandard::Standard(_) => Ok(()),
@@ -90,10 +92,10 @@ where
     ) -> Result<FileOrStandard<OldImage<'a, R>, I>, AllocError>
         ensures path { IfOk result (λ i. path_or_dash_of_file_or_standard path_of_old_image_file i ≡ path.now) }
         ensures kind { IfOk result (λ i. is_standard_stream i ≡ is_path_of_standard_stream path.now) }
+        ensures file { IfOk result IsOldFileUnopened }
         ensures taken { IfOk result (IsStandardStreamTaken self.old.input self.new.input) }
-        ensures output { self.new.output ≡ self.old.output }
-        ensures history { self.new.history ≡ self.old.history }
-        ensures terminal { has_terminal self.new ≡ has_terminal self.old }
+        ensures err { OnErr result (self.new.input ≡ self.old.input) }
+        ensures stays { (self.new.history ≡ self.old.history) × (has_terminal self.new ≡ has_terminal self.old) × (self.new.output ≡ self.old.output) }
     {
         if is_standard_stream_path(path) {
             return Ok(FileOrStandard::Standard(self.input.take()));
@@ -109,10 +111,10 @@ where
     ) -> Result<FileOrStandard<NewImage<'a, R>, O>, AllocError>
         ensures path { IfOk result (λ i. path_or_dash_of_file_or_standard image_path i ≡ path.now) }
         ensures kind { IfOk result (λ i. is_standard_stream i ≡ is_path_of_standard_stream path.now) }
+        ensures file { IfOk result IsNewFileUnmade }
         ensures taken { IfOk result (IsStandardStreamTaken self.old.output self.new.output) }
-        ensures input { self.new.input ≡ self.old.input }
-        ensures history { self.new.history ≡ self.old.history }
-        ensures terminal { has_terminal self.new ≡ has_terminal self.old }
+        ensures err { OnErr result (self.new.output ≡ self.old.output) }
+        ensures stays { (self.new.history ≡ self.old.history) × (has_terminal self.new ≡ has_terminal self.old) × (self.new.input ≡ self.old.input) }
     {
         if is_standard_stream_path(path) {
             return Ok(FileOrStandard::Standard(self.output.take()));
@@ -130,14 +132,14 @@ where
     E: Write + Copy + Drop,
     C: Clock + Copy + Drop,
 {
-    ghost use Rattle.std.specs.Prelude.{◌∷◌, OnOk, Some, is_some};
+    ghost use Rattle.std.specs.Prelude.{◌∷◌, MatchResult, OnOk, Some};
     ghost use Rattle.std.specs.Option.{option_and_then};
     ghost use Rattle.lfs_tool_folders.specs.Roots.{root_path_of_source_folder, file_size_read_limit, root_path_of_target_folder};
     ghost use Rattle.lfs_tool.specs.AmountsTold.{IsToldOfNothing};
-    ghost use Rattle.lfs_tool.specs.Paths.{noted_path_of_new_image, noted_path_of_old_image, path_of_new_image, path_of_old_image, stream_of_new_image, stream_of_old_image};
-    ghost use Rattle.lfs_tool.specs.PlaceEvents.{FaultAnswered, ImageOpened, WorkBegan};
+    ghost use Rattle.lfs_tool.specs.Paths.{bytes_of_new_image, noted_path_of_new_image, noted_path_of_old_image, path_of_new_image, path_of_old_image, stream_of_new_image, stream_of_old_image};
+    ghost use Rattle.lfs_tool.specs.PlaceEvents.{FaultAnswered, ImageNotPlaced, ImageOpened, ImagePlaced, OldImageOpened, WorkBegan};
     ghost use Rattle.lfs_tool.specs.WatchedStreams.{flush_count, unflushed_write_count, watched_fault_count};
-    ghost use Rattle.lfs_tool.specs.RealPlaceAnswers.{IsAnsweredByLog, answers_of_log, has_terminal};
+    ghost use Rattle.lfs_tool.specs.RealPlaceAnswers.{HasSameStandardInput, HasSameStandardOutput, IsAnsweredByLog, IsNewFollowerExactlyWithTerminal, answers_of_log, has_terminal};
 
     type Image = WatchedStream<BufReader<NotedStream<'a, FileOrStandard<OldImage<'a, R>, I>>>>;
 
@@ -163,6 +165,10 @@ where
 
     ghost shows = { has_terminal };
 
+    ghost HasSameStandardInput = { HasSameStandardInput };
+
+    ghost HasSameStandardOutput = { HasSameStandardOutput };
+
     fn image(
         &mut self,
         path: &str,
@@ -171,10 +177,10 @@ where
         Error,
     >
         ensures path { IfOk result (λ i. path_of_old_image i ≡ path.now) }
-        ensures err { IfErr result (λ e. e ≡ Error.NoMemory) }
-        ensures kept { (self.new.history.events ≡ self.old.history.events) × (self.new.output ≡ self.old.output) }
-        ensures shows { has_terminal self.new ≡ has_terminal self.old }
-        ensures stream { IfOk result (λ i. IsStandardStreamTaken self.old.input self.new.input (stream_of_old_image i)) }
+        ensures opened { OnOk result (self.new.history.events ≡ OldImageOpened path.now ∷ self.old.history.events) }
+        ensures err { IfErr result (λ e. (e ≡ Error.NoMemory) × (self.new.history.events ≡ self.old.history.events)) }
+        ensures stays { (has_terminal self.new ≡ has_terminal self.old) × (self.new.output ≡ self.old.output) }
+        ensures stream { MatchResult result (λ i. IsStandardStreamTaken self.old.input self.new.input (stream_of_old_image i) × IsOldFileUnopened (stream_of_old_image i)) (λ _. IsStandardStreamKeptOrLost path.now self.old.input self.new.input) }
         ensures noted { IfOk result (λ i. noted_path_of_old_image i ≡ path.now) }
     {
         let image = self.image_input_at_path(path)?;
@@ -182,6 +188,7 @@ where
         let Ok(reader) = BufReader::with_capacity(self.rt.alloc(), READ_AHEAD, image) else {
             return Err(Error::NoMemory);
         };
+        self.history = self.history.with_opened_old_image(path);
         Ok(WatchedStream::new(reader))
     }
 
@@ -193,8 +200,8 @@ where
         ensures fresh { IfOk result (λ i. (watched_fault_count i ≡ 0) × (unflushed_write_count i ≡ 0) × (flush_count i ≡ 0)) }
         ensures opened { OnOk result (self.new.history.events ≡ ImageOpened path.now ∷ self.old.history.events) }
         ensures err { IfErr result (λ e. (e ≡ Error.NoMemory) × (self.new.history.events ≡ self.old.history.events)) }
-        ensures shows { (has_terminal self.new ≡ has_terminal self.old) × (self.new.input ≡ self.old.input) }
-        ensures stream { IfOk result (λ i. IsStandardStreamTaken self.old.output self.new.output (stream_of_new_image i) × (noted_path_of_new_image i ≡ path.now)) }
+        ensures stays { (has_terminal self.new ≡ has_terminal self.old) × (self.new.input ≡ self.old.input) }
+        ensures stream { MatchResult result (λ i. IsStandardStreamTaken self.old.output self.new.output (stream_of_new_image i) × IsNewFileUnmade (stream_of_new_image i) × (noted_path_of_new_image i ≡ path.now)) (λ _. IsStandardStreamKeptOrLost path.now self.old.output self.new.output) }
     {
         let image = self.image_output_at_path(path)?;
         let image = NotedStream::new(self.rt.alloc(), image, path, self.faults.log())?;
@@ -205,7 +212,12 @@ where
     fn place_image(
         &mut self,
         image: WatchedStream<NotedStream<'a, FileOrStandard<NewImage<'a, R>, O>>>,
-    ) -> Result<(), ToolError> {
+    ) -> Result<(), ToolError>
+        ensures placed { OnOk result (self.new.history.events ≡ ImagePlaced (bytes_of_new_image R.File.contents O.contents image.entry) ∷ self.old.history.events) }
+        ensures err { IfErr result (λ e. (e ≡ ToolError.Output) × (self.new.history.events ≡ ImageNotPlaced (bytes_of_new_image R.File.contents O.contents image.entry) ∷ self.old.history.events)) }
+        ensures standard { OnErr result (is_standard_stream (stream_of_new_image image.entry) ≡ false) }
+        ensures stays { (has_terminal self.new ≡ has_terminal self.old) × (self.new.input ≡ self.old.input) × (self.new.output ≡ self.old.output) }
+    {
         // Either has the image as it is before it is moved.
         let placed = self.history.with_placed_image(&image);
         let unplaced = self.history.with_unplaced_image(&image);
@@ -246,8 +258,8 @@ where
     fn progress(&mut self) -> Option<Progress<WatchedStream<E>, C>>
         ensures untold { IsToldOfNothing (option_and_then (λ p. Some p.calls.calls) result) }
         ensures began { self.new.history.events ≡ WorkBegan ∷ self.old.history.events }
-        ensures shows { has_terminal self.new ≡ has_terminal self.old }
-        ensures shown { is_some result ≡ has_terminal self.old }
+        ensures stays { (has_terminal self.new ≡ has_terminal self.old) × (self.new.input ≡ self.old.input) × (self.new.output ≡ self.old.output) }
+        ensures shown { IsNewFollowerExactlyWithTerminal self.old.terminal result × (self.new.terminal ≡ self.old.terminal) }
     {
         self.history = self.history.with_begun_work();
         match self.terminal {
@@ -263,7 +275,7 @@ where
     fn fault(&mut self) -> Result<Option<PathFault>, Error>
         ensures answered { self.new.history.events ≡ FaultAnswered result ∷ self.old.history.events }
         ensures err { IfErr result (λ e. e ≡ Error.NoMemory) }
-        ensures shows { has_terminal self.new ≡ has_terminal self.old }
+        ensures stays { (has_terminal self.new ≡ has_terminal self.old) × (self.new.input ≡ self.old.input) × (self.new.output ≡ self.old.output) }
         ensures taken { IsAnsweredByLog (answers_of_log self.old) (answers_of_log self.new) result }
     {
         let answer = match self.faults.take() {

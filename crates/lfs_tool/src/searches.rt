@@ -13,7 +13,7 @@ ghost use Rattle.lfs_tool.specs.Findings.{IsTrueFindingOfDisk};
 ghost use Rattle.lfs_tool.specs.KeptRules.{AreDirectoriesInTree, AreRequiredSlotsEntries, BeginsRootWithSuperblock, HasSuperblockNameInFirstSlot, KeepsAllRules, KeepsPairRules};
 ghost use Rattle.lfs_tool.specs.OwnedSlotView.{owned_pairs_view};
 ghost use Rattle.lfs_tool.specs.PairReads.{AreAllThreadPairsOrFinding, AreOwnedPairsOfThread};
-ghost use Rattle.lfs_tool.specs.Verdict.{IsAcceptedInSomeNameOrder};
+ghost use Rattle.lfs_tool.specs.Verdict.{IsAcceptedInNoNameOrder, IsAcceptedInSomeNameOrder};
 
 use crate::directory_checks::finding_on_directories;
 use crate::findings::Finding;
@@ -39,7 +39,7 @@ fn finding_on_slots_and_directories(
     requires root { root ≡ pair_count_before_root (owned_pairs_view pairs.now) }
     requires below { root < length pairs.now }
     requires distinct { IsDistinct nat_eq (blocks_of_pairs (owned_pairs_view pairs.now)) }
-    ensures found { IfOk result (λ found. IfSome found (λ f. (disk : Disk) → BreaksRuleOfFinding disk (owned_pairs_view pairs.now) f)) }
+    ensures found { IfOk result (λ found. IfSome found (λ f. (disk : Disk) → BeginsRootWithSuperblock (owned_pairs_view pairs.now) → BreaksRuleOfFinding disk (owned_pairs_view pairs.now) f)) }
     ensures named { result ≡ Ok None → BeginsRootWithSuperblock (owned_pairs_view pairs.now) → HasSuperblockNameInFirstSlot (owned_pairs_view pairs.now) }
     ensures slots { result ≡ Ok None → AreRequiredSlotsEntries (owned_pairs_view pairs.now) }
     ensures directories { result ≡ Ok None → (order : NameOrder) × AreDirectoriesInTree order (owned_pairs_view pairs.now) }
@@ -130,7 +130,7 @@ fn finding_on_followed_thread<D: BlockDevice>(
 /// entries lead, and whether paths lead to all. Last come the move, the first entry of the
 /// superblock's log and the lists of files. Only reads are made.
 ///
-/// Returns None only where the image is accepted, in one of the two orders of names.
+/// Returns None exactly where the image is accepted, in one of the two orders of names.
 ///
 /// Errors: `Io` where a read failed. `NoMemory` where memory isn't granted.
 pub fn find_broken_rule_on_device<D: BlockDevice>(
@@ -139,6 +139,7 @@ pub fn find_broken_rule_on_device<D: BlockDevice>(
 ) -> Result<Option<Finding>, Error>
     ensures found { IfOk result (λ found. IfSome found (IsTrueFindingOfDisk (disk_of_geometry_and_blocks (D.geometry device.old) (D.blocks device.old)))) }
     ensures none { result ≡ Ok None → IsAcceptedInSomeNameOrder (disk_of_geometry_and_blocks (D.geometry device.old) (D.blocks device.old)) }
+    ensures refused { IfOk result (λ found. IfSome found (λ f. IsAcceptedInNoNameOrder (disk_of_geometry_and_blocks (D.geometry device.old) (D.blocks device.old)))) }
     ensures looks { OnlyReadsDevice D.BlockDevice device.old device.new result }
 {
     let followed = read_pairs_of_thread(alloc, device)?;

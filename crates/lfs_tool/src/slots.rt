@@ -7,7 +7,7 @@ ghost use Rattle.lfs_model.specs.Thread.{Pair, pair_count_before_root};
 ghost use Rattle.lfs_model.specs.View.{IsFileOrDirectoryEntry, IsStructOfKind};
 ghost use Rattle.lfs_tool.specs.BrokenRules.{IsTrueOfNamedEntrySlot, BreaksRuleOfFinding, IsSlotRequiredToBeEntry};
 ghost use Rattle.lfs_tool.specs.Entries.{AreSlotsEntriesFrom, BreaksEntryRule};
-ghost use Rattle.lfs_tool.specs.KeptRules.{AreRequiredSlotsEntries};
+ghost use Rattle.lfs_tool.specs.KeptRules.{AreRequiredSlotsEntries, BeginsRootWithSuperblock};
 ghost use Rattle.lfs_tool.specs.OwnedSlotView.{owned_slot_view, owned_pair_view, owned_pairs_view};
 
 use crate::findings::{Finding, NamedSlot};
@@ -68,7 +68,7 @@ pub(crate) fn named_slot_of_owned_slot(
 
 // Returns the finding for a slot at a place.
 fn finding_of_entry_defect(fault: EntryDefect, place: NamedSlot) -> Finding
-    ensures { (disk : Disk) (ps : List Pair) → IsTrueOfNamedEntrySlot (λ s. BreaksEntryRule s fault) ps place → BreaksRuleOfFinding disk ps result }
+    ensures { (disk : Disk) (ps : List Pair) → BeginsRootWithSuperblock ps → IsTrueOfNamedEntrySlot (λ s. BreaksEntryRule s fault) ps place → BreaksRuleOfFinding disk ps result }
 {
     match fault {
         EntryDefect::IsSuperblock => Finding::SecondSuperblock(place),
@@ -84,7 +84,7 @@ fn finding_on_entry_slot(
     id: usize,
     slot: &OwnedSlot,
 ) -> Result<Option<Finding>, AllocError>
-    ensures found { IfOk result (λ found. IfSome found (λ f. (disk : Disk) (ps : List Pair) → IsSlotRequiredToBeEntry ps (pair_address_of_array pair) id (owned_slot_view slot.now) → BreaksRuleOfFinding disk ps f)) }
+    ensures found { IfOk result (λ found. IfSome found (λ f. (disk : Disk) (ps : List Pair) → BeginsRootWithSuperblock ps → IsSlotRequiredToBeEntry ps (pair_address_of_array pair) id (owned_slot_view slot.now) → BreaksRuleOfFinding disk ps f)) }
     ensures none { result ≡ Ok None → IsFileOrDirectoryEntry (owned_slot_view slot.now) }
 {
     let Some(fault) = entry_defect_of_slot(slot) else {
@@ -100,7 +100,7 @@ fn finding_on_entry_slots_of_pair(
     pair: &OwnedPair,
     from: usize,
 ) -> Result<Option<Finding>, AllocError>
-    ensures found { IfOk result (λ found. IfSome found (λ f. (disk : Disk) (ps : List Pair) (index : ℕ) → slice_get ps index ≡ Some (owned_pair_view pair.now) → (pair_count_before_root ps < index) ⊎ (0 < from) → BreaksRuleOfFinding disk ps f)) }
+    ensures found { IfOk result (λ found. IfSome found (λ f. (disk : Disk) (ps : List Pair) (index : ℕ) → BeginsRootWithSuperblock ps → slice_get ps index ≡ Some (owned_pair_view pair.now) → (pair_count_before_root ps < index) ⊎ (0 < from) → BreaksRuleOfFinding disk ps f)) }
     ensures none { result ≡ Ok None → AreSlotsEntriesFrom from (owned_pair_view pair.now) }
 {
     for id in from..pair.slots.len() {
@@ -129,7 +129,7 @@ pub(crate) fn finding_on_entry_slots(
     root: usize,
 ) -> Result<Option<Finding>, AllocError>
     requires { root ≡ pair_count_before_root (owned_pairs_view pairs.now) }
-    ensures found { IfOk result (λ found. IfSome found (λ f. (disk : Disk) → BreaksRuleOfFinding disk (owned_pairs_view pairs.now) f)) }
+    ensures found { IfOk result (λ found. IfSome found (λ f. (disk : Disk) → BeginsRootWithSuperblock (owned_pairs_view pairs.now) → BreaksRuleOfFinding disk (owned_pairs_view pairs.now) f)) }
     ensures none { result ≡ Ok None → AreRequiredSlotsEntries (owned_pairs_view pairs.now) }
 {
     for index in 0..pairs.len() {

@@ -8,7 +8,7 @@ ghost use Rattle.lfs_model.specs.Thread.{Pair, pair_count_before_root};
 ghost use Rattle.lfs_tag.specs.FieldsView.{superblock_view};
 ghost use Rattle.lfs_tool.specs.BrokenRules.{HasSuperblockFields, BreaksRuleOfFinding, IsFirstStructOfSuperblockChainPair, IsWrongSuperblockFieldForDisk};
 ghost use Rattle.lfs_tool.specs.Device.{HasSizesOfGeometry};
-ghost use Rattle.lfs_tool.specs.KeptRules.{HasSameSuperblocksInChain};
+ghost use Rattle.lfs_tool.specs.KeptRules.{BeginsRootWithSuperblock, HasSameSuperblocksInChain};
 ghost use Rattle.lfs_tool.specs.KeptSuperblocks.{HasInlineSuperblockIfAnySlot, HaveInlineSuperblocksUpTo, HaveSameBytesIfInline, HaveSameInlineBytesIfAnySlot, HaveSameInlineBytesUpTo, IsInlineSuperblockStruct};
 ghost use Rattle.lfs_lookup.specs.Items.{owned_struct_view};
 ghost use Rattle.lfs_tool.specs.OwnedSlotView.{owned_slot_view, owned_pair_view, owned_pairs_view};
@@ -83,7 +83,7 @@ fn finding_on_superblock(geometry: &Geometry, pair: [u32; 2], first: &OwnedSlot)
 
 // Returns what is wrong with the superblock in a pair of the chain, if the pair has one.
 fn finding_on_superblock_of_pair(geometry: &Geometry, pair: &OwnedPair) -> Option<Finding>
-    ensures found { IfSome result (λ f. (disk : Disk) (ps : List Pair) (index : ℕ) → HasSizesOfGeometry disk geometry.now → slice_get ps index ≡ Some (owned_pair_view pair.now) → index ≤ pair_count_before_root ps → BreaksRuleOfFinding disk ps f) }
+    ensures found { IfSome result (λ f. (disk : Disk) (ps : List Pair) (index : ℕ) → HasSizesOfGeometry disk geometry.now → BeginsRootWithSuperblock ps → slice_get ps index ≡ Some (owned_pair_view pair.now) → index ≤ pair_count_before_root ps → BreaksRuleOfFinding disk ps f) }
     ensures none { result ≡ None → (disk : Disk) → HasSizesOfGeometry disk geometry.now → HasInlineSuperblockIfAnySlot disk (owned_pair_view pair.now) }
 {
     if pair.slots.is_empty() {
@@ -102,6 +102,7 @@ fn finding_on_chain_superblocks(
 ) -> Option<Finding>
     requires below { root < length pairs.now }
     requires root { root ≡ pair_count_before_root (owned_pairs_view pairs.now) }
+    requires begins { BeginsRootWithSuperblock (owned_pairs_view pairs.now) }
     ensures found { IfSome result (λ f. (disk : Disk) → HasSizesOfGeometry disk geometry.now → BreaksRuleOfFinding disk (owned_pairs_view pairs.now) f) }
     ensures none { result ≡ None → (disk : Disk) → HasSizesOfGeometry disk geometry.now → HaveInlineSuperblocksUpTo disk (root + 1) (owned_pairs_view pairs.now) }
 {
@@ -126,8 +127,8 @@ fn has_same_bytes(one: &OwnedStruct, other: &OwnedStruct) -> bool
 
 // Returns what is wrong with the superblock in a pair of the chain beside the one of the root directory.
 fn finding_on_two_superblocks(pair: &OwnedPair, root: &OwnedPair) -> Option<Finding>
-    ensures found { IfSome result (λ f. (disk : Disk) (ps : List Pair) (index : ℕ) (last : ℕ) → slice_get ps index ≡ Some (owned_pair_view pair.now) → index ≤ pair_count_before_root ps
-        → slice_get ps last ≡ Some (owned_pair_view root.now) → last ≤ pair_count_before_root ps → BreaksRuleOfFinding disk ps f) }
+    ensures found { IfSome result (λ f. (disk : Disk) (ps : List Pair) (index : ℕ) → BeginsRootWithSuperblock ps → slice_get ps index ≡ Some (owned_pair_view pair.now) → index ≤ pair_count_before_root ps
+        → slice_get ps (pair_count_before_root ps) ≡ Some (owned_pair_view root.now) → BreaksRuleOfFinding disk ps f) }
     ensures none { result ≡ None → HaveSameInlineBytesIfAnySlot (owned_pair_view pair.now) (owned_pair_view root.now) }
 {
     let (Some(one), Some(other)) = (pair.slots.first(), root.slots.first()) else {
@@ -146,6 +147,7 @@ fn finding_on_two_superblocks(pair: &OwnedPair, root: &OwnedPair) -> Option<Find
 fn finding_on_other_superblocks(pairs: &[OwnedPair], root: usize) -> Option<Finding>
     requires below { root < length pairs.now }
     requires root { root ≡ pair_count_before_root (owned_pairs_view pairs.now) }
+    requires begins { BeginsRootWithSuperblock (owned_pairs_view pairs.now) }
     ensures found { IfSome result (λ f. (disk : Disk) → BreaksRuleOfFinding disk (owned_pairs_view pairs.now) f) }
     ensures none { result ≡ None → HaveSameInlineBytesUpTo root root (owned_pairs_view pairs.now) }
 {

@@ -1,9 +1,10 @@
 // The numbers of a superblock, by its place in the bytes alone.
 
-ghost use Rattle.std.specs.Prelude.{◌≡◌, ◌⊎◌, ◌<◌, ◌/◌, ◌^◌, IfSome, None};
+ghost use Rattle.std.specs.Prelude.{◌≡◌, ◌⊎◌, ◌<◌, ◌/◌, ◌^◌, IfSome, None, length};
+ghost use Rattle.lfs_model.specs.EntryTypes.{SuperblockFields};
 ghost use Rattle.lfs_tag.specs.FieldsView.{superblock_view};
 ghost use Rattle.lfs_tool.specs.KeptSuperblocks.{HasSizesAndVersion};
-ghost use Rattle.lfs_tool.specs.WrongNumbers.{IsWrongNumberInImageBytes, IsWrongSuperblockField, IsSuperblockAtOffset};
+ghost use Rattle.lfs_tool.specs.WrongNumbers.{HasNoWrongNumberInImageBytes, IsWrongNumberInImageBytes, IsWrongSuperblockField, IsSuperblockAtOffset};
 
 use crate::findings::WrongNumber;
 use lfs_tag::{Superblock, superblock_of};
@@ -32,7 +33,8 @@ pub(crate) fn wrong_number_in_superblock_fields(
 // Returns the fields of the superblock at the beginning of a block at that offset.
 fn superblock_fields_at_offset(bytes: &[u8], from: usize) -> Option<Superblock>
     requires { from < 2 ^ 32 }
-    ensures { IfSome result (λ fields. IsSuperblockAtOffset bytes.now from (superblock_view fields)) }
+    ensures found { IfSome result (λ fields. IsSuperblockAtOffset bytes.now from (superblock_view fields)) }
+    ensures none { result ≡ None → (fields : SuperblockFields) → ¬ IsSuperblockAtOffset bytes.now from fields }
 {
     if bytes.len() < from + 44 || &bytes[from + 8..from + 16] != Superblock::NAME {
         return None;
@@ -47,7 +49,8 @@ fn superblock_fields_at_offset(bytes: &[u8], from: usize) -> Option<Superblock>
 fn wrong_number_at_offset(bytes: &[u8], block_size: u32, from: usize) -> Option<WrongNumber>
     requires size { 0 < block_size }
     requires from { (from ≡ 0) ⊎ (from ≡ block_size) }
-    ensures { IfSome result (IsWrongNumberInImageBytes bytes.now block_size) }
+    ensures found { IfSome result (IsWrongNumberInImageBytes bytes.now block_size) }
+    ensures none { result ≡ None → (fields : SuperblockFields) → IsSuperblockAtOffset bytes.now from fields → HasSizesAndVersion block_size (length bytes.now / block_size) fields }
 {
     let count = bytes.len() / block_size as usize;
     match superblock_fields_at_offset(bytes, from) {
@@ -60,9 +63,11 @@ fn wrong_number_at_offset(bytes: &[u8], block_size: u32, from: usize) -> Option<
 /// that size in bytes: the size or number of blocks, or the version. The superblock is found by its
 /// place, without a checksum. So blocks of another size needn't be known.
 ///
-/// Returns None where neither block begins with a superblock, or each has right numbers.
+/// Returns None exactly where no number of these two superblocks is wrong: a block that doesn't begin
+/// with a superblock has none. Blocks of no bytes have none either.
 pub fn wrong_superblock_number_in_image(bytes: &[u8], block_size: u32) -> Option<WrongNumber>
-    ensures { IfSome result (IsWrongNumberInImageBytes bytes.now block_size) }
+    ensures found { IfSome result (IsWrongNumberInImageBytes bytes.now block_size) }
+    ensures none { result ≡ None → HasNoWrongNumberInImageBytes bytes.now block_size }
 {
     if block_size == 0 {
         return None;

@@ -10,7 +10,7 @@ returns-then-len-gt-IMAGE_MAX-clause-checked g c =
     let more = c.if-len-gt-IMAGE_MAX.true in
     refused_read (g.R.ImageInput.remaining c.args.image.now) c.args.block_size c.args.page items c.given_sizes_with_block_count_of_image-given.result c.refused_check_result.result c.in_ok-bytes.ensures.bytes (omega (arith, len, more))
     (c.given_sizes_with_block_count_of_image-given.ensures items (omega (arith, again)))
-    (λ bytes long none given. c.refused_check_result.ensures c.args.block_size c.args.page bytes (λ is. absurd (none is)) tt none given)
+    (λ bytes long none given. c.refused_check_result.ensures c.args.block_size c.args.page bytes (λ is. absurd (none is)) (λ short. absurd (omega (arith, long, short))) (λ is. ((λ short. absurd (omega (arith, long, short))), none)) given)
 
 pub returns-clause-checked : goal.returns-clause-checked
 returns-clause-checked g c =

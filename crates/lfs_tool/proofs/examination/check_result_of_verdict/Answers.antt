@@ -1,6 +1,6 @@
 use Rattle.std.proofs.Common.{◌≡◌, Some, subst}
 use Rattle.lfs_tool.specs.declared.verdict.ImageVerdict.TheVariants as verdict
-use Rattle.lfs_tool.specs.CheckResults.{IsVerdictOnBytes}
+use Rattle.lfs_tool.specs.CheckResults.{IsVerdictOnBytes, IsWrongNumberIfAny}
 use Rattle.lfs_tool.proofs.examination.check_result_of_verdict.Goals as goal
 
 pub returns-in-Some-Accepted : goal.returns-in-Some-Accepted
@@ -18,9 +18,9 @@ returns-in-Some-Refused c block_size page image stated judged given =
     let inner = e.field-0-is in
     let is : c.args.verdict ≡ Some (verdict.Refused e.finding) = cc in
     let j = subst (IsVerdictOnBytes block_size page image) is judged in
-    c.refused_check_result.ensures block_size page image (λ image_is order. (j.1 order).0) stated (j.0, λ order. (j.1 order).1) given
+    c.refused_check_result.ensures block_size page image (λ image_is order. (j.1 order).0) stated (λ is. (subst (IsWrongNumberIfAny block_size image) is stated, (j.0, λ order. (j.1 order).1))) given
 
 pub returns-in-None : goal.returns-in-None
 returns-in-None c block_size page image stated judged given =
     let j = subst (IsVerdictOnBytes block_size page image) c.in-None.is judged in
-    c.refused_check_result-in-None.ensures block_size page image (λ image_is order. absurd (j image_is)) stated j given
+    c.refused_check_result-in-None.ensures block_size page image (λ image_is order. absurd (j image_is)) stated (λ is. (subst (IsWrongNumberIfAny block_size image) is stated, j)) given

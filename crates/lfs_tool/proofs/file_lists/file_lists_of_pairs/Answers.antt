@@ -16,7 +16,7 @@ loop-pair-preserved c =
     let at = c.loop-pair.pair-index in
     let rest : List OwnedPair = drop (at + 1) pairs in
     record {
-      thread = c.in_ok-push_file_lists_of_pair.ensures.thread (owned_pairs_view pairs) at (pair_there pairs at c.pair-item.result c.loop-pair-test.true c.pair-item.is) c.global_state_of_pairs-state.ensures c.loop-pair.invariant.thread;
+      thread = c.in_ok-push_file_lists_of_pair.ensures.thread (owned_pairs_view pairs) at c.requires.files (pair_there pairs at c.pair-item.result c.loop-pair-test.true c.pair-item.is) c.global_state_of_pairs-state.ensures c.loop-pair.invariant.thread;
       lists = pair_further (map placed_list_view c.loop-pair.all.items) _ _ (move_view c.global_state_of_pairs-state.result) (owned_pair_view c.pair-item.result) (owned_pairs_view (drop at pairs)) (owned_pairs_view rest)
           (seen_from pairs at (at + 1) c.pair-item.result (omega arith) c.loop-pair-test.true c.pair-item.is) c.in_ok-push_file_lists_of_pair.ensures.lists c.loop-pair.invariant.lists;
     }

@@ -12,7 +12,7 @@ use Rattle.lfs_tool.proofs.PlacedLists.{none_added, one_added}
 use Rattle.lfs_tool.proofs.file_lists.push_file_list_of_slot.Goals as goal
 
 pub returns-in_ok-push-clause-thread : goal.returns-in_ok-push-clause-thread
-returns-in_ok-push-clause-thread c = λ ps index there state before.
+returns-in_ok-push-clause-thread c = λ ps index files there state before.
     let pair = c.args.pair.now in
     let below = c.requires in
     let is : IsUnmovedSlotOfPairInThread ps (pair_address_of_array pair.at) c.args.id (owned_slot_view c.index.result.now) = record {
@@ -25,7 +25,7 @@ returns-in_ok-push-clause-thread c = λ ps index there state before.
       };
       stays = subst (λ g. id_of_moved_slot_in_pair g (owned_pair_view pair) ≢ Some c.args.id) state (c.is_slot_moved.ensures.stays c.if-is_slot_moved.false);
     } in
-    subst (AreFileListsOfThread ps) (sym c.in_ok-push.ensures.items) (All-push (IsFileListOfThread ps) c.args.all.now.items c.in-Some.list before (c.in-Some.ensures.there ps is))
+    subst (AreFileListsOfThread ps) (sym c.in_ok-push.ensures.items) (All-push (IsFileListOfThread ps) c.args.all.now.items c.in-Some.list before (c.in-Some.ensures.there ps files is))
 
 pub returns-in_ok-push-clause-lists : goal.returns-in_ok-push-clause-lists
 returns-in_ok-push-clause-lists c = λ s there.

@@ -16,7 +16,7 @@ loop-id-preserved c =
     let below = c.loop-id-test.true in
     let s = there_is slots c.loop-id.id (omega (arith, below, end, pair.slots.ok.0, length-map pair.slots.items owned_slot_view)) in
     record {
-      thread = λ ps index there state before. c.in_ok-push_file_list_of_slot.ensures.thread ps index there state (c.loop-id.invariant.thread ps index there state before);
+      thread = λ ps index files there state before. c.in_ok-push_file_list_of_slot.ensures.thread ps index files there state (c.loop-id.invariant.thread ps index files there state before);
       lists = slot_further (map placed_list_view c.loop-id.all.items) (map placed_list_view c.push_file_list_of_slot.new.all.items) _ (owned_pair_view pair).at moved slots c.loop-id.id s.0 s.1
           (c.in_ok-push_file_list_of_slot.ensures.lists s.0 s.1) c.loop-id.invariant.lists;
     }

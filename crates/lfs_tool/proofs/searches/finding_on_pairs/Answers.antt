@@ -2,12 +2,14 @@ use Rattle.std.proofs.Common.{◌≡◌, None, Ok, ap, subst}
 use Rattle.std.specs.Prelude.{IfSome}
 use Rattle.lfs_model.specs.Disk.{Disk}
 use Rattle.lfs_tool.specs.BrokenRules.{BreaksRuleOfFinding}
+use Rattle.lfs_tool.specs.KeptRules.{BeginsRootWithSuperblock}
 use Rattle.lfs_tool.specs.OwnedSlotView.{owned_pairs_view}
 use Rattle.lfs_tool.proofs.searches.finding_on_pairs.Goals as goal
 
 pub returns-in-Some-2-clause-found : goal.returns-in-Some-2-clause-found
 returns-in-Some-2-clause-found c disk sizes =
-    subst (λ o. IfSome o (λ f. (disk : Disk) → BreaksRuleOfFinding disk (owned_pairs_view c.args.pairs.now) f)) c.in-Some-2.is c.in_ok-finding.ensures.found disk
+    let chain = c.finding_on_superblock_chain.ensures.none c.in_default.is disk sizes in
+    subst (λ o. IfSome o (λ f. (disk : Disk) → BeginsRootWithSuperblock (owned_pairs_view c.args.pairs.now) → BreaksRuleOfFinding disk (owned_pairs_view c.args.pairs.now) f)) c.in-Some-2.is c.in_ok-finding.ensures.found disk chain.root
 
 pub returns-clause-none : goal.returns-clause-none
 returns-clause-none c none disk sizes =

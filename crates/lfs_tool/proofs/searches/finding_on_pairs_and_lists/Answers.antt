@@ -5,8 +5,16 @@ use Rattle.lfs_model.specs.Disk.{Disk, block_count}
 use Rattle.lfs_tool.specs.Device.{HasSizesOfGeometry}
 use Rattle.lfs_tool.specs.KeptRules.{HasDistinctBlocksInRange, HasListsWithOwnBlocks}
 use Rattle.lfs_tool.specs.OwnedSlotView.{owned_pairs_view}
+use Rattle.lfs_tool.proofs.FileLists.{slots_with_lists_are_files}
 use Rattle.lfs_tool.proofs.Looking.{further, seen}
 use Rattle.lfs_tool.proofs.searches.finding_on_pairs_and_lists.Goals as goal
+
+pub finding_on_lists-requires : goal.finding_on_lists-requires
+finding_on_lists-requires g c =
+    let disk = disk_of_geometry_and_blocks (g.D.BlockDevice.geometry c.args.device.now) (g.D.BlockDevice.blocks c.args.device.now) in
+    let sizes = subst (λ (n : Geometry). HasSizesOfGeometry disk n) (sym c.geometry-geometry.ensures) (record { block_size = refl; count = (g.met.D.BlockDevice.shape c.args.device.now).count }) in
+    let (order, kept) = c.in_ok-finding.ensures.none (ap (λ o. Ok o) c.in_default.is) disk sizes in
+    record { files = slots_with_lists_are_files disk order (owned_pairs_view c.args.pairs.now) kept }
 
 pub returns-clause-none : goal.returns-clause-none
 returns-clause-none g c none =

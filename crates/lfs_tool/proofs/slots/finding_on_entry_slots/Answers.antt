@@ -12,7 +12,7 @@ returns-then-is_some-clause-found c =
     let at = c.loop-index.index in
     let from = c.first_entry_slot_id-from.result in
     some_weaker c.in_ok-found.found _ _
-    (λ f holds disk. holds disk (owned_pairs_view pairs) at (pair_there pairs at c.index-pairs-index.result (omega arith) c.index-pairs-index.is)
+    (λ f holds disk begins. holds disk (owned_pairs_view pairs) at begins (pair_there pairs at c.index-pairs-index.result (omega arith) c.index-pairs-index.is)
     (subst (λ r. (r < at) ⊎ (0 < from)) c.requires c.first_entry_slot_id-from.ensures.behind))
     c.in_ok-found.ensures.found
 

@@ -12,7 +12,7 @@ returns-then-is_some-clause-found c =
     let end = c.len-id-end.ensures in
     let test = c.loop-id-test.true in
     some_weaker c.in_ok-found.found _ _
-    (λ f holds disk ps index there behind. holds disk ps (record {
+    (λ f holds disk ps index begins there behind. holds disk ps begins (record {
       index = index;
       pair = owned_pair_view c.args.pair.now;
       there = there;

@@ -10,7 +10,7 @@ returns-in-Some-clause-found c disk sizes =
     let below = c.requires.below in
     let root = c.requires.root in
     let test = c.loop-index-test.true in
-    c.in-Some.ensures.found disk (owned_pairs_view pairs) c.loop-index.index sizes (pair_there pairs c.loop-index.index c.index-pairs-index.result (omega (arith, below, test)) c.index-pairs-index.is) (omega (arith, root, test))
+    c.in-Some.ensures.found disk (owned_pairs_view pairs) c.loop-index.index sizes c.requires.begins (pair_there pairs c.loop-index.index c.index-pairs-index.result (omega (arith, below, test)) c.index-pairs-index.is) (omega (arith, root, test))
 
 pub loop-index-preserved : goal.loop-index-preserved
 loop-index-preserved c disk sizes =

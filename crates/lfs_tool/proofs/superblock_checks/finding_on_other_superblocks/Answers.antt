@@ -1,4 +1,5 @@
-use Rattle.std.proofs.Common.{arith}
+use Rattle.std.proofs.Common.{ℕ, ◌≡◌, Some, arith, subst}
+use Rattle.std.specs.Prelude.{slice_get}
 use Rattle.lfs_tool.specs.OwnedSlotView.{owned_pair_view, owned_pairs_view}
 use Rattle.lfs_tool.proofs.HeldPlaces.{pair_there}
 use Rattle.lfs_tool.proofs.KeptSuperblocks.{one_more_same}
@@ -10,9 +11,9 @@ returns-in-Some-clause-found c disk =
     let below = c.requires.below in
     let root = c.requires.root in
     let test = c.loop-index-test.true in
-    c.in-Some.ensures.found disk (owned_pairs_view pairs) c.loop-index.index c.args.root
+    c.in-Some.ensures.found disk (owned_pairs_view pairs) c.loop-index.index c.requires.begins
     (pair_there pairs c.loop-index.index c.index-pairs-index.result (omega (arith, below, test)) c.index-pairs-index.is) (omega (arith, root, test))
-    (pair_there pairs c.args.root c.index-pairs-root.result below c.index-pairs-root.is) (omega (arith, root))
+    (subst (λ (i : ℕ). slice_get (owned_pairs_view pairs) i ≡ Some (owned_pair_view c.index-pairs-root.result)) root (pair_there pairs c.args.root c.index-pairs-root.result below c.index-pairs-root.is))
 
 pub loop-index-preserved : goal.loop-index-preserved
 loop-index-preserved c =

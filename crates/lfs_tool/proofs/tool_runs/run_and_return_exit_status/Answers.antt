@@ -10,4 +10,4 @@ pub returns-clause-answered : goal.returns-clause-answered
 returns-clause-answered g c =
     let wrong = rw c.as_slice.ensures.value at c.in-Err-read_line.ensures.err in
     let shown = c.report-in-Err-read_line.ensures in
-    rw c.in-Ok.is (inr (c.in-Err-read_line.error, (wrong, record { status = shown.status; line = shown.line; text = shown.text; help = shown.err }, record { places = refl; out = shown.out; help = shown.help })))
+    rw c.in-Ok.is (inr (c.in-Err-read_line.error, (wrong, shown.shown, record { places = refl; out = shown.out; help = shown.help })))

@@ -9,7 +9,7 @@ returns-in-Err-clause-answered g c =
       c.in-Err.error,
       c.report-status.new.err,
       (
-        record { status = shown.status; line = shown.line; text = shown.text; help = shown.err },
+        shown.shown,
         (
           c.run_mode_of_command_line.new.places,
           (

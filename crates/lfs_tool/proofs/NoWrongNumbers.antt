@@ -1,0 +1,20 @@
+-- Where each superblock of two blocks has right numbers, none is wrong.
+use Rattle.std.proofs.Common.{ℕ, ◌≡◌, ◌/◌, ⊎_elim, List, length, ap, subst, sym, ◌∙◌}
+use Rattle.lfs_model.specs.EntryTypes.{SuperblockFields}
+use Rattle.lfs_tool.specs.KeptSuperblocks.{HasSizesAndVersion}
+use Rattle.lfs_tool.specs.WrongNumbers.{HasNoWrongNumberInImageBytes, IsSuperblockAtOffset, IsWrongSuperblockField}
+use Rattle.lfs_tool.specs.declared.findings.WrongNumber.{WrongNumber}
+use Rattle.lfs_tool.specs.declared.findings.WrongNumber.TheVariants as stated
+
+-- fields with these sizes and version have no wrong number
+pub right_fields : (block_size count : ℕ) (fields : SuperblockFields) (number : WrongNumber) → HasSizesAndVersion block_size count fields → IsWrongSuperblockField block_size count fields number → ⊥
+right_fields block_size count fields (stated.BlockSize n) right (is, other) = other (sym is ∙ right.same_size)
+right_fields block_size count fields (stated.BlockCount n) right (is, other) = other (sym is ∙ right.same_count)
+right_fields block_size count fields (stated.Version n) right (is, other) = other (sym is ∙ right.version)
+
+pub no_wrong_number : (bytes : List ℕ) (block_size : ℕ) → ((fields : SuperblockFields) → IsSuperblockAtOffset bytes 0 fields → HasSizesAndVersion block_size (length bytes / block_size) fields)
+    → ((fields : SuperblockFields) → IsSuperblockAtOffset bytes block_size fields → HasSizesAndVersion block_size (length bytes / block_size) fields) → HasNoWrongNumberInImageBytes bytes block_size
+no_wrong_number bytes block_size first second number wrong = ⊎_elim
+    (λ is. right_fields block_size (length bytes / block_size) wrong.fields number (first wrong.fields (subst (λ (from : ℕ). IsSuperblockAtOffset bytes from wrong.fields) is wrong.stands)) wrong.unlike)
+    (λ is. right_fields block_size (length bytes / block_size) wrong.fields number (second wrong.fields (subst (λ (from : ℕ). IsSuperblockAtOffset bytes from wrong.fields) is wrong.stands)) wrong.unlike)
+    wrong.block

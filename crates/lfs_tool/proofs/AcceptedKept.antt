@@ -1,11 +1,10 @@
 -- An accepted image keeps all rules, in its order of names.
-use Rattle.std.proofs.Common.{AllPairs, Less, ℕ, zero, suc, ◌≡◌, ◌+◌, ◌<◌, ◌≤◌, ◌⊎◌, ◌∙◌, inl, inr, false, true, List, [], ◌∷◌, map, take, drop, option_map, Option, Some, None, refl, sym, ap, subst, arith}
-use Rattle.std.specs.Prelude.{All, Any, nat_eq, slice_get}
+use Rattle.std.proofs.Common.{AllPairs, Less, ℕ, zero, suc, ◌≡◌, ◌+◌, ◌<◌, ◌≤◌, ◌⊎◌, ◌∙◌, inl, inr, false, true, List, [], ◌∷◌, map, take, drop, option_map, Option, Some, None, sym, ap, subst, arith}
+use Rattle.std.specs.Prelude.{All, nat_eq, slice_get}
 use Rattle.std.specs.List.{IsDistinct}
 use Rattle.std.proofs.lemmas.Bool.{cases_lt}
-use Rattle.std.proofs.lemmas.List.{get_or-map, length-map}
 use Rattle.std.proofs.lemmas.List.Elements.{All-head, All-map, All-tail, All-weaker}
-use Rattle.std.proofs.lemmas.Option.{get_or_from_slice_get, same_Some, slice_get-map, slice_get_within}
+use Rattle.std.proofs.lemmas.Option.{same_Some, slice_get-map}
 use Rattle.lfs_device.specs.Shown.{disk_with_name_order}
 use Rattle.lfs_model.specs.Content.{current_block_of_pair_at}
 use Rattle.lfs_model.specs.Disk.{Disk, block_count}

@@ -14,15 +14,16 @@ use Rattle.lfs_model.proofs.Searches.{same_number}
 use Rattle.lfs_tool.specs.BrokenDirectories.{AreEntriesThatLeadToOneDirectory, IsEntryThatLeadsToNoDirectory, IsEntryThatLeadsToRoot, IsPathByEntryAtPlace}
 use Rattle.lfs_tool.specs.EntryPlaces.{IsNamedSlotAtPlace, IsPlaceOfNamedSlot, slot_at_place}
 use Rattle.lfs_tool.specs.ReachedDirectories.{IsPathOfEntry, IsPathOfEntryOrRoot, IsReachedDirectory, LeadsEntryTo, LeadsEntryToSameDirectory}
-use Rattle.lfs_tool.specs.SlotsInThread.{IsSlotOfPairInThread}
 use Rattle.lfs_tool.specs.declared.findings.NamedSlot.{NamedSlot}
 use Rattle.lfs_tool.specs.declared.reached_directories.DirectoryEntry.{DirectoryEntry}
 use Rattle.lfs_tool.specs.declared.reached_directories.ReachedDirectory.{ReachedDirectory}
+use Rattle.lfs_tool.proofs.PlacedEntries.{slot_in_directory}
 
 -- ---- the entry at a place
 
-by_entry : (ps : List Pair) (path : Path) (entry : DirectoryEntry) (to : ℕ × ℕ) (named : NamedSlot) → IsPathOfEntry ps path entry → IsPathToDirectory ps path to → IsNamedSlotAtPlace ps entry.place named → IsPathByEntryAtPlace ps path named to
-by_entry ps path entry to named by leads n =
+by_entry : (ps : List Pair) (path : Path) (entry : DirectoryEntry) (to : ℕ × ℕ) (named : NamedSlot) → IsPathOfEntry ps path entry → IsPathToDirectory ps path to → IsNamedSlotAtPlace ps entry.place named → IsPlaceOfNamedSlot ps entry.place named →
+    IsPathByEntryAtPlace ps path named to
+by_entry ps path entry to named by leads n place =
     let same : n.0 ≡ by.slot = same_Some n.0 by.slot (sym n.1.0 ∙ by.there) in
     record {
       before = by.before;
@@ -30,26 +31,26 @@ by_entry ps path entry to named by leads n =
       slot = by.slot;
       reached = by.reached;
       entry = by.first;
-      there = subst (λ (s : Slot). IsSlotOfPairInThread ps (pair_address_of_array named.pair) named.slot s) same n.1.1.0;
+      there = slot_in_directory ps entry.place named (pair_address_of_array entry.parent) by.slot place by.there by.own;
       named = n.1.1.1 ∙ ap (λ (s : Slot). s.name) same;
       path_is = by.path_is;
       leads = leads;
     }
 
-pub leads_nowhere : (ps : List Pair) (entry : DirectoryEntry) (to : ℕ × ℕ) (named : NamedSlot) → LeadsEntryTo ps entry to → IsNamedSlotAtPlace ps entry.place named → ¬ IsAddressOfDirectoryFirstPair (directories_in_thread ps) to →
+pub leads_nowhere : (ps : List Pair) (entry : DirectoryEntry) (to : ℕ × ℕ) (named : NamedSlot) → LeadsEntryTo ps entry to → IsNamedSlotAtPlace ps entry.place named → IsPlaceOfNamedSlot ps entry.place named → ¬ IsAddressOfDirectoryFirstPair (directories_in_thread ps) to →
     IsEntryThatLeadsToNoDirectory ps named to
-leads_nowhere ps entry to named leads n none = (leads.0, (by_entry ps leads.0 entry to named leads.1.0 leads.1.1 n, none))
+leads_nowhere ps entry to named leads n place none = (leads.0, (by_entry ps leads.0 entry to named leads.1.0 leads.1.1 n place, none))
 
 -- ---- where a directory was reached before
 
 -- one without an entry is the root
 pub leads_to_root : (ps : List Pair) (entry : DirectoryEntry) (d : ReachedDirectory) (named : NamedSlot) → IsReachedDirectory ps d → d.entry ≡ None → LeadsEntryToSameDirectory ps entry (pair_address_of_array d.at) → IsNamedSlotAtPlace ps entry.place named →
-    IsEntryThatLeadsToRoot ps named
-leads_to_root ps entry d named r none leads n =
+    IsPlaceOfNamedSlot ps entry.place named → IsEntryThatLeadsToRoot ps named
+leads_to_root ps entry d named r none leads n place =
     let empty : r.path ≡ [] = subst (IsPathOfEntryOrRoot ps r.path) none r.by in
     let is : root_directory_address_of_pairs ps ≡ pair_address_of_array d.at = same_Some (root_directory_address_of_pairs ps) (pair_address_of_array d.at) (subst (λ (p : Path). IsPathToDirectory ps p (pair_address_of_array d.at)) empty r.reached) in
     let way = leads.1.0 in
-    (way.0, leads.0, (by_entry ps way.0 entry leads.0 named way.1.0 way.1.1 n, subst (λ (a : ℕ × ℕ). same_pair a leads.0 ≡ true) (sym is) leads.1.1))
+    (way.0, leads.0, (by_entry ps way.0 entry leads.0 named way.1.0 way.1.1 n place, subst (λ (a : ℕ × ℕ). same_pair a leads.0 ≡ true) (sym is) leads.1.1))
 
 -- lists with one more element each
 last_same : {X : Type 0} (xs ys : List X) (x y : X) → xs ++ x ∷ [] ≡ ys ++ y ∷ [] → (xs ≡ ys) × (x ≡ y)
@@ -106,18 +107,19 @@ places_apart ps entry other named other_named distinct n m parents differ same s
 
 pub lead_to_same : (ps : List Pair) (entry other : DirectoryEntry) (d : ReachedDirectory) (named other_named : NamedSlot) → IsReachedDirectory ps d → d.entry ≡ Some other → LeadsEntryToSameDirectory ps entry (pair_address_of_array d.at)
     → ((pair_address_of_array entry.parent ≢ pair_address_of_array other.parent) ⊎ (option_map (λ s. s.name) (slot_at_place ps entry.place) ≢ option_map (λ s. s.name) (slot_at_place ps other.place)))
-    → IsNamedSlotAtPlace ps entry.place named → IsNamedSlotAtPlace ps other.place other_named → (pair_address_of_array named.pair ≡ pair_address_of_array other_named.pair → named.slot ≢ other_named.slot) →
+    → IsNamedSlotAtPlace ps entry.place named → IsNamedSlotAtPlace ps other.place other_named → IsPlaceOfNamedSlot ps entry.place named → IsPlaceOfNamedSlot ps other.place other_named
+    → (pair_address_of_array named.pair ≡ pair_address_of_array other_named.pair → named.slot ≢ other_named.slot) →
     AreEntriesThatLeadToOneDirectory ps named other_named
-lead_to_same ps entry other d named other_named r some leads differ n m apart =
+lead_to_same ps entry other d named other_named r some leads differ n m place other_place apart =
     let before : IsPathOfEntry ps r.path other = subst (IsPathOfEntryOrRoot ps r.path) some r.by in
     let way = leads.1.0 in
     record {
       path = way.0;
       to = leads.0;
-      by = by_entry ps way.0 entry leads.0 named way.1.0 way.1.1 n;
+      by = by_entry ps way.0 entry leads.0 named way.1.0 way.1.1 n place;
       other_path = r.path;
       other_to = pair_address_of_array d.at;
-      other_by = by_entry ps r.path other (pair_address_of_array d.at) other_named before r.reached m;
+      other_by = by_entry ps r.path other (pair_address_of_array d.at) other_named before r.reached m other_place;
       same = leads.1.1;
       differ = paths_differ ps way.0 r.path entry other way.1.0 before differ;
       apart = apart;

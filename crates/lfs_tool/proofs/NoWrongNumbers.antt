@@ -1,5 +1,5 @@
 -- Where each superblock of two blocks has right numbers, none is wrong.
-use Rattle.std.proofs.Common.{ℕ, ◌≡◌, ◌/◌, ⊎_elim, List, length, ap, subst, sym, ◌∙◌}
+use Rattle.std.proofs.Common.{ℕ, ◌/◌, ⊎_elim, List, length, subst, sym, ◌∙◌}
 use Rattle.lfs_model.specs.EntryTypes.{SuperblockFields}
 use Rattle.lfs_tool.specs.KeptSuperblocks.{HasSizesAndVersion}
 use Rattle.lfs_tool.specs.WrongNumbers.{HasNoWrongNumberInImageBytes, IsSuperblockAtOffset, IsWrongSuperblockField}

@@ -10,7 +10,7 @@ use Rattle.std.proofs.lemmas.Option.{same_Some, slice_get_within}
 use Rattle.lfs_model.specs.Slots.{Gstate, Slot, is_superblock, pair_address_of_array, same_pair}
 use Rattle.lfs_model.specs.Thread.{Pair, entries_not_moved, gstate_of_pairs, id_of_moved_slot_in_pair, is_hard_tail}
 use Rattle.lfs_lookup.specs.Listed.{hard_tail_joined_pairs}
-use Rattle.lfs_tool.specs.EntryPlaces.{ArePlacesJoinedByHardTails, ArePlacesOfEntries, IsPairJoinedByHardTails, entries_from_pair, entry_slots_from, is_unmoved_entry_slot, slot_at_place, slots_at_places}
+use Rattle.lfs_tool.specs.EntryPlaces.{ArePlacesJoinedByHardTails, ArePlacesOfEntries, IsPairJoinedByHardTails, IsPairOfDirectory, IsPlaceOfNamedSlot, IsSlotOfPairInDirectory, entries_from_pair, entry_slots_from, is_unmoved_entry_slot, slot_at_place, slots_at_places}
 use Rattle.lfs_tool.specs.OwnedSlotView.{owned_pair_view, owned_pairs_view}
 use Rattle.lfs_tool.specs.SlotsInThread.{IsSlotOfPairInThread}
 use Rattle.lfs_tool.specs.declared.findings.NamedSlot.{NamedSlot}
@@ -202,6 +202,20 @@ is_in_thread pairs w p s place h at is same_pair same_slot =
       at_is = ap pair_address_of_array (sym same_pair);
       slot = ap (λ (i : ℕ). slice_get (owned_pair_view p).content.slots i) same_slot ∙ sym (at_place_of_pair (owned_pairs_view pairs) (owned_pair_view p) w there) ∙ is;
     }
+
+-- a named slot is in the directory whose pair its place is in
+pub slot_in_directory : (ps : List Pair) (w : EntryPlace) (named : NamedSlot) (at : ℕ × ℕ) (s : Slot) → IsPlaceOfNamedSlot ps w named → slot_at_place ps w ≡ Some s → IsPairOfDirectory ps at w.pair →
+    IsSlotOfPairInDirectory ps at (pair_address_of_array named.pair) named.slot s
+slot_in_directory ps w named at s n is own = record {
+  is = record {
+    index = w.pair;
+    pair = n.0;
+    there = n.1.0;
+    at_is = n.1.1;
+    slot = ap (λ (i : ℕ). slice_get n.0.content.slots i) n.1.2 ∙ sym (at_place_of_pair ps n.0 w n.1.0) ∙ is;
+  };
+  own = own;
+}
 
 -- ---- the entries at places
 

@@ -1,10 +1,9 @@
 -- What of an image isn't in the writing profile, from its pairs without attributes.
-use Rattle.std.proofs.Common.{ℕ, zero, suc, ◌≡◌, ◌+◌, ◌<◌, ◌≤◌, ◌∙◌, ◌⊎◌, inl, inr, Bool, false, List, [], ◌∷◌, length, map, take, drop, Some, refl, sym, ap, subst, arith}
+use Rattle.std.proofs.Common.{ℕ, ◌≡◌, ◌+◌, ◌<◌, ◌≤◌, ◌∙◌, ◌⊎◌, inl, inr, Bool, false, List, [], ◌∷◌, length, map, take, drop, Some, refl, sym, ap, subst, arith}
 use Rattle.std.specs.Prelude.{All, slice_get, slice_index_or}
 use Rattle.std.proofs.lemmas.Bool.{cases_lt}
 use Rattle.std.proofs.lemmas.List.{drop-map, drop_all, take-append-drop}
 use Rattle.std.proofs.lemmas.List.Elements.{All-append, All-cons, All-nil, All-weaker}
-use Rattle.std.proofs.lemmas.Option.{get_or_from_slice_get, same_Some, slice_get_within}
 use Rattle.lfs_model.specs.Disk.{Disk, inline_limit}
 use Rattle.lfs_model.specs.Profile.{AreNoEmptyPairsAfterHardTails, IsWritableImage}
 use Rattle.lfs_model.specs.Slots.{Slot}

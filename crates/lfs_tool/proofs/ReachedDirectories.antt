@@ -14,7 +14,7 @@ use Rattle.lfs_model.proofs.Pairs.{pair_itself}
 use Rattle.lfs_model.proofs.Sites.{IsTrueOfSomeElement, among_from, any_from}
 use Rattle.lfs_model.proofs.Walks.{leads_below}
 use Rattle.lfs_lookup.specs.Listed.{hard_tail_joined_pairs}
-use Rattle.lfs_tool.specs.EntryPlaces.{AreEntryPlacesOfReachedDirectory, AreNeighboursInReachedDirectory, ArePlacesOfEntries, entries_from_pair, slot_at_place}
+use Rattle.lfs_tool.specs.EntryPlaces.{AreEntryPlacesOfReachedDirectory, AreNeighboursInReachedDirectory, ArePlacesJoinedByHardTails, ArePlacesOfEntries, IsPairOfDirectory, entries_from_pair, slot_at_place}
 use Rattle.lfs_tool.specs.KeptRules.{BeginsDirectoryWithPair, IsFirstPairOfDirectory}
 use Rattle.lfs_tool.specs.ReachedDirectories.{AreReachedDirectories, IsReachedDirectory, LeadsEntryTo}
 use Rattle.lfs_tool.specs.declared.entry_places.EntryPlace.{EntryPlace}
@@ -116,18 +116,19 @@ neighbours_reached ps places i d r some within =
       index = i - 1;
       first = entry_at ps places entries (i - 1) d r.are (omega arith);
       next = subst (λ (k : ℕ). slice_get entries k ≡ slot_at_place ps (get_or places i d)) on (entry_at ps places entries i d r.are within);
+      own = record { first = r.first; begins = r.begins; joined = r.joined i d within };
     }
 
 -- ---- other directories
 
 -- the first entry of its name leads on
 pub entry_leads : (ps : List Pair) (parent : List ℕ) (place : EntryPlace) (path : Path) (s : Slot) (to : ℕ × ℕ) → IsPathToDirectory ps path (pair_address_of_array parent)
-    → entry_of_name s.name (entries_by_directory_in_thread ps (pair_address_of_array parent)) ≡ Some s → slot_at_place ps place ≡ Some s → branch_address_of_struct s.struct ≡ Some to
+    → entry_of_name s.name (entries_by_directory_in_thread ps (pair_address_of_array parent)) ≡ Some s → slot_at_place ps place ≡ Some s → branch_address_of_struct s.struct ≡ Some to → IsPairOfDirectory ps (pair_address_of_array parent) place.pair
     → LeadsEntryTo ps (record { parent = parent; place = place }) to
-entry_leads ps parent place path s to reached first there branch = (
+entry_leads ps parent place path s to reached first there branch own = (
   path ++ s.name ∷ [],
   (
-    record { before = path; slot = s; reached = reached; first = first; there = there; path_is = refl },
+    record { before = path; slot = s; reached = reached; first = first; there = there; own = own; path_is = refl },
     leads_below (entries_by_directory_in_thread ps) (root_slot (root_directory_address_of_pairs ps)) path (pair_address_of_array parent) reached s.name []
         ∙ ap (option_and_then (λ u. directory_address_at_path_from_slot (entries_by_directory_in_thread ps) u [])) first ∙ branch,
   ),
@@ -293,10 +294,14 @@ pub name_goes_on : (name : Name) (entries : List Slot) (i : ℕ) (s : Slot) → 
 name_goes_on name entries i s there other = ap (entry_of_name name) (from_there entries i s there) ∙ ap (λ b. cond b (Some s) (entry_of_name name (drop (i + 1) entries))) other
 
 -- the places of the entries of a directory that is reached
-pub places_reached : (ps : List Pair) (d : ReachedDirectory) (places : List EntryPlace) → IsReachedDirectory ps d → ArePlacesOfEntries ps places (entries_from_pair ps d.first) → AreEntryPlacesOfReachedDirectory ps places
-places_reached ps d places r are = record {
+pub places_reached : (ps : List Pair) (d : ReachedDirectory) (places : List EntryPlace) → IsReachedDirectory ps d → ArePlacesOfEntries ps places (entries_from_pair ps d.first) → ArePlacesJoinedByHardTails ps d.first places →
+    AreEntryPlacesOfReachedDirectory ps places
+places_reached ps d places r are joined = record {
   path = r.path;
   at = pair_address_of_array d.at;
   reached = r.reached;
   are = subst (ArePlacesOfEntries ps places) (sym r.entries) are;
+  first = d.first;
+  begins = r.begins;
+  joined = joined;
 }

@@ -4,17 +4,17 @@ use Rattle.lfs_model.specs.Shown.{IsDirectoryAddressReachedBySomePath, IsPathToD
 use Rattle.lfs_model.specs.Slots.{Slot, pair_address_of_array, same_pair}
 use Rattle.lfs_model.specs.Thread.{IsAddressOfDirectoryFirstPair, Pair, ThreadDirectory, gstate_of_pairs, root_directory_address_of_pairs}
 use Rattle.lfs_model.specs.Tree.{Path, entry_of_name}
-use Rattle.lfs_tool.specs.SlotsInThread.{IsSlotOfPairInThread}
+use Rattle.lfs_tool.specs.EntryPlaces.{IsSlotOfPairInDirectory}
 use Rattle.lfs_tool.specs.declared.findings.NamedSlot.{NamedSlot}
 
--- the path leads to that address, and its last name is that of the entry at the place
+-- the path leads to that address, and its last name is that of the entry at the place, in a pair of the entry's directory
 pub record IsPathByEntryAtPlace (ps : List Pair) (path : Path) (place : NamedSlot) (to : ℕ × ℕ) : Type 0 where
   pub before : Path
   pub at : ℕ × ℕ
   pub slot : Slot
   pub reached : IsPathToDirectory ps before at
   pub entry : entry_of_name slot.name (entries_by_directory_in_thread ps at) ≡ Some slot
-  pub there : IsSlotOfPairInThread ps (pair_address_of_array place.pair) place.slot slot
+  pub there : IsSlotOfPairInDirectory ps at (pair_address_of_array place.pair) place.slot slot
   pub named : place.name.items ≡ slot.name
   pub path_is : path ≡ before ++ slot.name ∷ []
   pub leads : IsPathToDirectory ps path to

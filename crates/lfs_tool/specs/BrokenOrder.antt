@@ -8,8 +8,7 @@ use Rattle.lfs_model.specs.Thread.{Pair}
 use Rattle.lfs_model.specs.Tree.{Path}
 use Rattle.lfs_model.specs.declared.order.NameOrder.{NameOrder}
 use Rattle.lfs_model.specs.declared.order.NameOrder.TheVariants.{LongerFirst, ShorterFirst}
-use Rattle.lfs_tool.specs.EntryPlaces.{name_at_place}
-use Rattle.lfs_tool.specs.SlotsInThread.{IsSlotOfPairInThread}
+use Rattle.lfs_tool.specs.EntryPlaces.{IsSlotOfPairInDirectory, name_at_place}
 use Rattle.lfs_tool.specs.declared.entry_places.EntryPlace.{EntryPlace}
 use Rattle.lfs_tool.specs.declared.findings.NameBehindName.{NameBehindName}
 
@@ -25,8 +24,8 @@ AreNamesInNoOrder earlier later = (order : NameOrder) → AreNamesNotInOrder ord
 abbrev pub AreNamesAtPlaces : List Pair → EntryPlace → EntryPlace → Name → Name → Type 0
 AreNamesAtPlaces ps earlier later before name = (before ≡ name_at_place ps earlier) × (name ≡ name_at_place ps later)
 
--- Two neighbours in a directory to which a path leads, and P holds of their names. The later one is at the place, and the name before
--- it is the earlier one's.
+-- Two neighbours in a directory to which a path leads, and P holds of their names. The later one is at the place, in a pair of that
+-- directory, and the name before it is the earlier one's.
 pub record IsNameBehindNameInDirectory (P : Name → Name → Type 0) (ps : List Pair) (name : NameBehindName) : Type 0 where
   pub path : Path
   pub at : ℕ × ℕ
@@ -36,7 +35,7 @@ pub record IsNameBehindNameInDirectory (P : Name → Name → Type 0) (ps : List
   pub later : Slot
   pub first : slice_get (entries_by_directory_in_thread ps at) index ≡ Some earlier
   pub next : slice_get (entries_by_directory_in_thread ps at) (index + 1) ≡ Some later
-  pub there : IsSlotOfPairInThread ps (pair_address_of_array name.place.pair) name.place.slot later
+  pub there : IsSlotOfPairInDirectory ps at (pair_address_of_array name.place.pair) name.place.slot later
   pub named : name.place.name.items ≡ later.name
   pub earlier_is : name.before.items ≡ earlier.name
   pub holds : P earlier.name later.name

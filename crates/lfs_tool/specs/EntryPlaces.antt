@@ -8,6 +8,7 @@ use Rattle.lfs_model.specs.Slots.{Slot, is_superblock, pair_address_of_array}
 use Rattle.lfs_model.specs.Thread.{Pair, gstate_of_pairs, entries_not_moved, is_hard_tail}
 use Rattle.lfs_model.specs.Tree.{Path}
 use Rattle.lfs_lookup.specs.Listed.{hard_tail_joined_pairs}
+use Rattle.lfs_tool.specs.KeptRules.{IsFirstPairOfDirectory}
 use Rattle.lfs_tool.specs.SlotsInThread.{IsSlotOfPairInThread}
 use Rattle.lfs_tool.specs.declared.entry_places.EntryPlace.{EntryPlace}
 use Rattle.lfs_tool.specs.declared.findings.NamedSlot.{NamedSlot}
@@ -63,7 +64,18 @@ pub record IsPairJoinedByHardTails (ps : List Pair) (first index : ℕ) : Type 0
   pub from : first ≤ index
   pub hard : (i : ℕ) (p : Pair) → first ≤ i → i < index → slice_get ps i ≡ Some p → is_hard_tail p.content.tail ≡ true
 
--- the places are in such pairs
+-- the pair of that number is one of those of the directory at an address
+pub record IsPairOfDirectory (ps : List Pair) (at : ℕ × ℕ) (index : ℕ) : Type 0 where
+  pub first : ℕ
+  pub begins : IsFirstPairOfDirectory ps first at
+  pub joined : IsPairJoinedByHardTails ps first index
+
+-- the slot of that number in a pair of the directory at an address
+pub record IsSlotOfPairInDirectory (ps : List Pair) (directory at : ℕ × ℕ) (id : ℕ) (s : Slot) : Type 0 where
+  pub is : IsSlotOfPairInThread ps at id s
+  pub own : IsPairOfDirectory ps directory is.index
+
+-- the places are in pairs that hard tails join to the one of number `first`
 abbrev pub ArePlacesJoinedByHardTails : List Pair → ℕ → List EntryPlace → Type 0
 ArePlacesJoinedByHardTails ps first places = All (λ place. IsPairJoinedByHardTails ps first place.pair) places
 
@@ -75,8 +87,11 @@ pub record AreEntryPlacesOfReachedDirectory (ps : List Pair) (places : List Entr
   pub at : ℕ × ℕ
   pub reached : IsPathToDirectory ps path at
   pub are : ArePlacesOfEntries ps places (entries_by_directory_in_thread ps at)
+  pub first : ℕ
+  pub begins : IsFirstPairOfDirectory ps first at
+  pub joined : ArePlacesJoinedByHardTails ps first places
 
--- such a directory has an entry at the one place, and the next at the other
+-- such a directory has an entry at the one place, and the next at the other, in one of its pairs
 pub record AreNeighboursInReachedDirectory (ps : List Pair) (earlier later : EntryPlace) : Type 0 where
   pub path : Path
   pub at : ℕ × ℕ
@@ -84,3 +99,4 @@ pub record AreNeighboursInReachedDirectory (ps : List Pair) (earlier later : Ent
   pub index : ℕ
   pub first : slice_get (entries_by_directory_in_thread ps at) index ≡ slot_at_place ps earlier
   pub next : slice_get (entries_by_directory_in_thread ps at) (index + 1) ≡ slot_at_place ps later
+  pub own : IsPairOfDirectory ps at later.pair

@@ -6,7 +6,7 @@ use Rattle.lfs_model.specs.Shown.{IsPathToDirectory, entries_by_directory_in_thr
 use Rattle.lfs_model.specs.Slots.{Slot, pair_address_of_array, same_pair}
 use Rattle.lfs_model.specs.Thread.{Pair, root_directory_address_of_pairs}
 use Rattle.lfs_model.specs.Tree.{Path, branch_address_of_struct, entry_of_name}
-use Rattle.lfs_tool.specs.EntryPlaces.{IsPairJoinedByHardTails, entries_from_pair, name_at_place, slot_at_place}
+use Rattle.lfs_tool.specs.EntryPlaces.{IsPairJoinedByHardTails, IsPairOfDirectory, entries_from_pair, name_at_place, slot_at_place}
 use Rattle.lfs_tool.specs.KeptRules.{AreNeighboursInSomeOrder, IsFirstPairOfDirectory}
 use Rattle.lfs_tool.specs.declared.reached_directories.DirectoryEntry.{DirectoryEntry}
 use Rattle.lfs_tool.specs.declared.reached_directories.ReachedDirectory.{ReachedDirectory}
@@ -20,6 +20,7 @@ pub record IsPathOfEntry (ps : List Pair) (path : Path) (entry : DirectoryEntry)
   pub reached : IsPathToDirectory ps before (pair_address_of_array entry.parent)
   pub first : entry_of_name slot.name (entries_by_directory_in_thread ps (pair_address_of_array entry.parent)) ≡ Some slot
   pub there : slot_at_place ps entry.place ≡ Some slot
+  pub own : IsPairOfDirectory ps (pair_address_of_array entry.parent) entry.place.pair
   pub path_is : path ≡ before ++ slot.name ∷ []
 
 -- the entry's path leads to that address

@@ -19,6 +19,7 @@ finding_on_branch-requires-clause-entry c =
     let r = reached_there ps c.args.reached.now.all.items c.requires.directory.0 d c.requires.before.reached c.requires.directory.1 in
     entry_leads ps d.at c.in-Some.place r.path s (pair_address_of_array c.in-Some-branch_of_slot.to) r.reached
     (own_name (owned_slot_view c.args.slot.now).name entries s named) c.slot_at_place.ensures (sym c.in-Some-branch_of_slot.ensures)
+    (record { first = d.first; begins = r.begins; joined = All-contains (λ (w : EntryPlace). IsPairJoinedByHardTails ps d.first w.pair) c.args.places.now c.in-Some.place c.requires.joined c.in-Some.ensures.among })
 
 pub finding_on_branch-requires-clause-among : goal.finding_on_branch-requires-clause-among
 finding_on_branch-requires-clause-among c = record {

@@ -18,7 +18,7 @@ finding_on_name_order-requires c =
     let d = c.index-directory.result.now in
     let there : slice_get ds c.args.next ≡ Some d = slice_get_read ds (length ds) c.args.next d refl c.requires.below c.index-directory.ensures in
     let r = reached_there ps ds c.args.next d c.requires.before.reached.reached there in
-    subst (λ (xs : List EntryPlace). AreEntryPlacesOfReachedDirectory ps xs) (sym c.deref.ensures.value) (places_reached ps d c.in_ok-places.places.items r c.in_ok-places.ensures.are)
+    subst (λ (xs : List EntryPlace). AreEntryPlacesOfReachedDirectory ps xs) (sym c.deref.ensures.value) (places_reached ps d c.in_ok-places.places.items r c.in_ok-places.ensures.are c.in_ok-places.ensures.joined)
 
 pub finding_on_branches-requires-clause-directory : goal.finding_on_branches-requires-clause-directory
 finding_on_branches-requires-clause-directory c =

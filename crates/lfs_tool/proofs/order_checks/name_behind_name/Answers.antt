@@ -3,7 +3,8 @@ use Rattle.std.specs.Prelude.{Option}
 use Rattle.std.specs.Option.{option_map_or}
 use Rattle.lfs_model.specs.Names.{Name}
 use Rattle.lfs_model.specs.Slots.{Slot}
-use Rattle.lfs_tool.specs.OwnedSlotView.{owned_slot_view}
+use Rattle.lfs_tool.specs.OwnedSlotView.{owned_pairs_view, owned_slot_view}
+use Rattle.lfs_tool.proofs.PlacedEntries.{slot_in_directory}
 use Rattle.lfs_tool.proofs.order_checks.name_behind_name.Goals as goal
 
 -- the name at a place
@@ -23,7 +24,7 @@ returns c =
       later = place.0;
       first = n.first ∙ c.slot_at_place.ensures;
       next = n.next ∙ place.1.0;
-      there = place.1.1.0;
+      there = slot_in_directory (owned_pairs_view c.args.pairs.now) c.args.later c.in_ok-place.place n.at place.0 c.in_ok-place.ensures.pair place.1.0 n.own;
       named = place.1.1.1;
       earlier_is = c.in_ok-before.ensures.items ∙ c.deref.ensures.value;
       holds = (sym (ap name_of c.slot_at_place.ensures), sym (ap name_of place.1.0));

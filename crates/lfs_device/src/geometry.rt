@@ -1,10 +1,10 @@
 ghost use Rattle.std.specs.Prelude.{◌≡◌, MatchResult};
-ghost use Rattle.lfs_model.specs.Disk.{pair_capacity, charged_entry_size_limit_in_pair, inline_limit, slots_per_pair_limit};
+ghost use Rattle.lfs_model.specs.Disk.{pair_capacity, attr_max_of, charged_entry_size_limit_in_pair, default_profile, file_max_of, inline_limit, longest_struct, name_max_of, slots_per_pair_limit};
 ghost use Rattle.lfs_model.specs.Geometry.{IsValidGeometry};
 ghost use Rattle.lfs_model.specs.declared.order.NameOrder.TheVariants.{LongerFirst};
 
 use crate::Error;
-use lfs_model::NameOrder;
+use lfs_model::{NameOrder, Profile};
 
 /// How a device is divided: into blocks, which are erased whole, and pages, which are programmed
 /// whole. Sizes are in bytes.
@@ -20,17 +20,19 @@ pub struct Geometry {
     /// The order of the names in the device's directories. A session uses the order of its image in
     /// place of it.
     pub order: NameOrder,
+    /// What a mount of the device accepts, and what is written there.
+    pub profile: Profile,
     pub ghost valid: { IsValidGeometry block_size page block_count },
 }
 
 impl Geometry {
-    /// Makes a geometry of these sizes in bytes, with the longer names first. The call takes no
-    /// memory.
+    /// Makes a geometry of these sizes in bytes, with the longer names first and the
+    /// profile of `Profile::new`. The call takes no memory.
     ///
     /// Errors: `Invalid` exactly where the sizes are outside the limits.
     pub fn new(block_size: u32, page: u32, block_count: u32) -> Result<Geometry, Error>
         ensures { MatchResult result
-            (λ g. (g.block_size ≡ block_size) × (g.page ≡ page) × (g.block_count ≡ block_count) × (g.order ≡ LongerFirst))
+            (λ g. (g.block_size ≡ block_size) × (g.page ≡ page) × (g.block_count ≡ block_count) × (g.order ≡ LongerFirst) × (g.profile ≡ default_profile))
             (λ e. (e ≡ Error.Invalid) × (¬ IsValidGeometry block_size page block_count)) }
     {
         if !matches!(page, 8 | 16 | 32 | 64 | 128 | 256 | 512) {
@@ -54,6 +56,7 @@ impl Geometry {
             page,
             block_count,
             order: NameOrder::LongerFirst,
+            profile: Profile::new(),
         })
     }
 
@@ -66,6 +69,20 @@ impl Geometry {
             page: self.page,
             block_count: self.block_count,
             order,
+            profile: self.profile,
+        }
+    }
+
+    /// Returns the same geometry with that profile.
+    pub fn with_profile(self, profile: Profile) -> Geometry
+        ensures { result ≡ record self { profile = profile } }
+    {
+        Geometry {
+            block_size: self.block_size,
+            page: self.page,
+            block_count: self.block_count,
+            order: self.order,
+            profile,
         }
     }
 
@@ -87,11 +104,40 @@ impl Geometry {
     }
 
     /// Returns the size in bytes of the largest file that is kept inline: an eighth of a block, and
-    /// at most 1,022.
+    /// at most 1,022 and the profile's.
     pub fn inline_limit(self) -> u32
-        ensures { result ≡ inline_limit self.block_size }
+        ensures { result ≡ inline_limit self.profile self.block_size }
     {
-        (self.block_size / 8).min(1022)
+        self.profile.inline_max.min((self.block_size / 8).min(1022))
+    }
+
+    /// Returns the size in bytes of the longest struct of an entry: inline contents, or 8 bytes for
+    /// a list or a directory.
+    pub fn struct_limit(self) -> u32
+        ensures { result ≡ longest_struct self.profile self.block_size }
+    {
+        self.inline_limit().max(8)
+    }
+
+    /// Returns the longest name that is written, in bytes: at most 255.
+    pub fn name_max(self) -> u32
+        ensures { result ≡ name_max_of self.profile }
+    {
+        self.profile.name_max.min(255)
+    }
+
+    /// Returns the longest file that is written, in bytes: at most 2,147,483,647.
+    pub fn file_max(self) -> u32
+        ensures { result ≡ file_max_of self.profile }
+    {
+        self.profile.file_max.min(2_147_483_647)
+    }
+
+    /// Returns the longest attribute that is written, in bytes: at most 1,022.
+    pub fn attr_max(self) -> u32
+        ensures { result ≡ attr_max_of self.profile }
+    {
+        self.profile.attr_max.min(1022)
     }
 
     /// Returns how many slots a written metadata pair may have.

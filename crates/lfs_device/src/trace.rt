@@ -14,6 +14,8 @@ pub struct Trace {
     pub ghost events: { List DeviceCallEvent },
 }
 
+unsafe impl Send for Trace {}
+
 impl Model for Trace {
     ghost also_owns = { λ _. ftrue };
 }

@@ -52,7 +52,7 @@ asked_later old new asked = asked.same ∙ ap (λ history. record old { history 
 pub is_over : (t : TreeState) (files : OpenFilesByNumber) → IsSoundTreeState t → IsOver t.disk t.pairs (record { tree = tree_view t; files = files }) (disk_summary_of_tree t)
 is_over t files sound = record {
   accepted = sound.accepted;
-  surrounds = record { block_size = refl; page = refl; block_count = refl; used = refl; gstate = refl; writable = (sound.fits, sound.is_kept) };
+  surrounds = record { profile = refl; block_size = refl; page = refl; block_count = refl; used = refl; gstate = refl; writable = (sound.fits, sound.is_kept) };
   tree = refl;
 }
 

@@ -92,8 +92,8 @@ begun_anew t path size flags c can truncates some over none shape = record {
     size = ap (λ xs. length xs) none;
     changed = record {
       over = over;
-      kept = subst (λ f. IsStorageFormOfWriterContents t.disk.block_size f (made (bytes_of_writer_contents (kept_thread_of_tree_state t) c) true)) (sym shape) kept;
-      form = subst (IsInMemoryExactlyUpToInlineLimit (inline_limit t.disk.block_size)) (sym shape) (omega arith);
+      kept = subst (λ f. IsStorageFormOfWriterContents t.disk.profile t.disk.block_size f (made (bytes_of_writer_contents (kept_thread_of_tree_state t) c) true)) (sym shape) kept;
+      form = subst (IsInMemoryExactlyUpToInlineLimit (inline_limit t.disk.profile t.disk.block_size)) (sym shape) (omega arith);
       room = subst (λ n. length (disk_summary_of_tree t).used + n ≤ block_count t.disk) (sym two) (can.room truncates some);
     };
   };
@@ -105,14 +105,14 @@ begun_anew t path size flags c can truncates some over none shape = record {
     made : List ℕ → Bool → session.FileWriter
     made xs dirty = record { path = path; contents = xs; position = 0; append = flags.append; dirty = dirty; turned = false; last_end = None }
 
-    small : 0 ≤ inline_limit t.disk.block_size
+    small : 0 ≤ inline_limit t.disk.profile t.disk.block_size
     small = omega arith
 
-    kept : IsStorageFormOfWriterContents t.disk.block_size (shape_of.InMemory 0) (made (bytes_of_writer_contents (kept_thread_of_tree_state t) c) true)
+    kept : IsStorageFormOfWriterContents t.disk.profile t.disk.block_size (shape_of.InMemory 0) (made (bytes_of_writer_contents (kept_thread_of_tree_state t) c) true)
     kept = record { size = sym (ap (λ xs. length xs) none); fits = small }
 
-    two : blocks_reserved_for_size t.disk.block_size false 0 ≡ 2
-    two = ap (λ z. 2 + 1 * cond z 0 (list_block_count_for_size t.disk.block_size 0)) (le-leb 0 (inline_limit t.disk.block_size) (omega arith))
+    two : blocks_reserved_for_size t.disk.profile t.disk.block_size false 0 ≡ 2
+    two = ap (λ z. 2 + 1 * cond z 0 (list_block_count_for_size t.disk.block_size 0)) (le-leb 0 (inline_limit t.disk.profile t.disk.block_size) (omega arith))
 
     seen : made (bytes_of_writer_contents (kept_thread_of_tree_state t) c) true ≡ made (cond flags.truncate [] (file_bytes_of_node (tree_view t path))) (flags.truncate && nat_lt 0 (length (file_bytes_of_node (tree_view t path))))
     seen =

@@ -4,12 +4,12 @@ use Rattle.std.specs.Prelude.{if◌then◌else◌}
 use Rattle.std.specs.List.{list_any}
 use Rattle.std.specs.Option.{option_or}
 use Rattle.std.proofs.lemmas.Bool.Decides.{nat_tests}
-use Rattle.lfs_model.specs.Disk.{block_count}
+use Rattle.lfs_model.specs.Disk.{block_count, name_max_of}
 use Rattle.lfs_model.specs.Tree.{Path}
 use Rattle.lfs_model.specs.TreeEdits.{is_file, last_name_of_path, same_path}
 use Rattle.lfs_model.specs.Operations as ops
 use Rattle.lfs_model.specs.Operations.{Operation, Refusal, FlagsOfOpen, path_of_bytes}
-use Rattle.lfs_model.specs.Session.{are_flags_allowed, has_too_long_last_name, refusal_unless_parents_are_directories, readers_of_open_files, writers_of_open_files, first_refusal_in_list, refuse_if, is_entry_over_charge_limit, lacks_free_blocks, reserved_block_count_of_writers}
+use Rattle.lfs_model.specs.Session.{DiskSummary, are_flags_allowed, has_too_long_last_name, refusal_unless_parents_are_directories, readers_of_open_files, writers_of_open_files, first_refusal_in_list, refuse_if, is_entry_over_charge_limit, lacks_free_blocks, reserved_block_count_of_writers}
 use Rattle.lfs_model.specs.Refusals.{path_of_bytes_or_root, refusal_of_operation}
 use Rattle.lfs_model.specs.Effects.{file_size_of_node}
 use Rattle.lfs_device.specs.declared.error.Error.{Error}
@@ -74,18 +74,18 @@ stat_checked view h bytes p found tree absent a x r works is asked f absent_is a
     (λ none. size_found h bytes p found (sym is) f ∙ sym size_is) r_is
 
 mkdir_refused : (h : SessionView) (bytes : List ℕ) (p : Path) (found : FoundNode) → h.tree.failed ≡ false → h.tree.writable ≡ true → path_of_bytes bytes ≡ Some p → IsFoundNodeAtPath (tree_view h.tree) p found →
-    refusal_by_checks h (ops.Mkdir bytes) ≡ first_refusal_in_list (found.fault ∷ refuse_if (nat_lt 255 (length (last_name_of_path p))) ops.NameTooLong ∷ refuse_if (not (is_absent_node found.node)) ops.Exist
+    refusal_by_checks h (ops.Mkdir bytes) ≡ first_refusal_in_list (found.fault ∷ refuse_if (has_too_long_last_name (disk_summary_of_tree h.tree) p) ops.NameTooLong ∷ refuse_if (not (is_absent_node found.node)) ops.Exist
     ∷ refuse_if (is_entry_over_charge_limit (disk_summary_of_tree h.tree) (last_name_of_path p) []) ops.EntryFull ∷ refuse_if (lacks_free_blocks (disk_summary_of_tree h.tree) h.files 4) ops.NoSpace ∷ [])
 mkdir_refused h bytes p found works writable is f = rw (works, writable, is, f.parents, there (tree_view h.tree p), f.nothing) refl
 
-pub mkdir_checked : (h : SessionView) (bytes : List ℕ) (p : Path) (found : FoundNode) (tree : TreeState) (len other : ℕ) (absent over lack : Bool) (a b d e : Option Refusal) (r : Result Path Error) →
+pub mkdir_checked : (h : SessionView) (bytes : List ℕ) (p : Path) (found : FoundNode) (tree : TreeState) (len other : ℕ) (long absent over lack : Bool) (a b d e : Option Refusal) (r : Result Path Error) →
     false ≡ h.tree.failed → true ≡ h.tree.writable → Some p ≡ path_of_bytes bytes → WasTreeOnlyRead h.tree tree → IsFoundNodeAtPath (tree_view h.tree) p found →
-    len ≡ length (last_name_of_path p) → a ≡ refuse_if (nat_lt 255 len) ops.NameTooLong →
+    len ≡ length (last_name_of_path p) → long ≡ nat_lt (name_max_of tree.disk.profile) len → a ≡ refuse_if long ops.NameTooLong →
     absent ≡ is_absent_node found.node → b ≡ refuse_if (not absent) ops.Exist →
     other ≡ length (last_name_of_path p) → ((name : List ℕ) → length name ≡ other → over ≡ is_entry_over_charge_limit (disk_summary_of_tree tree) name []) → d ≡ refuse_if over ops.EntryFull →
     lack ≡ lacks_free_blocks (disk_summary_of_tree tree) h.files 4 → e ≡ refuse_if lack ops.NoSpace →
     r ≡ value_unless_refused (first_refusal_in_list (found.fault ∷ a ∷ b ∷ d ∷ e ∷ [])) p → IsResultOfOperationChecks h (ops.Mkdir bytes) (λ path. path ≡ path_of_bytes_or_root bytes) r tree
-mkdir_checked h bytes p found tree len other absent over lack a b d e r works writable is asked f len_is a_is absent_is b_is other_is over_is d_is lack_is e_is r_is =
+mkdir_checked h bytes p found tree len other long absent over lack a b d e r works writable is asked f len_is long_is a_is absent_is b_is other_is over_is d_is lack_is e_is r_is =
     decided h (ops.Mkdir bytes) (λ path. path ≡ path_of_bytes_or_root bytes) p _ tree r asked (mkdir_late h bytes p works writable is)
     (mkdir_refused h bytes p found (sym works) (sym writable) (sym is) f ∙ ap first_refusal_in_list (sym lists))
     (λ none. ap (λ z. unwrap_or z []) is) r_is
@@ -93,9 +93,9 @@ mkdir_checked h bytes p found tree len other absent over lack a b d e r works wr
     same : disk_summary_of_tree tree ≡ disk_summary_of_tree h.tree
     same = ap disk_summary_of_tree asked.same
 
-    lists : (found.fault ∷ a ∷ b ∷ d ∷ e ∷ []) ≡ (found.fault ∷ refuse_if (nat_lt 255 (length (last_name_of_path p))) ops.NameTooLong ∷ refuse_if (not (is_absent_node found.node)) ops.Exist
+    lists : (found.fault ∷ a ∷ b ∷ d ∷ e ∷ []) ≡ (found.fault ∷ refuse_if (has_too_long_last_name (disk_summary_of_tree h.tree) p) ops.NameTooLong ∷ refuse_if (not (is_absent_node found.node)) ops.Exist
         ∷ refuse_if (is_entry_over_charge_limit (disk_summary_of_tree h.tree) (last_name_of_path p) []) ops.EntryFull ∷ refuse_if (lacks_free_blocks (disk_summary_of_tree h.tree) h.files 4) ops.NoSpace ∷ [])
-    lists = both refl (both (when ops.NameTooLong a_is (ap (nat_lt 255) len_is)) (both (when ops.Exist b_is (ap not absent_is))
+    lists = both refl (both (when ops.NameTooLong a_is (long_is ∙ ap₂ (λ (around : DiskSummary) n. nat_lt (name_max_of around.profile) n) same len_is)) (both (when ops.Exist b_is (ap not absent_is))
         (both (when ops.EntryFull d_is (over_is (last_name_of_path p) (sym other_is) ∙ ap (λ around. is_entry_over_charge_limit around (last_name_of_path p) []) same))
         (both (when ops.NoSpace e_is (lack_is ∙ ap (λ around. lacks_free_blocks around h.files 4) same)) refl))))
 
@@ -126,13 +126,13 @@ mkdir_space h bytes e =
     let a = neither (refuse_if (not h.tree.writable) ops.ReadOnly) _ (not_refused h (ops.Mkdir bytes) e) in
     let b = neither (refuse_if (is_none (path_of_bytes bytes)) ops.Invalid) _ a.1 in
     let c = neither (refusal_unless_parents_are_directories (tree_view h.tree) [] (path_of_bytes_or_root bytes)) _ b.1 in
-    let d = neither (refuse_if (has_too_long_last_name (path_of_bytes_or_root bytes)) ops.NameTooLong) _ c.1 in
+    let d = neither (refuse_if (has_too_long_last_name (disk_summary_of_tree h.tree) (path_of_bytes_or_root bytes)) ops.NameTooLong) _ c.1 in
     let i = neither (refuse_if (is_some (tree_view h.tree (path_of_bytes_or_root bytes))) ops.Exist) _ d.1 in
     let j = neither (refuse_if (is_entry_over_charge_limit (disk_summary_of_tree h.tree) (last_name_of_path (path_of_bytes_or_root bytes)) []) ops.EntryFull) _ i.1 in
     let k = neither (refuse_if (lacks_free_blocks (disk_summary_of_tree h.tree) h.files 4) ops.NoSpace) None j.1 in
     unrefused (lacks_free_blocks (disk_summary_of_tree h.tree) h.files 4) ops.NoSpace k.0
 
-mkdir_passed : (h : SessionView) (bytes : List ℕ) → in_flight_block_count h.tree.map ≤ reserved_block_count_of_writers h.tree.disk.block_size h.files → refusal_by_checks h (ops.Mkdir bytes) ≡ None → CanMakeDirectoryAtPath h.tree (path_of_bytes_or_root bytes)
+mkdir_passed : (h : SessionView) (bytes : List ℕ) → in_flight_block_count h.tree.map ≤ reserved_block_count_of_writers h.tree.disk.profile h.tree.disk.block_size h.files → refusal_by_checks h (ops.Mkdir bytes) ≡ None → CanMakeDirectoryAtPath h.tree (path_of_bytes_or_root bytes)
 mkdir_passed h bytes flight e =
     let a = neither _ _ (not_refused h (ops.Mkdir bytes) e) in
     let b = neither _ _ a.1 in
@@ -147,11 +147,11 @@ mkdir_passed h bytes flight e =
       name = unrefused _ _ d.0;
       nothing = unrefused _ _ i.0;
       fits = unrefused _ _ j.0;
-      room = room_left (block_count h.tree.disk) (length (disk_summary_of_tree h.tree).used) (reserved_block_count_of_writers h.tree.disk.block_size h.files) (in_flight_block_count h.tree.map) 4 flight (mkdir_space h bytes e);
+      room = room_left (block_count h.tree.disk) (length (disk_summary_of_tree h.tree).used) (reserved_block_count_of_writers h.tree.disk.profile h.tree.disk.block_size h.files) (in_flight_block_count h.tree.map) 4 flight (mkdir_space h bytes e);
     }
 
 -- the directory can be made at the path that the checks let pass
-pub mkdir_can : (h : SessionView) (bytes : List ℕ) (path : Path) (tree : TreeState) → (h.tree.failed ≡ false → in_flight_block_count h.tree.map ≤ reserved_block_count_of_writers h.tree.disk.block_size h.files) → IsResultOfOperationChecks h (ops.Mkdir bytes) (λ p. p ≡ path_of_bytes_or_root bytes) (Ok path) tree → CanMakeDirectoryAtPath tree path
+pub mkdir_can : (h : SessionView) (bytes : List ℕ) (path : Path) (tree : TreeState) → (h.tree.failed ≡ false → in_flight_block_count h.tree.map ≤ reserved_block_count_of_writers h.tree.disk.profile h.tree.disk.block_size h.files) → IsResultOfOperationChecks h (ops.Mkdir bytes) (λ p. p ≡ path_of_bytes_or_root bytes) (Ok path) tree → CanMakeDirectoryAtPath tree path
 mkdir_can h bytes path tree ready c =
     let can = mkdir_passed h bytes (ready (not_failed h (ops.Mkdir bytes) c.1)) c.1 in
     subst (λ t. CanMakeDirectoryAtPath t path) (sym c.0.same) (subst (λ z. CanMakeDirectoryAtPath (record h.tree { history = tree.history; cache = tree.cache }) z) (sym c.2)

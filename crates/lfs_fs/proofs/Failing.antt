@@ -72,7 +72,7 @@ pub asking_fails : (e : Error) (old : SessionView) (op : Operation) (tree : Tree
 asking_fails e old op tree files works broken error = record {
   fails = record {
     failed = ap (λ (m : SystemState). m.state) (failed_system (session_view_of_tree_and_files_view tree files) broken.failed);
-    geometry = subst (λ d. SameGeometry old.tree.disk d) (sym broken.disk) (record { block_size = refl; page = refl; order = refl; count = refl });
+    geometry = subst (λ d. SameGeometry old.tree.disk d) (sym broken.disk) (record { block_size = refl; page = refl; order = refl; profile = refl; count = refl });
     calls = broken.reads.events;
     called = broken.reads.extends;
     asks = λ s f a. (broken.disk, writes);
@@ -129,7 +129,7 @@ pub memory_fails_at_once : (old : SessionView) (op : Operation) → SessionFails
 memory_fails_at_once old op = record {
   fails = record {
     failed = refl;
-    geometry = record { block_size = refl; page = refl; order = refl; count = refl };
+    geometry = record { block_size = refl; page = refl; order = refl; profile = refl; count = refl };
     calls = [];
     called = refl;
     asks = λ s f a. (refl, (refl, refl));

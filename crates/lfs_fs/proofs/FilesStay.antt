@@ -4,6 +4,7 @@ use Rattle.std.specs.Prelude.{◌||◌, if◌then◌else◌, sum_by}
 use Rattle.std.specs.List.{AllByRecursion, list_any}
 use Rattle.lfs_model.specs.TreeEdits.{file_bytes_of_node, is_file}
 use Rattle.lfs_model.specs.BlockSets.{IsBlockInFlight, in_flight_block_count}
+use Rattle.lfs_model.specs.declared.limits.Profile.{Profile}
 use Rattle.lfs_model.specs.Disk.{block_count, inline_limit}
 use Rattle.lfs_model.specs.Operations.{Operation}
 use Rattle.lfs_model.specs.Session as session
@@ -55,21 +56,24 @@ module _ (over : (old new : TreeState) (op : Operation) (path : Path) (c : Write
       make xs = record { path = w.path; contents = xs; position = w.position; append = w.appends; dirty = is_some w.unsaved; turned = is_unsaved_nonsequential w.unsaved; last_end = last_change_end_of_unsaved w.unsaved }
 
   abbrev HasRoom : Writer → Type 0
-  HasRoom w = (blocks_taken_by_operation op ≡ 0) ⊎ (length (disk_summary_of_tree old).used + blocks_reserved_by_writer old.disk.block_size w + blocks_taken_by_operation op ≤ block_count old.disk)
+  HasRoom w = (blocks_taken_by_operation op ≡ 0) ⊎ (length (disk_summary_of_tree old).used + blocks_reserved_by_writer old.disk.profile old.disk.block_size w + blocks_taken_by_operation op ≤ block_count old.disk)
 
-  still_fits : (w : Writer) (u : UnsavedContents) → old.writable ≡ true → w.unsaved ≡ Some u → AreUnsavedContentsOfWriter old w u → HasRoom w → length (disk_summary_of_tree new).used + blocks_reserved_for_size new.disk.block_size u.has_turned w.size ≤ block_count new.disk
-  still_fits w u writable is c room = subst (λ n. length (disk_summary_of_tree new).used + blocks_reserved_for_size n u.has_turned w.size ≤ block_count new.disk) (sym carried.geometry.block_size) (go room)
+  still_fits : (w : Writer) (u : UnsavedContents) → old.writable ≡ true → w.unsaved ≡ Some u → AreUnsavedContentsOfWriter old w u → HasRoom w → length (disk_summary_of_tree new).used + blocks_reserved_for_size new.disk.profile new.disk.block_size u.has_turned w.size ≤ block_count new.disk
+  still_fits w u writable is c room =
+      subst (λ n. length (disk_summary_of_tree new).used + blocks_reserved_for_size new.disk.profile n u.has_turned w.size ≤ block_count new.disk) (sym carried.geometry.block_size)
+      (subst (λ k. length (disk_summary_of_tree new).used + blocks_reserved_for_size k old.disk.block_size u.has_turned w.size ≤ block_count new.disk) (sym carried.geometry.profile) (go room))
     where
-      go : HasRoom w → length (disk_summary_of_tree new).used + blocks_reserved_for_size old.disk.block_size u.has_turned w.size ≤ block_count new.disk
+      go : HasRoom w → length (disk_summary_of_tree new).used + blocks_reserved_for_size old.disk.profile old.disk.block_size u.has_turned w.size ≤ block_count new.disk
       go (inl none) = room_still _ (length (disk_summary_of_tree old).used) (blocks_taken_by_operation op) _ _ (block_count old.disk) (few old new op sound writable carried) none c.room carried.geometry.count
       go (inr r) = room_enough _ (length (disk_summary_of_tree old).used) (blocks_taken_by_operation op) _ _ (block_count old.disk) (few old new op sound writable carried)
-          (subst (λ n. length (disk_summary_of_tree old).used + n + blocks_taken_by_operation op ≤ block_count old.disk) (ap (λ o. if is_none o then 0 else blocks_reserved_for_size old.disk.block_size (is_unsaved_nonsequential o) w.size) is) r) carried.geometry.count
+          (subst (λ n. length (disk_summary_of_tree old).used + n + blocks_taken_by_operation op ≤ block_count old.disk) (ap (λ o. if is_none o then 0 else blocks_reserved_for_size old.disk.profile old.disk.block_size (is_unsaved_nonsequential o) w.size) is) r) carried.geometry.count
 
   still_changed : (w : Writer) (u : UnsavedContents) → IsWriterOverWritableImage old w → w.unsaved ≡ Some u → removes_or_moves_path_or_ancestor op w.path ≡ false → file_bytes_of_node (tree_view new w.path) ≡ file_bytes_of_node (tree_view old w.path) → AreUnsavedContentsOfWriter old w u → HasRoom w → AreUnsavedContentsOfWriter new w u
   still_changed w u h is off stays c room = record {
     over = over old new op w.path u.contents c.over sound carried off;
-    kept = subst (λ n. IsStorageFormOfWriterContents n (storage_form_of_contents u.contents) (writer_view new w)) (sym carried.geometry.block_size) (subst (IsStorageFormOfWriterContents old.disk.block_size (storage_form_of_contents u.contents)) (sym (same_writer w h off stays)) c.kept);
-    form = subst (λ n. IsInMemoryExactlyUpToInlineLimit (inline_limit n) (storage_form_of_contents u.contents)) (sym carried.geometry.block_size) c.form;
+    kept = subst (λ n. IsStorageFormOfWriterContents new.disk.profile n (storage_form_of_contents u.contents) (writer_view new w)) (sym carried.geometry.block_size)
+        (subst (λ k. IsStorageFormOfWriterContents k old.disk.block_size (storage_form_of_contents u.contents) (writer_view new w)) (sym carried.geometry.profile) (subst (IsStorageFormOfWriterContents old.disk.profile old.disk.block_size (storage_form_of_contents u.contents)) (sym (same_writer w h off stays)) c.kept));
+    form = subst (λ n. IsInMemoryExactlyUpToInlineLimit n (storage_form_of_contents u.contents)) (ap₂ inline_limit (sym carried.geometry.profile) (sym carried.geometry.block_size)) c.form;
     room = still_fits w u h.writable is c room;
   }
 
@@ -89,11 +93,11 @@ module _ (over : (old new : TreeState) (op : Operation) (path : Path) (c : Write
   -- ---- all files
 
   still_all : (ws : List Writer) → length ws ≤ 1 → AllByRecursion (IsWriterOverWritableImage old) ws → AllByRecursion (λ w. removes_or_moves_path_or_ancestor op w.path ≡ false) ws → KeepsFilesOfWriters old new ws →
-      (blocks_taken_by_operation op ≡ 0) ⊎ (length (disk_summary_of_tree old).used + sum_by (blocks_reserved_by_writer old.disk.block_size) ws + blocks_taken_by_operation op ≤ block_count old.disk) → AllByRecursion (IsWriterOverWritableImage new) ws
+      (blocks_taken_by_operation op ≡ 0) ⊎ (length (disk_summary_of_tree old).used + sum_by (blocks_reserved_by_writer old.disk.profile old.disk.block_size) ws + blocks_taken_by_operation op ≤ block_count old.disk) → AllByRecursion (IsWriterOverWritableImage new) ws
   still_all [] one h off keeps room = tt
   still_all (w ∷ []) one h off keeps room = (still_written w h.0 off.0 keeps.0 (go room), tt)
     where
-      go : (blocks_taken_by_operation op ≡ 0) ⊎ (length (disk_summary_of_tree old).used + sum_by (blocks_reserved_by_writer old.disk.block_size) (w ∷ []) + blocks_taken_by_operation op ≤ block_count old.disk) → HasRoom w
+      go : (blocks_taken_by_operation op ≡ 0) ⊎ (length (disk_summary_of_tree old).used + sum_by (blocks_reserved_by_writer old.disk.profile old.disk.block_size) (w ∷ []) + blocks_taken_by_operation op ≤ block_count old.disk) → HasRoom w
       go (inl none) = inl none
       go (inr r) = inr (the_first _ _ _ _ r)
   still_all (w ∷ v ∷ ws) one h off keeps room = absurd (omega (arith, one))
@@ -120,10 +124,10 @@ module _ (over : (old new : TreeState) (op : Operation) (path : Path) (c : Write
       never : has_unsaved_writer files ≡ false → (b : ℕ) → IsBlockInFlight old.map b → ⊥
       never saved b h = let k = in_flight-freed old.map b h in let none = ready.idle saved in absurd (omega (arith, k, none))
 
-      by_size : (blocks_taken_by_operation op ≡ 0) ⊎ (length (disk_summary_of_tree old).used + reserved_block_count_of_writers old.disk.block_size (open_files_view old files) + blocks_taken_by_operation op ≤ block_count old.disk) →
-          (blocks_taken_by_operation op ≡ 0) ⊎ (length (disk_summary_of_tree old).used + blocks_reserved_by_writers old.disk.block_size files + blocks_taken_by_operation op ≤ block_count old.disk)
+      by_size : (blocks_taken_by_operation op ≡ 0) ⊎ (length (disk_summary_of_tree old).used + reserved_block_count_of_writers old.disk.profile old.disk.block_size (open_files_view old files) + blocks_taken_by_operation op ≤ block_count old.disk) →
+          (blocks_taken_by_operation op ≡ 0) ⊎ (length (disk_summary_of_tree old).used + blocks_reserved_by_writers old.disk.profile old.disk.block_size files + blocks_taken_by_operation op ≤ block_count old.disk)
       by_size (inl none) = inl none
-      by_size (inr r) = inr (subst (λ n. length (disk_summary_of_tree old).used + n + blocks_taken_by_operation op ≤ block_count old.disk) (sym (held_is old.disk.block_size old files ready)) r)
+      by_size (inr r) = inr (subst (λ n. length (disk_summary_of_tree old).used + n + blocks_taken_by_operation op ≤ block_count old.disk) (sym (held_is old.disk.profile old.disk.block_size old files ready)) r)
 
 -- ---- blocks in flight
 
@@ -131,20 +135,20 @@ fewer : (flying form reserved_block_count_of_writers by all : ℕ) → flying �
 fewer flying form reserved_block_count_of_writers by all a b c d = omega arith
 
 module _ (flying : (t : TreeState) (path : Path) (c : WriterContents) → AreWriterContentsOverTreeFile t path c → in_flight_block_count t.map ≤ in_flight_block_limit_of_storage_form t.disk.block_size (storage_form_of_contents c))
-    (covers : (block_size : ℕ) (form : ContentsStorageForm) (w : session.FileWriter) → IsStorageFormOfWriterContents block_size form w → in_flight_block_limit_of_storage_form block_size form ≤ reserved_block_count_of_writer block_size w - 2) (t : TreeState) where
-  of_writer : (w : Writer) (u : Option UnsavedContents) → w.unsaved ≡ u → IsWriterOverWritableImage t w → AreOptionalUnsavedContentsOfWriter t w u → (is_some u || false) ≡ true → in_flight_block_count t.map ≤ sum_by (blocks_reserved_by_writer t.disk.block_size) (w ∷ [])
+    (covers : (profile : Profile) (block_size : ℕ) (form : ContentsStorageForm) (w : session.FileWriter) → IsStorageFormOfWriterContents profile block_size form w → in_flight_block_limit_of_storage_form block_size form ≤ reserved_block_count_of_writer profile block_size w - 2) (t : TreeState) where
+  of_writer : (w : Writer) (u : Option UnsavedContents) → w.unsaved ≡ u → IsWriterOverWritableImage t w → AreOptionalUnsavedContentsOfWriter t w u → (is_some u || false) ≡ true → in_flight_block_count t.map ≤ sum_by (blocks_reserved_by_writer t.disk.profile t.disk.block_size) (w ∷ [])
   of_writer w None is h c e = absurd (cc)
   of_writer w (Some u) is h c e =
-      fewer _ _ _ _ _ (flying t w.path u.contents c.over) (covers t.disk.block_size (storage_form_of_contents u.contents) (writer_view t w) c.kept) (held_one t.disk.block_size t w h.size) refl
+      fewer _ _ _ _ _ (flying t w.path u.contents c.over) (covers t.disk.profile t.disk.block_size (storage_form_of_contents u.contents) (writer_view t w) c.kept) (held_one t.disk.profile t.disk.block_size t w h.size) refl
 
-  of_writers : (ws : List Writer) → length ws ≤ 1 → AllByRecursion (IsWriterOverWritableImage t) ws → list_any (λ w. is_some w.unsaved) ws ≡ true → in_flight_block_count t.map ≤ sum_by (blocks_reserved_by_writer t.disk.block_size) ws
+  of_writers : (ws : List Writer) → length ws ≤ 1 → AllByRecursion (IsWriterOverWritableImage t) ws → list_any (λ w. is_some w.unsaved) ws ≡ true → in_flight_block_count t.map ≤ sum_by (blocks_reserved_by_writer t.disk.profile t.disk.block_size) ws
   of_writers [] one h e = absurd (cc)
   of_writers (w ∷ []) one h e = of_writer w w.unsaved refl h.0 h.0.changed e
   of_writers (w ∷ v ∷ ws) one h e = absurd (omega (arith, one))
 
-  pub few_in_flight : (files : RuntimeOpenFilesByNumber) → IsSessionReadyForCalls t files → in_flight_block_count t.map ≤ reserved_block_count_of_writers t.disk.block_size (open_files_view t files)
-  few_in_flight files ready = subst (λ n. in_flight_block_count t.map ≤ n) (held_is t.disk.block_size t files ready) (go (has_unsaved_writer files) refl)
+  pub few_in_flight : (files : RuntimeOpenFilesByNumber) → IsSessionReadyForCalls t files → in_flight_block_count t.map ≤ reserved_block_count_of_writers t.disk.profile t.disk.block_size (open_files_view t files)
+  few_in_flight files ready = subst (λ n. in_flight_block_count t.map ≤ n) (held_is t.disk.profile t.disk.block_size t files ready) (go (has_unsaved_writer files) refl)
     where
-      go : (b : Bool) → has_unsaved_writer files ≡ b → in_flight_block_count t.map ≤ blocks_reserved_by_writers t.disk.block_size files
+      go : (b : Bool) → has_unsaved_writer files ≡ b → in_flight_block_count t.map ≤ blocks_reserved_by_writers t.disk.profile t.disk.block_size files
       go true e = of_writers (writers_among files) ready.one ready.written e
       go false e = let k = ready.idle e in omega (arith, k)

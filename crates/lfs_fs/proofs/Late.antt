@@ -4,7 +4,7 @@ use Rattle.std.specs.List.{list_any}
 use Rattle.std.specs.Option.{option_or}
 use Rattle.lfs_model.specs.Content.{attribute_bytes_of_type, attributes_with_attribute}
 use Rattle.lfs_model.specs.Frame.{refusal_needs_no_look_up}
-use Rattle.lfs_model.specs.Disk.{attribute_size_limit}
+use Rattle.lfs_model.specs.Disk.{attr_max_of}
 use Rattle.lfs_model.specs.Operations as ops
 use Rattle.lfs_model.specs.Operations.{FlagsOfOpen, Operation, Refusal, path_of_bytes}
 use Rattle.lfs_model.specs.Refusals.{path_of_bytes_or_root}
@@ -79,7 +79,7 @@ get_late h bytes kind p works is = let op = ops.GetAttr bytes kind in
 pub mkdir_late : (h : SessionView) (bytes : List ℕ) (p : Path) → false ≡ h.tree.failed → true ≡ h.tree.writable → Some p ≡ path_of_bytes bytes → PassesChecksWithoutDeviceCalls h (ops.Mkdir bytes)
 mkdir_late h bytes p works writable is = let op = ops.Mkdir bytes in
     told_late h op
-    (refusal_unless_parents_are_directories (tree_view h.tree) [] p ∷ refuse_if (has_too_long_last_name p) ops.NameTooLong ∷ refuse_if (is_some (tree_view h.tree p)) ops.Exist ∷ refuse_if (is_entry_over_charge_limit (disk_summary_of_tree h.tree) (last_name_of_path p) []) ops.EntryFull ∷ refuse_if (lacks_free_blocks (disk_summary_of_tree h.tree) h.files 4) ops.NoSpace ∷ [])
+    (refusal_unless_parents_are_directories (tree_view h.tree) [] p ∷ refuse_if (has_too_long_last_name (disk_summary_of_tree h.tree) p) ops.NameTooLong ∷ refuse_if (is_some (tree_view h.tree p)) ops.Exist ∷ refuse_if (is_entry_over_charge_limit (disk_summary_of_tree h.tree) (last_name_of_path p) []) ops.EntryFull ∷ refuse_if (lacks_free_blocks (disk_summary_of_tree h.tree) h.files 4) ops.NoSpace ∷ [])
     (rw (sym works, sym writable, sym is) refl)
     (parents op (tree_view h.tree) [] p refl, (late op _ _ refl, (late op _ _ refl, (late op _ _ refl, (late op _ _ refl, tt)))))
 
@@ -93,7 +93,7 @@ remove_late h bytes p works writable is = let op = ops.Remove bytes in
 pub set_late : (h : SessionView) (bytes : List ℕ) (kind : ℕ) (value : List ℕ) (p : Path) → false ≡ h.tree.failed → true ≡ h.tree.writable → Some p ≡ path_of_bytes_unless_root bytes → PassesChecksWithoutDeviceCalls h (ops.SetAttr bytes kind value)
 set_late h bytes kind value p works writable is = let op = ops.SetAttr bytes kind value in
     told_late h op
-    (refusal_unless_parents_are_directories (tree_view h.tree) [] p ∷ refuse_if (is_none (tree_view h.tree p)) ops.NoEnt ∷ refuse_if (nat_lt attribute_size_limit (length value)) ops.TooBig ∷ refuse_if (is_entry_over_charge_limit (disk_summary_of_tree h.tree) (last_name_of_path p) (attributes_with_attribute kind value (attributes_of_node (tree_view h.tree p)))) ops.EntryFull ∷ refuse_if (lacks_free_blocks (disk_summary_of_tree h.tree) h.files 2) ops.NoSpace ∷ [])
+    (refusal_unless_parents_are_directories (tree_view h.tree) [] p ∷ refuse_if (is_none (tree_view h.tree p)) ops.NoEnt ∷ refuse_if (nat_lt (attr_max_of h.tree.disk.profile) (length value)) ops.TooBig ∷ refuse_if (is_entry_over_charge_limit (disk_summary_of_tree h.tree) (last_name_of_path p) (attributes_with_attribute kind value (attributes_of_node (tree_view h.tree p)))) ops.EntryFull ∷ refuse_if (lacks_free_blocks (disk_summary_of_tree h.tree) h.files 2) ops.NoSpace ∷ [])
     (rw (sym works, sym writable, (is_entry bytes p is).0, root_false bytes p is) refl)
     (parents op (tree_view h.tree) [] p refl, (late op _ _ refl, (late op _ _ refl, (late op _ _ refl, (late op _ _ refl, tt)))))
 
@@ -107,7 +107,7 @@ remove_attr_late h bytes kind p works writable is = let op = ops.RemoveAttr byte
 pub rename_late : (h : SessionView) (old new : List ℕ) (p q : Path) → false ≡ h.tree.failed → true ≡ h.tree.writable → Some p ≡ path_of_bytes_unless_root old → Some q ≡ path_of_bytes_unless_root new → is_path_beneath (path_of_bytes_or_root old) (path_of_bytes_or_root new) ≡ false → PassesChecksWithoutDeviceCalls h (ops.Rename old new)
 rename_late h old new p q works writable from to apart = let op = ops.Rename old new in
     told_late h op
-    (refusal_unless_parents_are_directories (tree_view h.tree) [] (path_of_bytes_or_root old) ∷ refusal_unless_parents_are_directories (tree_view h.tree) [] (path_of_bytes_or_root new) ∷ refuse_if (has_too_long_last_name (path_of_bytes_or_root new)) ops.NameTooLong ∷ refuse_if (is_none (tree_view h.tree (path_of_bytes_or_root old))) ops.NoEnt ∷ refuse_if (not (same_path (path_of_bytes_or_root old) (path_of_bytes_or_root new)) && is_directory (tree_view h.tree (path_of_bytes_or_root old)) && is_file (tree_view h.tree (path_of_bytes_or_root new))) ops.NotDir ∷ refuse_if (not (same_path (path_of_bytes_or_root old) (path_of_bytes_or_root new)) && is_file (tree_view h.tree (path_of_bytes_or_root old)) && is_directory (tree_view h.tree (path_of_bytes_or_root new))) ops.IsDir ∷ refuse_if (not (same_path (path_of_bytes_or_root old) (path_of_bytes_or_root new)) && nat_lt 0 (length (names_of_directory_node (tree_view h.tree (path_of_bytes_or_root new))))) ops.NotEmpty ∷ refuse_if (has_open_file_with_path_satisfying (λ x. is_some (path_without_prefix (path_of_bytes_or_root old) x) || same_path (path_of_bytes_or_root new) x) h.files) ops.Busy ∷ refuse_if (not (same_path (path_of_bytes_or_root old) (path_of_bytes_or_root new)) && is_entry_over_charge_limit (disk_summary_of_tree h.tree) (last_name_of_path (path_of_bytes_or_root new)) (attributes_of_node (tree_view h.tree (path_of_bytes_or_root old)))) ops.EntryFull ∷ refuse_if (lacks_free_blocks (disk_summary_of_tree h.tree) h.files 2) ops.NoSpace ∷ [])
+    (refusal_unless_parents_are_directories (tree_view h.tree) [] (path_of_bytes_or_root old) ∷ refusal_unless_parents_are_directories (tree_view h.tree) [] (path_of_bytes_or_root new) ∷ refuse_if (has_too_long_last_name (disk_summary_of_tree h.tree) (path_of_bytes_or_root new)) ops.NameTooLong ∷ refuse_if (is_none (tree_view h.tree (path_of_bytes_or_root old))) ops.NoEnt ∷ refuse_if (not (same_path (path_of_bytes_or_root old) (path_of_bytes_or_root new)) && is_directory (tree_view h.tree (path_of_bytes_or_root old)) && is_file (tree_view h.tree (path_of_bytes_or_root new))) ops.NotDir ∷ refuse_if (not (same_path (path_of_bytes_or_root old) (path_of_bytes_or_root new)) && is_file (tree_view h.tree (path_of_bytes_or_root old)) && is_directory (tree_view h.tree (path_of_bytes_or_root new))) ops.IsDir ∷ refuse_if (not (same_path (path_of_bytes_or_root old) (path_of_bytes_or_root new)) && nat_lt 0 (length (names_of_directory_node (tree_view h.tree (path_of_bytes_or_root new))))) ops.NotEmpty ∷ refuse_if (has_open_file_with_path_satisfying (λ x. is_some (path_without_prefix (path_of_bytes_or_root old) x) || same_path (path_of_bytes_or_root new) x) h.files) ops.Busy ∷ refuse_if (not (same_path (path_of_bytes_or_root old) (path_of_bytes_or_root new)) && is_entry_over_charge_limit (disk_summary_of_tree h.tree) (last_name_of_path (path_of_bytes_or_root new)) (attributes_of_node (tree_view h.tree (path_of_bytes_or_root old)))) ops.EntryFull ∷ refuse_if (lacks_free_blocks (disk_summary_of_tree h.tree) h.files 2) ops.NoSpace ∷ [])
     (rw (sym works, sym writable, (is_entry old p from).1, (is_entry new q to).1, apart) refl)
     (parents op (tree_view h.tree) [] (path_of_bytes_or_root old) refl, (parents op (tree_view h.tree) [] (path_of_bytes_or_root new) refl, (late op _ _ refl, (late op _ _ refl, (late op _ _ refl, (late op _ _ refl, (late op _ _ refl, (late op _ _ refl, (late op _ _ refl, (late op _ _ refl, tt))))))))))
 
@@ -116,13 +116,13 @@ rename_late h old new p q works writable from to apart = let op = ops.Rename old
 pub reader_late : (h : SessionView) (bytes : List ℕ) (p : Path) (flags : FlagsOfOpen) → false ≡ h.tree.failed → Some p ≡ path_of_bytes bytes → flags.write ≡ false → true ≡ are_flags_allowed flags → PassesChecksWithoutDeviceCalls h (ops.Open bytes flags)
 reader_late h bytes p flags works is write allowed = let op = ops.Open bytes flags in
     told_late h op
-    (refusal_unless_parents_are_directories (tree_view h.tree) [] p ∷ refuse_if (is_none (tree_view h.tree p) && flags.create && has_too_long_last_name p) ops.NameTooLong ∷ refuse_if (is_none (tree_view h.tree p) && not flags.create) ops.NoEnt ∷ refuse_if (is_some (tree_view h.tree p) && flags.exclusive) ops.Exist ∷ refuse_if (is_directory (tree_view h.tree p)) ops.IsDir ∷ refuse_if (list_any (λ w. same_path p w.path) (writers_of_open_files h.files) || nat_le 16 (length (readers_of_open_files h.files))) ops.Busy ∷ refuse_if (is_none (tree_view h.tree p) && is_entry_over_charge_limit (disk_summary_of_tree h.tree) (last_name_of_path p) []) ops.EntryFull ∷ refuse_if (is_none (tree_view h.tree p) && lacks_free_blocks (disk_summary_of_tree h.tree) h.files 2) ops.NoSpace ∷ refuse_if (flags.truncate && overfills_disk (disk_summary_of_tree h.tree) (writer_after_open p flags (file_bytes_of_node (tree_view h.tree p)))) ops.NoSpace ∷ [])
+    (refusal_unless_parents_are_directories (tree_view h.tree) [] p ∷ refuse_if (is_none (tree_view h.tree p) && flags.create && has_too_long_last_name (disk_summary_of_tree h.tree) p) ops.NameTooLong ∷ refuse_if (is_none (tree_view h.tree p) && not flags.create) ops.NoEnt ∷ refuse_if (is_some (tree_view h.tree p) && flags.exclusive) ops.Exist ∷ refuse_if (is_directory (tree_view h.tree p)) ops.IsDir ∷ refuse_if (list_any (λ w. same_path p w.path) (writers_of_open_files h.files) || nat_le 16 (length (readers_of_open_files h.files))) ops.Busy ∷ refuse_if (is_none (tree_view h.tree p) && is_entry_over_charge_limit (disk_summary_of_tree h.tree) (last_name_of_path p) []) ops.EntryFull ∷ refuse_if (is_none (tree_view h.tree p) && lacks_free_blocks (disk_summary_of_tree h.tree) h.files 2) ops.NoSpace ∷ refuse_if (flags.truncate && overfills_disk (disk_summary_of_tree h.tree) (writer_after_open p flags (file_bytes_of_node (tree_view h.tree p)))) ops.NoSpace ∷ [])
     (rw (sym works, sym is, sym allowed, write) refl)
     (parents op (tree_view h.tree) [] p refl, (late op _ _ refl, (late op _ _ refl, (late op _ _ refl, (late op _ _ refl, (late op _ _ refl, (late op _ _ refl, (late op _ _ refl, (late op _ _ refl, tt)))))))))
 
 pub writer_late : (h : SessionView) (bytes : List ℕ) (p : Path) (flags : FlagsOfOpen) → false ≡ h.tree.failed → true ≡ h.tree.writable → Some p ≡ path_of_bytes bytes → flags.write ≡ true → true ≡ are_flags_allowed flags → PassesChecksWithoutDeviceCalls h (ops.Open bytes flags)
 writer_late h bytes p flags works writable is write allowed = let op = ops.Open bytes flags in
     told_late h op
-    (refusal_unless_parents_are_directories (tree_view h.tree) [] p ∷ refuse_if (is_none (tree_view h.tree p) && flags.create && has_too_long_last_name p) ops.NameTooLong ∷ refuse_if (is_none (tree_view h.tree p) && not flags.create) ops.NoEnt ∷ refuse_if (is_some (tree_view h.tree p) && flags.exclusive) ops.Exist ∷ refuse_if (is_directory (tree_view h.tree p)) ops.IsDir ∷ refuse_if (nat_lt 0 (length (writers_of_open_files h.files)) || has_open_file_with_path_satisfying (same_path p) h.files) ops.Busy ∷ refuse_if (is_none (tree_view h.tree p) && is_entry_over_charge_limit (disk_summary_of_tree h.tree) (last_name_of_path p) []) ops.EntryFull ∷ refuse_if (is_none (tree_view h.tree p) && lacks_free_blocks (disk_summary_of_tree h.tree) h.files 2) ops.NoSpace ∷ refuse_if (flags.truncate && overfills_disk (disk_summary_of_tree h.tree) (writer_after_open p flags (file_bytes_of_node (tree_view h.tree p)))) ops.NoSpace ∷ [])
+    (refusal_unless_parents_are_directories (tree_view h.tree) [] p ∷ refuse_if (is_none (tree_view h.tree p) && flags.create && has_too_long_last_name (disk_summary_of_tree h.tree) p) ops.NameTooLong ∷ refuse_if (is_none (tree_view h.tree p) && not flags.create) ops.NoEnt ∷ refuse_if (is_some (tree_view h.tree p) && flags.exclusive) ops.Exist ∷ refuse_if (is_directory (tree_view h.tree p)) ops.IsDir ∷ refuse_if (nat_lt 0 (length (writers_of_open_files h.files)) || has_open_file_with_path_satisfying (same_path p) h.files) ops.Busy ∷ refuse_if (is_none (tree_view h.tree p) && is_entry_over_charge_limit (disk_summary_of_tree h.tree) (last_name_of_path p) []) ops.EntryFull ∷ refuse_if (is_none (tree_view h.tree p) && lacks_free_blocks (disk_summary_of_tree h.tree) h.files 2) ops.NoSpace ∷ refuse_if (flags.truncate && overfills_disk (disk_summary_of_tree h.tree) (writer_after_open p flags (file_bytes_of_node (tree_view h.tree p)))) ops.NoSpace ∷ [])
     (rw (sym works, sym writable, sym is, sym allowed, write) refl)
     (parents op (tree_view h.tree) [] p refl, (late op _ _ refl, (late op _ _ refl, (late op _ _ refl, (late op _ _ refl, (late op _ _ refl, (late op _ _ refl, (late op _ _ refl, (late op _ _ refl, tt)))))))))

@@ -47,3 +47,4 @@ pub mod WriterPaths
 pub mod DeviceLaws
 pub mod Called
 pub mod WritersInPlace
+pub mod ImageLimits

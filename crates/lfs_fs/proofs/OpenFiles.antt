@@ -5,6 +5,7 @@ use Rattle.std.specs.List.{AllByRecursion, list_any}
 use Rattle.std.specs.Option.{option_flatten, option_map}
 use Rattle.std.proofs.lemmas.Bool.{lt-ltb, ltb-true}
 use Rattle.std.proofs.lemmas.Option.{same_Some}
+use Rattle.lfs_model.specs.declared.limits.Profile.{Profile}
 use Rattle.lfs_model.specs.Disk.{inline_limit}
 use Rattle.lfs_writer.specs.Contents.{storage_form_of_contents}
 use Rattle.lfs_writer.specs.Form as form
@@ -91,22 +92,22 @@ busy t fs p = ap₂ (λ b n. b || nat_le 16 n) (sym (ap (list_any (λ w. same_pa
 
 -- ---- space
 
-pub held_one : (block_size : ℕ) (t : TreeState) (w : Writer) → length (unsaved_or_tree_bytes_of_writer t w.path w.unsaved) ≡ w.size → blocks_reserved_by_writer block_size w ≡ reserved_block_count_of_writer block_size (writer_view t w)
-held_one block_size t w e = sizes w.unsaved w.size ∙ ap (λ n. cond (not (is_some w.unsaved)) 0 (blocks_reserved_for_size block_size (is_unsaved_nonsequential w.unsaved) n)) (sym e)
+pub held_one : (profile : Profile) (block_size : ℕ) (t : TreeState) (w : Writer) → length (unsaved_or_tree_bytes_of_writer t w.path w.unsaved) ≡ w.size → blocks_reserved_by_writer profile block_size w ≡ reserved_block_count_of_writer profile block_size (writer_view t w)
+held_one profile block_size t w e = sizes w.unsaved w.size ∙ ap (λ n. cond (not (is_some w.unsaved)) 0 (blocks_reserved_for_size profile block_size (is_unsaved_nonsequential w.unsaved) n)) (sym e)
   where
-    sizes : (u : Option UnsavedContents) (n : ℕ) → cond (is_none u) 0 (blocks_reserved_for_size block_size (is_unsaved_nonsequential u) n) ≡ cond (not (is_some u)) 0 (blocks_reserved_for_size block_size (is_unsaved_nonsequential u) n)
+    sizes : (u : Option UnsavedContents) (n : ℕ) → cond (is_none u) 0 (blocks_reserved_for_size profile block_size (is_unsaved_nonsequential u) n) ≡ cond (not (is_some u)) 0 (blocks_reserved_for_size profile block_size (is_unsaved_nonsequential u) n)
     sizes None n = refl
     sizes (Some u) n = refl
 
-held_each : (block_size a : ℕ) (t : TreeState) (ws : List Writer) → AllByRecursion (IsWriterOverWritableImage t) ws →
-    fold (λ a x. a + blocks_reserved_by_writer block_size x) a ws ≡ fold (λ a x. a + reserved_block_count_of_writer block_size x) a (map (writer_view t) ws)
-held_each block_size a t [] h = refl
-held_each block_size a t (w ∷ ws) h =
-    held_each block_size (a + blocks_reserved_by_writer block_size w) t ws h.1
-    ∙ ap (λ n. fold (λ a x. a + reserved_block_count_of_writer block_size x) (a + n) (map (writer_view t) ws)) (held_one block_size t w h.0.size)
+held_each : (profile : Profile) (block_size a : ℕ) (t : TreeState) (ws : List Writer) → AllByRecursion (IsWriterOverWritableImage t) ws →
+    fold (λ a x. a + blocks_reserved_by_writer profile block_size x) a ws ≡ fold (λ a x. a + reserved_block_count_of_writer profile block_size x) a (map (writer_view t) ws)
+held_each profile block_size a t [] h = refl
+held_each profile block_size a t (w ∷ ws) h =
+    held_each profile block_size (a + blocks_reserved_by_writer profile block_size w) t ws h.1
+    ∙ ap (λ n. fold (λ a x. a + reserved_block_count_of_writer profile block_size x) (a + n) (map (writer_view t) ws)) (held_one profile block_size t w h.0.size)
 
-pub held_is : (block_size : ℕ) (t : TreeState) (fs : RuntimeOpenFilesByNumber) → IsSessionReadyForCalls t fs → blocks_reserved_by_writers block_size fs ≡ reserved_block_count_of_writers block_size (open_files_view t fs)
-held_is block_size t fs ready = held_each block_size 0 t (writers_among fs) ready.written ∙ sym (ap (sum_by (reserved_block_count_of_writer block_size)) (writers_are t fs))
+pub held_is : (profile : Profile) (block_size : ℕ) (t : TreeState) (fs : RuntimeOpenFilesByNumber) → IsSessionReadyForCalls t fs → blocks_reserved_by_writers profile block_size fs ≡ reserved_block_count_of_writers profile block_size (open_files_view t fs)
+held_is profile block_size t fs ready = held_each profile block_size 0 t (writers_among fs) ready.written ∙ sym (ap (sum_by (reserved_block_count_of_writer profile block_size)) (writers_are t fs))
 
 -- ---- numbers
 
@@ -187,17 +188,17 @@ writers_put fs r = go (nat_lt (lowest_free_number_of_runtime_files fs) (length f
     go true e = rw e (set_free fs)
     go false e = rw e (behind fs)
 
-kept_moved : (block_size place : ℕ) (shape : ContentsStorageForm) (w : session.FileWriter) → IsStorageFormOfWriterContents block_size shape w → IsStorageFormOfWriterContents block_size shape (record w { position = place })
-kept_moved block_size place shape w h = record { size = h.size; fits = fits shape h.fits }
+kept_moved : (profile : Profile) (block_size place : ℕ) (shape : ContentsStorageForm) (w : session.FileWriter) → IsStorageFormOfWriterContents profile block_size shape w → IsStorageFormOfWriterContents profile block_size shape (record w { position = place })
+kept_moved profile block_size place shape w h = record { size = h.size; fits = fits shape h.fits }
   where
-    fits : (f : ContentsStorageForm) → StorageFormFitsWriter (inline_limit block_size) f w → StorageFormFitsWriter (inline_limit block_size) f (record w { position = place })
+    fits : (f : ContentsStorageForm) → StorageFormFitsWriter (inline_limit profile block_size) f w → StorageFormFitsWriter (inline_limit profile block_size) f (record w { position = place })
     fits (form.InMemory size) h = h
     fits (form.Finished size flying) h = record { dirty = h.dirty; large = h.large; turned = h.turned }
     fits (form.InHand stop base flying) h = record { dirty = h.dirty; large = h.large; turned = h.turned; at_end = h.at_end }
 
 unsaved_moved_in : (t : TreeState) (w : Writer) (place : ℕ) (u : Option UnsavedContents) → AreOptionalUnsavedContentsOfWriter t w u → AreOptionalUnsavedContentsOfWriter t (record w { position = place }) u
 unsaved_moved_in t w place None h = tt
-unsaved_moved_in t w place (Some u) h = record { over = h.over; kept = kept_moved t.disk.block_size place (storage_form_of_contents u.contents) (writer_view t w) h.kept; form = h.form; room = h.room }
+unsaved_moved_in t w place (Some u) h = record { over = h.over; kept = kept_moved t.disk.profile t.disk.block_size place (storage_form_of_contents u.contents) (writer_view t w) h.kept; form = h.form; room = h.room }
 
 written_moved : (t : TreeState) (fs : RuntimeOpenFilesByNumber) (fd position : ℕ) → AllByRecursion (IsWriterOverWritableImage t) (writers_among fs) → AllByRecursion (IsWriterOverWritableImage t) (writers_among (set fs fd (option_map (open_file_with_position position) (open_file_at fs fd))))
 written_moved t [] fd position h = h
@@ -436,8 +437,8 @@ busy_at t fs bytes p b is e =
     e ∙ busy t fs (path_of_bytes_or_root bytes)
     ∙ ap (λ q. list_any (λ w. same_path q w.path) (writers_of_open_files (open_files_view t fs)) || nat_le 16 (length (readers_of_open_files (open_files_view t fs)))) (ap (λ z. unwrap_or z []) (sym is))
 
-pub lacks_is : (t : TreeState) (fs : RuntimeOpenFilesByNumber) (need : ℕ) → IsSessionReadyForCalls t fs → nat_lt (block_count t.disk) (length (disk_summary_of_tree t).used + blocks_reserved_by_writers t.disk.block_size fs + need) ≡ lacks_free_blocks (disk_summary_of_tree t) (open_files_view t fs) need
-lacks_is t fs need ready = ap (λ h. nat_lt (block_count t.disk) (length (disk_summary_of_tree t).used + h + need)) (held_is t.disk.block_size t fs ready)
+pub lacks_is : (t : TreeState) (fs : RuntimeOpenFilesByNumber) (need : ℕ) → IsSessionReadyForCalls t fs → nat_lt (block_count t.disk) (length (disk_summary_of_tree t).used + blocks_reserved_by_writers t.disk.profile t.disk.block_size fs + need) ≡ lacks_free_blocks (disk_summary_of_tree t) (open_files_view t fs) need
+lacks_is t fs need ready = ap (λ h. nat_lt (block_count t.disk) (length (disk_summary_of_tree t).used + h + need)) (held_is t.disk.profile t.disk.block_size t fs ready)
 
 pub some_reader : (t : TreeState) (fs : RuntimeOpenFilesByNumber) (fd : ℕ) (r : Reader) → Some r ≡ reader_of_open_file_or_none (open_file_at fs fd) → Some (reader_view r) ≡ reader_of_open_file (open_file_with_number (open_files_view t fs) fd)
 some_reader t fs fd r e = ap (option_map reader_view) e ∙ sym (ap reader_of_open_file (file_is t fs fd) ∙ reader_is t (open_file_at fs fd))

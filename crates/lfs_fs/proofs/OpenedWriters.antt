@@ -50,7 +50,7 @@ pub record IsPassed (h : SessionView) (bytes : List ℕ) (p : Path) (flags : Fla
   pub writable : h.tree.writable ≡ true
   pub given : is_some (path_of_bytes bytes) ≡ true
   pub parents : refusal_unless_parents_are_directories (tree_view h.tree) [] p ≡ None
-  pub name : (is_none (tree_view h.tree p) && flags.create && has_too_long_last_name p) ≡ false
+  pub name : (is_none (tree_view h.tree p) && flags.create && has_too_long_last_name (disk_summary_of_tree h.tree) p) ≡ false
   pub creates : (is_none (tree_view h.tree p) && not flags.create) ≡ false
   pub directory : is_directory (tree_view h.tree p) ≡ false
   pub few : nat_lt 0 (length (writers_of_open_files h.files)) ≡ false
@@ -152,10 +152,10 @@ can_create t mid fs bytes flags p ready asked e write is sizes =
       works = passed.works;
       writable = passed.writable;
       parents = passed.parents;
-      name = sym (ap₂ (λ x c. x && c && has_too_long_last_name (path_of_bytes_or_root bytes)) absent creates) ∙ passed.name;
+      name = sym (ap₂ (λ x c. x && c && has_too_long_last_name (disk_summary_of_tree t) (path_of_bytes_or_root bytes)) absent creates) ∙ passed.name;
       nothing = ap is_some none;
       fits = sym (ap (λ x. x && is_entry_over_charge_limit (disk_summary_of_tree t) (last_name_of_path (path_of_bytes_or_root bytes)) []) absent) ∙ passed.fits;
-      room = room_left (block_count t.disk) (length (disk_summary_of_tree t).used) (reserved_block_count_of_writers t.disk.block_size (open_files_view t fs)) (in_flight_block_count t.map) 2 ((ready passed.works).idle (none_saved fs (no_writer t fs bytes flags write e)))
+      room = room_left (block_count t.disk) (length (disk_summary_of_tree t).used) (reserved_block_count_of_writers t.disk.profile t.disk.block_size (open_files_view t fs)) (in_flight_block_count t.map) 2 ((ready passed.works).idle (none_saved fs (no_writer t fs bytes flags write e)))
           (sym (ap (λ x. x && lacks_free_blocks (disk_summary_of_tree t) (open_files_view t fs) 2) absent) ∙ passed.room);
     }))
   where

@@ -76,7 +76,7 @@ remount_fails : (e : Error) (old : SessionView) (new : TreeState) (files : OpenF
 remount_fails e old new files broken error = record {
   fails = record {
     failed = ap (λ (m : SystemState). m.state) (failed_system (session_view_of_tree_and_files_view new files) broken.failed);
-    geometry = subst (λ d. SameGeometry old.tree.disk d) (sym broken.disk) (record { block_size = refl; page = refl; order = refl; count = refl });
+    geometry = subst (λ d. SameGeometry old.tree.disk d) (sym broken.disk) (record { block_size = refl; page = refl; order = refl; profile = refl; count = refl });
     calls = broken.reads.events;
     called = broken.reads.extends;
     asks = λ s f a. (broken.disk, writes);

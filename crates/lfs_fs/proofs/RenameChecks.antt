@@ -4,10 +4,10 @@ use Rattle.std.specs.Prelude.{IfSome, IsSome}
 use Rattle.lfs_device.specs.declared.error.Error.{Error}
 use Rattle.lfs_model.specs.TreeEdits.{attributes_of_node, is_path_beneath, last_name_of_path, names_of_directory_node, same_path}
 use Rattle.lfs_model.specs.BlockSets.{in_flight_block_count}
-use Rattle.lfs_model.specs.Disk.{block_count}
+use Rattle.lfs_model.specs.Disk.{block_count, name_max_of}
 use Rattle.lfs_model.specs.Operations as ops
 use Rattle.lfs_model.specs.Operations.{Operation, Refusal, path_of_bytes}
-use Rattle.lfs_model.specs.Session.{first_refusal_in_list, reserved_block_count_of_writers, has_open_file_with_path_satisfying, is_entry_over_charge_limit, lacks_free_blocks, refuse_if}
+use Rattle.lfs_model.specs.Session.{first_refusal_in_list, reserved_block_count_of_writers, has_too_long_last_name, has_open_file_with_path_satisfying, is_entry_over_charge_limit, lacks_free_blocks, refuse_if}
 use Rattle.lfs_model.specs.Slots.{Attributes, attributes_size, zero_gstate}
 use Rattle.lfs_model.specs.Thread.{gstate_of_pairs}
 use Rattle.lfs_model.specs.Refusals.{path_of_bytes_or_root, is_root_path}
@@ -36,7 +36,7 @@ use Rattle.lfs_fs.proofs.EntryPaths.{is_entry, root_false}
 
 abbrev checks_of : SessionView → Path → Path → FoundNode → FoundNode → List (Option Refusal)
 checks_of h p q entry target =
-    entry.fault ∷ target.fault ∷ refuse_if (nat_lt 255 (length (last_name_of_path q))) ops.NameTooLong ∷ refuse_if (is_absent_node entry.node) ops.NoEnt
+    entry.fault ∷ target.fault ∷ refuse_if (has_too_long_last_name (disk_summary_of_tree h.tree) q) ops.NameTooLong ∷ refuse_if (is_absent_node entry.node) ops.NoEnt
     ∷ refuse_if (not (same_path p q) && is_directory_node entry.node && is_file_node target.node) ops.NotDir ∷ refuse_if (not (same_path p q) && is_file_node entry.node && is_directory_node target.node) ops.IsDir
     ∷ refuse_if (not (same_path p q) && has_entry_beneath_path (tree_view h.tree) q) ops.NotEmpty ∷ refuse_if (has_open_file_with_path_satisfying (open_file_path_prevents_rename p q) h.files) ops.Busy
     ∷ refuse_if (not (same_path p q) && is_entry_over_charge_limit (disk_summary_of_tree h.tree) (last_name_of_path q) (attributes_of_node (tree_view h.tree p))) ops.EntryFull ∷ refuse_if (lacks_free_blocks (disk_summary_of_tree h.tree) h.files 2) ops.NoSpace ∷ []
@@ -47,9 +47,9 @@ rename_refused h old new p q entry target works writable is are one two apart f 
     rw (works, writable, is, are, one, two, apart, f.parents, g.parents, f.nothing, f.directories, g.files, f.files, g.directories) refl
 
 -- by what is at the two paths, the checks behind the look-up are those
-pub found_refused : (t : TreeState) (files : RuntimeOpenFilesByNumber) (old new : List ℕ) (paths : RenamePaths) (found : RenameFindings) (len : ℕ) (absent one two three over four lack busy : Bool)
+pub found_refused : (t : TreeState) (files : RuntimeOpenFilesByNumber) (old new : List ℕ) (paths : RenamePaths) (found : RenameFindings) (len : ℕ) (long absent one two three over four lack busy : Bool)
     (a b c d e f i j : Option Refusal) → PassesRenameChecksWithoutLookUp t old new paths → AreFindingsAtBothRenamePaths (tree_view t) paths.from paths.to found →
-    len ≡ length (last_name_of_path paths.to) → a ≡ refuse_if (nat_lt 255 len) ops.NameTooLong →
+    len ≡ length (last_name_of_path paths.to) → long ≡ nat_lt (name_max_of t.disk.profile) len → a ≡ refuse_if long ops.NameTooLong →
     absent ≡ is_absent_node found.entry.node → b ≡ refuse_if absent ops.NoEnt →
     one ≡ (not paths.is_same && is_directory_node found.entry.node && is_file_node found.target.finding.node) → c ≡ refuse_if one ops.NotDir →
     two ≡ (not paths.is_same && is_file_node found.entry.node && is_directory_node found.target.finding.node) → d ≡ refuse_if two ops.IsDir →
@@ -58,8 +58,8 @@ pub found_refused : (t : TreeState) (files : RuntimeOpenFilesByNumber) (old new 
     ((name : List ℕ) (attributes : Attributes) → length name ≡ len → attributes_size attributes ≡ found.attributes_size → over ≡ is_entry_over_charge_limit (disk_summary_of_tree t) name attributes) → four ≡ (not paths.is_same && over) → i ≡ refuse_if four ops.EntryFull →
     lack ≡ lacks_free_blocks (disk_summary_of_tree t) (open_files_view t files) 2 → j ≡ refuse_if lack ops.NoSpace →
     first_refusal_in_list (found.entry.fault ∷ found.target.finding.fault ∷ a ∷ b ∷ c ∷ d ∷ e ∷ f ∷ i ∷ j ∷ []) ≡ refusal_by_checks (session_view_of_tree_and_files t files) (ops.Rename old new)
-found_refused t files old new paths found len absent one two three over four lack busy a b c d e f i j
-    passes there len_is a_is absent_is b_is one_is c_is two_is d_is three_is e_is busy_is f_is over_is four_is i_is lack_is j_is =
+found_refused t files old new paths found len long absent one two three over four lack busy a b c d e f i j
+    passes there len_is long_is a_is absent_is b_is one_is c_is two_is d_is three_is e_is busy_is f_is over_is four_is i_is lack_is j_is =
     ap first_refusal_in_list lists
     ∙ sym (rename_refused h old new p q found.entry found.target.finding passes.works passes.writable from to (root_false old p (sym passes.from)) (root_false new q (sym passes.to)) (ap₂ is_path_beneath (sym from_path) (sym to_path) ∙ passes.apart) there.entry there.target)
   where
@@ -88,7 +88,7 @@ found_refused t files old new paths found len absent one two three over four lac
     other_is_not = ap not (passes.same ∙ ap₂ same_path from_path to_path)
 
     lists : (found.entry.fault ∷ found.target.finding.fault ∷ a ∷ b ∷ c ∷ d ∷ e ∷ f ∷ i ∷ j ∷ []) ≡ checks_of h p q found.entry found.target.finding
-    lists = both refl (both refl (both (when ops.NameTooLong a_is (ap (nat_lt 255) len_is)) (both (when ops.NoEnt b_is absent_is)
+    lists = both refl (both refl (both (when ops.NameTooLong a_is (long_is ∙ ap (nat_lt (name_max_of t.disk.profile)) len_is)) (both (when ops.NoEnt b_is absent_is)
         (both (when ops.NotDir c_is (one_is ∙ ap (λ z. z && is_directory_node found.entry.node && is_file_node found.target.finding.node) other_is_not))
         (both (when ops.IsDir d_is (two_is ∙ ap (λ z. z && is_file_node found.entry.node && is_directory_node found.target.finding.node) other_is_not))
         (both (when ops.NotEmpty e_is (three_is ∙ ap₂ (λ y z. y && z) other_is_not there.has))
@@ -124,7 +124,7 @@ rename_checked t files old new paths tree refusal x r passes asked refusal_is x_
 -- ---- what no check refuses
 
 record HasPassed (h : SessionView) (old new : List ℕ) : Type 0 where
-  can : in_flight_block_count h.tree.map ≤ reserved_block_count_of_writers h.tree.disk.block_size h.files → CanRenamePath h.tree (path_of_bytes_or_root old) (path_of_bytes_or_root new)
+  can : in_flight_block_count h.tree.map ≤ reserved_block_count_of_writers h.tree.disk.profile h.tree.disk.block_size h.files → CanRenamePath h.tree (path_of_bytes_or_root old) (path_of_bytes_or_root new)
   closed : has_open_file_with_path_satisfying (open_file_path_prevents_rename (path_of_bytes_or_root old) (path_of_bytes_or_root new)) h.files ≡ false
   space : lacks_free_blocks (disk_summary_of_tree h.tree) h.files 2 ≡ false
   bare : (not (same_path (path_of_bytes_or_root old) (path_of_bytes_or_root new)) && nat_lt 0 (length (names_of_directory_node (tree_view h.tree (path_of_bytes_or_root new))))) ≡ false
@@ -173,7 +173,7 @@ passed h old new e =
         file = file;
         empty = bare;
         fits = fits;
-        room = room_left (block_count h.tree.disk) (length (disk_summary_of_tree h.tree).used) (reserved_block_count_of_writers h.tree.disk.block_size h.files) (in_flight_block_count h.tree.map) 2 idle some;
+        room = room_left (block_count h.tree.disk) (length (disk_summary_of_tree h.tree).used) (reserved_block_count_of_writers h.tree.disk.profile h.tree.disk.block_size h.files) (in_flight_block_count h.tree.map) 2 idle some;
       };
       closed = closed;
       space = some;
@@ -189,7 +189,7 @@ rename_closed h old new e = (passed h old new e).closed
 pub rename_bare : (h : SessionView) (old new : List ℕ) → refusal_by_checks h (ops.Rename old new) ≡ None → (not (same_path (path_of_bytes_or_root old) (path_of_bytes_or_root new)) && nat_lt 0 (length (names_of_directory_node (tree_view h.tree (path_of_bytes_or_root new))))) ≡ false
 rename_bare h old new e = (passed h old new e).bare
 
-pub rename_can : (h : SessionView) (old new : List ℕ) (from to : Path) (tree : TreeState) → (h.tree.failed ≡ false → in_flight_block_count h.tree.map ≤ reserved_block_count_of_writers h.tree.disk.block_size h.files) → WasTreeOnlyRead h.tree tree → refusal_by_checks h (ops.Rename old new) ≡ None → from ≡ path_of_bytes_or_root old → to ≡ path_of_bytes_or_root new → CanRenamePath tree from to
+pub rename_can : (h : SessionView) (old new : List ℕ) (from to : Path) (tree : TreeState) → (h.tree.failed ≡ false → in_flight_block_count h.tree.map ≤ reserved_block_count_of_writers h.tree.disk.profile h.tree.disk.block_size h.files) → WasTreeOnlyRead h.tree tree → refusal_by_checks h (ops.Rename old new) ≡ None → from ≡ path_of_bytes_or_root old → to ≡ path_of_bytes_or_root new → CanRenamePath tree from to
 rename_can h old new from to tree idle asked e is are =
     let can = (passed h old new e).can (idle (not_failed h (ops.Rename old new) e)) in
     subst (λ z. CanRenamePath tree z to) (sym is) (subst (λ z. CanRenamePath tree (path_of_bytes_or_root old) z) (sym are)

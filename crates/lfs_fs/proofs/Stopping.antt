@@ -74,7 +74,7 @@ some_since events old new e = record { events = events; extends = e; each = all_
     all_some (e ∷ older) = (tt, all_some older)
 
 pub same_blocks : (disk new : Disk) (blocks : Blocks) → SameGeometry disk new → disk_with_blocks blocks new ≡ disk_with_blocks blocks disk
-same_blocks disk new blocks g = λ j. record { block_size = g.block_size j; page = g.page j; order = g.order j; blocks = blocks }
+same_blocks disk new blocks g = λ j. record { block_size = g.block_size j; page = g.page j; order = g.order j; profile = g.profile j; blocks = blocks }
 
 -- the tree from before is left, so it is also one of two
 left_still : (before after : Tree) (left : Disk) → HasTreeBeforeOrAfterOperation left before before → HasTreeBeforeOrAfterOperation left before after
@@ -102,7 +102,7 @@ pub nothing_yet : (t : TreeState) → IsSoundTreeState t → t.writable ≡ true
 nothing_yet t sound writable = record {
   sound = sound;
   writable = writable;
-  geometry = record { block_size = refl; page = refl; order = refl; count = refl };
+  geometry = record { block_size = refl; page = refl; order = refl; profile = refl; count = refl };
   tree = refl;
   calls = [];
   called = refl;

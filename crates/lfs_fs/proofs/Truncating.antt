@@ -5,7 +5,7 @@ use Rattle.std.specs.List.{AllByRecursion, list_any}
 use Rattle.std.specs.Option.{option_map}
 use Rattle.std.proofs.lemmas.Bool.{eq-eqb, lt-ltb, ltb-false}
 use Rattle.std.proofs.lemmas.List.{map-set}
-use Rattle.lfs_model.specs.Disk.{file_size_limit}
+use Rattle.lfs_model.specs.Disk.{file_max_of}
 use Rattle.lfs_model.specs.Operations as ops
 use Rattle.lfs_model.specs.Operations.{Operation}
 use Rattle.lfs_model.specs.Frame.{needs_no_device_or_memory}
@@ -48,10 +48,10 @@ module _ (t : TreeState) (fs : RuntimeOpenFilesByNumber) (fd size : ℕ) (w : Wr
   seen_there = the_writer t fs fd (Some w) is_writer
 
   checks_are : refusal_by_checks (session_view_of_tree_and_files t fs) (ops.Truncate fd size)
-      ≡ first_refusal_in_list (refuse_if (nat_lt file_size_limit size) ops.TooBig ∷ refuse_if (not (size == length (unsaved_or_tree_bytes_of_writer t w.path w.unsaved)) && overfills_disk (disk_summary_of_tree t) (writer_after_truncate (writer_view t w) size)) ops.NoSpace ∷ [])
+      ≡ first_refusal_in_list (refuse_if (nat_lt (file_max_of t.disk.profile) size) ops.TooBig ∷ refuse_if (not (size == length (unsaved_or_tree_bytes_of_writer t w.path w.unsaved)) && overfills_disk (disk_summary_of_tree t) (writer_after_truncate (writer_view t w) size)) ops.NoSpace ∷ [])
   checks_are = rw (works_now, seen_there) refl
 
-  small_enough : nat_lt file_size_limit size ≡ false
+  small_enough : nat_lt (file_max_of t.disk.profile) size ≡ false
   small_enough = unrefused _ ops.TooBig (neither _ _ (sym checks_are ∙ accepted)).0
 
   has_room : (not (size == length (unsaved_or_tree_bytes_of_writer t w.path w.unsaved)) && overfills_disk (disk_summary_of_tree t) (writer_after_truncate (writer_view t w) size)) ≡ false
@@ -72,7 +72,7 @@ module _ (t : TreeState) (fs : RuntimeOpenFilesByNumber) (fd size : ℕ) (w : Wr
         idle = λ saved. ready.idle (ap (list_any (λ v. is_some v.unsaved)) alone.writers ∙ ap (λ b. b || false) saved);
       };
       other = λ same. absurd (let k = sym other ∙ eq-eqb size w.size same in cc);
-      small = (let l = ltb-false file_size_limit size small_enough in omega (arith, l));
+      small = (let l = ltb-false (file_max_of t.disk.profile) size small_enough in omega (arith, l));
       room = ltb-false _ _ (left (size == length (unsaved_or_tree_bytes_of_writer t w.path w.unsaved)) _ (ap (λ n. size == n) written_now.size ∙ other) has_room);
     }
       where

@@ -1,11 +1,11 @@
 -- The checks of a writer's calls.
-use Rattle.std.proofs.Common.{ℕ, zero, suc, if◌then◌else◌, ◌≡◌, ◌+◌, ◌<◌, ◌≤◌, Bool, true, false, not, max, min, List, [], ◌∷◌, Option, Some, None, length, take, nat_lt, ◌&&◌, ◌||◌, is_some, refl, sym, ap, ap₂, subst, ◌∙◌, arith}
+use Rattle.std.proofs.Common.{ℕ, zero, suc, if◌then◌else◌, ◌≡◌, ◌+◌, ◌≤◌, Bool, true, false, not, max, min, List, [], ◌∷◌, Option, Some, None, length, take, nat_lt, ◌&&◌, ◌||◌, is_some, refl, sym, ap, ap₂, subst, ◌∙◌, arith}
 use Rattle.std.specs.Prelude.{◌==◌}
-use Rattle.std.proofs.lemmas.Bool.{eq-eqb, eqb-true, ne_eqb, ltb-true, lt-ltb}
+use Rattle.std.proofs.lemmas.Bool.{eq-eqb, eqb-true, ne_eqb, lt-ltb}
 use Rattle.std.proofs.lemmas.Option.{same_Some}
 use Rattle.std.specs.List.{AllByRecursion}
 use Rattle.std.specs.Option.{option_map}
-use Rattle.lfs_model.specs.Disk.{block_count, file_size_limit}
+use Rattle.lfs_model.specs.Disk.{block_count, file_max_of}
 use Rattle.lfs_model.specs.Operations as ops
 use Rattle.lfs_model.specs.Session as session
 use Rattle.lfs_model.specs.Writers.{writer_after_truncate, writer_after_write, contents_after_write, bytes_padded_with_zeros, is_nonsequential_write, write_position}
@@ -47,7 +47,7 @@ written_at t (Some (file.Writing v) ∷ fs) (suc fd) w h e = written_at t fs fd 
 -- ---- a write
 
 write_refused : (t : TreeState) (fs : RuntimeOpenFilesByNumber) (fd : ℕ) (bytes : List ℕ) (w : session.FileWriter) (x y : Bool) → false ≡ t.failed → writer_of_open_file (open_file_with_number (open_files_view t fs) fd) ≡ Some w →
-    (nat_lt 0 (length bytes) && nat_lt file_size_limit (write_position w + length bytes)) ≡ x → (nat_lt 0 (length bytes) && overfills_disk (disk_summary_of_tree t) (writer_after_write w bytes)) ≡ y →
+    (nat_lt 0 (length bytes) && nat_lt (file_max_of t.disk.profile) (write_position w + length bytes)) ≡ x → (nat_lt 0 (length bytes) && overfills_disk (disk_summary_of_tree t) (writer_after_write w bytes)) ≡ y →
     refusal_by_checks (session_view_of_tree_and_files t fs) (ops.Write fd bytes) ≡ first_refusal_in_list (refuse_if x ops.TooBig ∷ refuse_if y ops.NoSpace ∷ [])
 write_refused t fs fd bytes w x y works is big full = rw (sym works, is, big, full) refl
 
@@ -57,25 +57,25 @@ write_no_writer t fs fd bytes works none = rw (sym works, the_writer t fs fd Non
 pub write_nothing : (t : TreeState) (fs : RuntimeOpenFilesByNumber) (fd : ℕ) (bytes : List ℕ) (w : Writer) → false ≡ t.failed → Some w ≡ writer_of_open_file_or_none (open_file_at fs fd) → nat_lt 0 (length bytes) ≡ false → refusal_by_checks (session_view_of_tree_and_files t fs) (ops.Write fd bytes) ≡ None
 write_nothing t fs fd bytes w works is none =
     write_refused t fs fd bytes (writer_view t w) false false works (the_writer t fs fd (Some w) is)
-    (ap (λ b. b && nat_lt file_size_limit (write_position (writer_view t w) + length bytes)) none) (ap (λ b. b && overfills_disk (disk_summary_of_tree t) (writer_after_write (writer_view t w) bytes)) none)
+    (ap (λ b. b && nat_lt (file_max_of t.disk.profile) (write_position (writer_view t w) + length bytes)) none) (ap (λ b. b && overfills_disk (disk_summary_of_tree t) (writer_after_write (writer_view t w) bytes)) none)
 
 pub write_too_big : (t : TreeState) (fs : RuntimeOpenFilesByNumber) (fd : ℕ) (bytes : List ℕ) (w : Writer) (place : ℕ) → false ≡ t.failed → IsWriterOverWritableImage t w → Some w ≡ writer_of_open_file_or_none (open_file_at fs fd) → nat_lt 0 (length bytes) ≡ true →
-    place ≡ (if w.appends then w.size else w.position) → nat_lt file_size_limit (place + length bytes) ≡ true → refusal_by_checks (session_view_of_tree_and_files t fs) (ops.Write fd bytes) ≡ Some ops.TooBig
+    place ≡ (if w.appends then w.size else w.position) → nat_lt (file_max_of t.disk.profile) (place + length bytes) ≡ true → refusal_by_checks (session_view_of_tree_and_files t fs) (ops.Write fd bytes) ≡ Some ops.TooBig
 write_too_big t fs fd bytes w place works written is some at big =
     write_refused t fs fd bytes (writer_view t w) true _ works (the_writer t fs fd (Some w) is)
-    (ap₂ (λ a b. a && b) some (ap (λ p. nat_lt file_size_limit (p + length bytes)) (sym (place_is t w place written at)) ∙ big)) refl
+    (ap₂ (λ a b. a && b) some (ap (λ p. nat_lt (file_max_of t.disk.profile) (p + length bytes)) (sym (place_is t w place written at)) ∙ big)) refl
 
 -- what the writer would hold
 overfills_is : (t : TreeState) (w v : session.FileWriter) (turned : Bool) (size : ℕ) → v.dirty ≡ true → v.turned ≡ turned → length v.contents ≡ size →
-    overfills_disk (disk_summary_of_tree t) v ≡ nat_lt (block_count t.disk) (length (disk_summary_of_tree t).used + blocks_reserved_for_size t.disk.block_size turned size)
+    overfills_disk (disk_summary_of_tree t) v ≡ nat_lt (block_count t.disk) (length (disk_summary_of_tree t).used + blocks_reserved_for_size t.disk.profile t.disk.block_size turned size)
 overfills_is t w v turned size dirty is_nonsequential_write long = rw (dirty, is_nonsequential_write, long) refl
 
 pub write_fits : (t : TreeState) (fs : RuntimeOpenFilesByNumber) (fd : ℕ) (bytes : List ℕ) (w : Writer) (place begin size : ℕ) (turned full : Bool) → false ≡ t.failed → IsWriterOverWritableImage t w → Some w ≡ writer_of_open_file_or_none (open_file_at fs fd) → nat_lt 0 (length bytes) ≡ true → 1 ≤ length bytes →
-    place ≡ (if w.appends then w.size else w.position) → nat_lt file_size_limit (place + length bytes) ≡ false → begin ≡ min place w.size → turned ≡ (is_unsaved_nonsequential w.unsaved || is_nonsequential_write (last_change_end_of_unsaved w.unsaved) begin) → size ≡ max w.size (place + length bytes) →
-    full ≡ nat_lt (block_count t.disk) (length (disk_summary_of_tree t).used + blocks_reserved_for_size t.disk.block_size turned size) → refusal_by_checks (session_view_of_tree_and_files t fs) (ops.Write fd bytes) ≡ refuse_if full ops.NoSpace
+    place ≡ (if w.appends then w.size else w.position) → nat_lt (file_max_of t.disk.profile) (place + length bytes) ≡ false → begin ≡ min place w.size → turned ≡ (is_unsaved_nonsequential w.unsaved || is_nonsequential_write (last_change_end_of_unsaved w.unsaved) begin) → size ≡ max w.size (place + length bytes) →
+    full ≡ nat_lt (block_count t.disk) (length (disk_summary_of_tree t).used + blocks_reserved_for_size t.disk.profile t.disk.block_size turned size) → refusal_by_checks (session_view_of_tree_and_files t fs) (ops.Write fd bytes) ≡ refuse_if full ops.NoSpace
 write_fits t fs fd bytes w place begin size turned full works written is some one at small begin_is turned_is size_is full_is =
     write_refused t fs fd bytes (writer_view t w) false full works (the_writer t fs fd (Some w) is)
-    (ap₂ (λ a b. a && b) some (ap (λ p. nat_lt file_size_limit (p + length bytes)) (sym p_is) ∙ small))
+    (ap₂ (λ a b. a && b) some (ap (λ p. nat_lt (file_max_of t.disk.profile) (p + length bytes)) (sym p_is) ∙ small))
     (ap₂ (λ a b. a && b) some (overfills_is t (writer_view t w) (writer_after_write (writer_view t w) bytes) turned size (ap (λ (v : session.FileWriter). v.dirty) after) (ap (λ (v : session.FileWriter). v.turned) after ∙ turn) (ap (λ (v : session.FileWriter). length v.contents) after ∙ long) ∙ sym full_is))
     ∙ left full
   where
@@ -104,23 +104,23 @@ write_fits t fs fd bytes w place begin size turned full works written is some on
 -- ---- a truncation
 
 truncate_refused : (t : TreeState) (fs : RuntimeOpenFilesByNumber) (fd size : ℕ) (w : session.FileWriter) (x y : Bool) → false ≡ t.failed → writer_of_open_file (open_file_with_number (open_files_view t fs) fd) ≡ Some w →
-    nat_lt file_size_limit size ≡ x → (not (size == length w.contents) && overfills_disk (disk_summary_of_tree t) (writer_after_truncate w size)) ≡ y →
+    nat_lt (file_max_of t.disk.profile) size ≡ x → (not (size == length w.contents) && overfills_disk (disk_summary_of_tree t) (writer_after_truncate w size)) ≡ y →
     refusal_by_checks (session_view_of_tree_and_files t fs) (ops.Truncate fd size) ≡ first_refusal_in_list (refuse_if x ops.TooBig ∷ refuse_if y ops.NoSpace ∷ [])
 truncate_refused t fs fd size w x y works is big full = rw (sym works, is, big, full) refl
 
 pub truncate_no_writer : (t : TreeState) (fs : RuntimeOpenFilesByNumber) (fd size : ℕ) → false ≡ t.failed → None ≡ writer_of_open_file_or_none (open_file_at fs fd) → refusal_by_checks (session_view_of_tree_and_files t fs) (ops.Truncate fd size) ≡ Some ops.BadFile
 truncate_no_writer t fs fd size works none = rw (sym works, the_writer t fs fd None none) refl
 
-pub truncate_too_big : (t : TreeState) (fs : RuntimeOpenFilesByNumber) (fd size : ℕ) (w : Writer) → false ≡ t.failed → Some w ≡ writer_of_open_file_or_none (open_file_at fs fd) → nat_lt file_size_limit size ≡ true → refusal_by_checks (session_view_of_tree_and_files t fs) (ops.Truncate fd size) ≡ Some ops.TooBig
+pub truncate_too_big : (t : TreeState) (fs : RuntimeOpenFilesByNumber) (fd size : ℕ) (w : Writer) → false ≡ t.failed → Some w ≡ writer_of_open_file_or_none (open_file_at fs fd) → nat_lt (file_max_of t.disk.profile) size ≡ true → refusal_by_checks (session_view_of_tree_and_files t fs) (ops.Truncate fd size) ≡ Some ops.TooBig
 truncate_too_big t fs fd size w works is big = truncate_refused t fs fd size (writer_view t w) true _ works (the_writer t fs fd (Some w) is) big refl
 
-pub truncate_same : (t : TreeState) (fs : RuntimeOpenFilesByNumber) (fd size : ℕ) (w : Writer) → false ≡ t.failed → IsWriterOverWritableImage t w → Some w ≡ writer_of_open_file_or_none (open_file_at fs fd) → nat_lt file_size_limit size ≡ false → size ≡ w.size → refusal_by_checks (session_view_of_tree_and_files t fs) (ops.Truncate fd size) ≡ None
+pub truncate_same : (t : TreeState) (fs : RuntimeOpenFilesByNumber) (fd size : ℕ) (w : Writer) → false ≡ t.failed → IsWriterOverWritableImage t w → Some w ≡ writer_of_open_file_or_none (open_file_at fs fd) → nat_lt (file_max_of t.disk.profile) size ≡ false → size ≡ w.size → refusal_by_checks (session_view_of_tree_and_files t fs) (ops.Truncate fd size) ≡ None
 truncate_same t fs fd size w works written is small same =
     truncate_refused t fs fd size (writer_view t w) false false works (the_writer t fs fd (Some w) is) small
     (ap (λ b. not b && overfills_disk (disk_summary_of_tree t) (writer_after_truncate (writer_view t w) size)) (eq-eqb size (length (unsaved_or_tree_bytes_of_writer t w.path w.unsaved)) (same ∙ sym written.size)))
 
-pub truncate_fits : (t : TreeState) (fs : RuntimeOpenFilesByNumber) (fd size : ℕ) (w : Writer) (turned full : Bool) → false ≡ t.failed → IsWriterOverWritableImage t w → Some w ≡ writer_of_open_file_or_none (open_file_at fs fd) → nat_lt file_size_limit size ≡ false → (size ≡ w.size → ⊥) →
-    turned ≡ (is_unsaved_nonsequential w.unsaved || is_some (last_change_end_of_unsaved w.unsaved)) → full ≡ nat_lt (block_count t.disk) (length (disk_summary_of_tree t).used + blocks_reserved_for_size t.disk.block_size turned size) →
+pub truncate_fits : (t : TreeState) (fs : RuntimeOpenFilesByNumber) (fd size : ℕ) (w : Writer) (turned full : Bool) → false ≡ t.failed → IsWriterOverWritableImage t w → Some w ≡ writer_of_open_file_or_none (open_file_at fs fd) → nat_lt (file_max_of t.disk.profile) size ≡ false → (size ≡ w.size → ⊥) →
+    turned ≡ (is_unsaved_nonsequential w.unsaved || is_some (last_change_end_of_unsaved w.unsaved)) → full ≡ nat_lt (block_count t.disk) (length (disk_summary_of_tree t).used + blocks_reserved_for_size t.disk.profile t.disk.block_size turned size) →
     refusal_by_checks (session_view_of_tree_and_files t fs) (ops.Truncate fd size) ≡ refuse_if full ops.NoSpace
 truncate_fits t fs fd size w turned full works written is small other turned_is full_is =
     truncate_refused t fs fd size (writer_view t w) false full works (the_writer t fs fd (Some w) is) small
@@ -144,16 +144,6 @@ truncate_fits t fs fd size w turned full works written is small other turned_is 
     left false = refl
 
 -- ---- comparisons
-
-pub above_limit : (n : ℕ) → 2147483647 < n → nat_lt file_size_limit n ≡ true
-above_limit n h = lt-ltb file_size_limit n h
-
-pub within_limit : (n : ℕ) → n ≤ 2147483647 → nat_lt file_size_limit n ≡ false
-within_limit n h = go (nat_lt file_size_limit n) refl
-  where
-    go : (b : Bool) → nat_lt file_size_limit n ≡ b → nat_lt file_size_limit n ≡ false
-    go false e = e
-    go true e = absurd (omega (arith, ltb-true file_size_limit n e, h))
 
 positive : (n : ℕ) → (n == 0) ≡ false → 1 ≤ n
 positive zero e = absurd (cc)

@@ -2,12 +2,13 @@
 use Rattle.std.proofs.Common.{ℕ, ◌≡◌, ◌+◌, ◌*◌, Bool, true, false, not, List, [], ◌∷◌, Option, Some, None, Result, length, nat_lt, nat_le, ◌&&◌, ◌||◌, unwrap_or, is_none, refl, sym, ap, ap₂, ◌∙◌, arith}
 use Rattle.std.specs.Prelude.{if◌then◌else◌, IfSome, IsSome}
 use Rattle.std.proofs.lemmas.Bool.{le-leb}
-use Rattle.lfs_model.specs.Disk.{block_count, inline_limit}
+use Rattle.lfs_model.specs.declared.limits.Profile.{Profile}
+use Rattle.lfs_model.specs.Disk.{block_count, inline_limit, name_max_of}
 use Rattle.lfs_model.specs.SkipLists.{list_block_count_for_size}
 use Rattle.lfs_model.specs.TreeEdits.{file_bytes_of_node, last_name_of_path, same_path}
 use Rattle.lfs_model.specs.Operations as ops
 use Rattle.lfs_model.specs.Operations.{FlagsOfOpen, Refusal, path_of_bytes}
-use Rattle.lfs_model.specs.Session.{first_refusal_in_list, are_flags_allowed, has_too_long_last_name, has_open_file_with_path_satisfying, is_entry_over_charge_limit, lacks_free_blocks, overfills_disk, refuse_if, writers_of_open_files}
+use Rattle.lfs_model.specs.Session.{DiskSummary, first_refusal_in_list, are_flags_allowed, has_too_long_last_name, has_open_file_with_path_satisfying, is_entry_over_charge_limit, lacks_free_blocks, overfills_disk, refuse_if, writers_of_open_files}
 use Rattle.lfs_model.specs.Writers.{writer_after_open}
 use Rattle.lfs_model.specs.Refusals.{path_of_bytes_or_root}
 use Rattle.lfs_model.specs.Effects.{file_size_of_node}
@@ -38,23 +39,23 @@ sized (Some (DirectoryNode attributes names)) = refl
 abbrev needs : Bool → ℕ
 needs b = if b then 2 else 0
 
-anew : (block_size all used : ℕ) (truncate : Bool) (xs : List ℕ) →
+anew : (profile : Profile) (block_size all used : ℕ) (truncate : Bool) (xs : List ℕ) →
     (truncate && nat_lt all (used + needs (nat_lt 0 (length xs))))
     ≡ (truncate && nat_lt all (used + (if not (truncate && nat_lt 0 (length xs)) then 0
-    else 2 + (if false then 2 else 1) * (if nat_le (length (if truncate then [] else xs)) (inline_limit block_size) then 0 else list_block_count_for_size block_size (length (if truncate then [] else xs))))))
-anew block_size all used false xs = refl
-anew block_size all used true xs = go (nat_lt 0 (length xs))
+    else 2 + (if false then 2 else 1) * (if nat_le (length (if truncate then [] else xs)) (inline_limit profile block_size) then 0 else list_block_count_for_size block_size (length (if truncate then [] else xs))))))
+anew profile block_size all used false xs = refl
+anew profile block_size all used true xs = go (nat_lt 0 (length xs))
   where
-    go : (b : Bool) → nat_lt all (used + needs b) ≡ nat_lt all (used + (if not b then 0 else 2 + 1 * (if nat_le 0 (inline_limit block_size) then 0 else list_block_count_for_size block_size 0)))
+    go : (b : Bool) → nat_lt all (used + needs b) ≡ nat_lt all (used + (if not b then 0 else 2 + 1 * (if nat_le 0 (inline_limit profile block_size) then 0 else list_block_count_for_size block_size 0)))
     go false = refl
-    go true = ap (λ z. nat_lt all (used + (2 + 1 * (if z then 0 else list_block_count_for_size block_size 0)))) (sym (le-leb 0 (inline_limit block_size) (omega arith)))
+    go true = ap (λ z. nat_lt all (used + (2 + 1 * (if z then 0 else list_block_count_for_size block_size 0)))) (sym (le-leb 0 (inline_limit profile block_size) (omega arith)))
 
 pub writes_anew : (h : SessionView) (p : Path) (flags : FlagsOfOpen) (size : Option ℕ) (b : Bool) → file_size_of_node (tree_view h.tree p) ≡ size →
     b ≡ nat_lt (block_count h.tree.disk) (length (disk_summary_of_tree h.tree).used + (if nat_lt 0 (unwrap_or size 0) then 2 else 0)) →
     (flags.truncate && b) ≡ (flags.truncate && overfills_disk (disk_summary_of_tree h.tree) (writer_after_open p flags (file_bytes_of_node (tree_view h.tree p))))
 writes_anew h p flags size b sizes is =
     ap (λ z. flags.truncate && z) (is ∙ ap (λ n. nat_lt (block_count h.tree.disk) (length (disk_summary_of_tree h.tree).used + (if nat_lt 0 n then 2 else 0))) (ap (λ s. unwrap_or s 0) (sym sizes) ∙ sized (tree_view h.tree p)))
-    ∙ anew h.tree.disk.block_size (block_count h.tree.disk) (length (disk_summary_of_tree h.tree).used) flags.truncate (file_bytes_of_node (tree_view h.tree p))
+    ∙ anew h.tree.disk.profile h.tree.disk.block_size (block_count h.tree.disk) (length (disk_summary_of_tree h.tree).used) flags.truncate (file_bytes_of_node (tree_view h.tree p))
 
 -- ---- the checks in order
 
@@ -63,14 +64,14 @@ is_busy h p = nat_lt 0 (length (writers_of_open_files h.files)) || has_open_file
 
 writer_refused : (h : SessionView) (bytes : List ℕ) (p : Path) (flags : FlagsOfOpen) (found : FoundNode) → h.tree.failed ≡ false → h.tree.writable ≡ true → path_of_bytes bytes ≡ Some p → flags.write ≡ true → are_flags_allowed flags ≡ true →
     IsFoundNodeAtPath (tree_view h.tree) p found →
-    refusal_by_checks h (ops.Open bytes flags) ≡ first_refusal_in_list (found.fault ∷ refuse_if (is_absent_node found.node && flags.create && has_too_long_last_name p) ops.NameTooLong ∷ refuse_if (is_absent_node found.node && not flags.create) ops.NoEnt
+    refusal_by_checks h (ops.Open bytes flags) ≡ first_refusal_in_list (found.fault ∷ refuse_if (is_absent_node found.node && flags.create && has_too_long_last_name (disk_summary_of_tree h.tree) p) ops.NameTooLong ∷ refuse_if (is_absent_node found.node && not flags.create) ops.NoEnt
     ∷ refuse_if (not (is_absent_node found.node) && flags.exclusive) ops.Exist ∷ refuse_if (is_directory_node found.node) ops.IsDir ∷ refuse_if (is_busy h p) ops.Busy
     ∷ refuse_if (is_absent_node found.node && is_entry_over_charge_limit (disk_summary_of_tree h.tree) (last_name_of_path p) []) ops.EntryFull ∷ refuse_if (is_absent_node found.node && lacks_free_blocks (disk_summary_of_tree h.tree) h.files 2) ops.NoSpace
     ∷ refuse_if (flags.truncate && overfills_disk (disk_summary_of_tree h.tree) (writer_after_open p flags (file_bytes_of_node (tree_view h.tree p)))) ops.NoSpace ∷ [])
 writer_refused h bytes p flags found works writable is write allowed f = go (is_none (tree_view h.tree p)) refl
   where
     go : (b : Bool) → is_none (tree_view h.tree p) ≡ b →
-        refusal_by_checks h (ops.Open bytes flags) ≡ first_refusal_in_list (found.fault ∷ refuse_if (is_absent_node found.node && flags.create && has_too_long_last_name p) ops.NameTooLong ∷ refuse_if (is_absent_node found.node && not flags.create) ops.NoEnt
+        refusal_by_checks h (ops.Open bytes flags) ≡ first_refusal_in_list (found.fault ∷ refuse_if (is_absent_node found.node && flags.create && has_too_long_last_name (disk_summary_of_tree h.tree) p) ops.NameTooLong ∷ refuse_if (is_absent_node found.node && not flags.create) ops.NoEnt
         ∷ refuse_if (not (is_absent_node found.node) && flags.exclusive) ops.Exist ∷ refuse_if (is_directory_node found.node) ops.IsDir ∷ refuse_if (is_busy h p) ops.Busy
         ∷ refuse_if (is_absent_node found.node && is_entry_over_charge_limit (disk_summary_of_tree h.tree) (last_name_of_path p) []) ops.EntryFull ∷ refuse_if (is_absent_node found.node && lacks_free_blocks (disk_summary_of_tree h.tree) h.files 2) ops.NoSpace
         ∷ refuse_if (flags.truncate && overfills_disk (disk_summary_of_tree h.tree) (writer_after_open p flags (file_bytes_of_node (tree_view h.tree p)))) ops.NoSpace ∷ [])
@@ -82,11 +83,11 @@ three true true c = refl
 three true false c = refl
 three false b c = refl
 
-pub writer_checked : (h : SessionView) (bytes : List ℕ) (p : Path) (flags : FlagsOfOpen) (found : FoundNode) (tree : TreeState) (size : Option ℕ) (long other : ℕ) (absent create exclusive truncate directory busy over lack full c1 c2 c3 c4 c6 c7 c8 : Bool)
+pub writer_checked : (h : SessionView) (bytes : List ℕ) (p : Path) (flags : FlagsOfOpen) (found : FoundNode) (tree : TreeState) (size : Option ℕ) (len other : ℕ) (long absent create exclusive truncate directory busy over lack full c1 c2 c3 c4 c6 c7 c8 : Bool)
     (r1 r2 r3 r4 r5 r6 r7 r8 : Option Refusal) (target : Option PathLookup) (r : Result WritableFile Error) →
     false ≡ h.tree.failed → true ≡ h.tree.writable → Some p ≡ path_of_bytes bytes → flags.write ≡ true → true ≡ are_flags_allowed flags → WasTreeOnlyRead h.tree tree → IsFoundNodeAtPath (tree_view h.tree) p found →
     absent ≡ is_absent_node found.node → size ≡ size_of_node_if_file found.node → create ≡ flags.create → exclusive ≡ flags.exclusive → truncate ≡ flags.truncate →
-    long ≡ length (last_name_of_path p) → c1 ≡ (absent && create) → c2 ≡ (c1 && nat_lt 255 long) → r1 ≡ refuse_if c2 ops.NameTooLong →
+    len ≡ length (last_name_of_path p) → c1 ≡ (absent && create) → long ≡ nat_lt (name_max_of tree.disk.profile) len → c2 ≡ (c1 && long) → r1 ≡ refuse_if c2 ops.NameTooLong →
     c3 ≡ (absent && not create) → r2 ≡ refuse_if c3 ops.NoEnt → c4 ≡ (not absent && exclusive) → r3 ≡ refuse_if c4 ops.Exist →
     directory ≡ is_directory_node found.node → r4 ≡ refuse_if directory ops.IsDir → busy ≡ is_busy h p → r5 ≡ refuse_if busy ops.Busy →
     other ≡ length (last_name_of_path p) → ((name : List ℕ) → length name ≡ other → over ≡ is_entry_over_charge_limit (disk_summary_of_tree tree) name []) → c6 ≡ (absent && over) → r6 ≡ refuse_if c6 ops.EntryFull →
@@ -94,8 +95,8 @@ pub writer_checked : (h : SessionView) (bytes : List ℕ) (p : Path) (flags : Fl
     full ≡ nat_lt (block_count tree.disk) (length (disk_summary_of_tree tree).used + (if nat_lt 0 (unwrap_or size 0) then 2 else 0)) → c8 ≡ (truncate && full) → r8 ≡ refuse_if c8 ops.NoSpace →
     IfSome target (IsLookupResultAtCreationPath (kept_thread_of_tree_state tree) p) → (gstate_of_pairs tree.pairs ≡ zero_gstate → IsSome target) →
     r ≡ value_unless_refused (first_refusal_in_list (found.fault ∷ r1 ∷ r2 ∷ r3 ∷ r4 ∷ r5 ∷ r6 ∷ r7 ∷ r8 ∷ [])) (record { path = p; size = size; target = target }) → IsResultOfOperationChecks h (ops.Open bytes flags) (IsWritableFileAtPathInTree (tree_view h.tree) tree bytes) r tree
-writer_checked h bytes p flags found tree size long other absent create exclusive truncate directory busy over lack full c1 c2 c3 c4 c6 c7 c8 r1 r2 r3 r4 r5 r6 r7 r8 target r works writable is write allowed asked f
-    absent_is size_is create_is exclusive_is truncate_is long_is c1_is c2_is r1_is c3_is r2_is c4_is r3_is directory_is r4_is busy_is r5_is other_is over_is c6_is r6_is lack_is c7_is r7_is full_is c8_is r8_is target_is handed_on r_is =
+writer_checked h bytes p flags found tree size len other long absent create exclusive truncate directory busy over lack full c1 c2 c3 c4 c6 c7 c8 r1 r2 r3 r4 r5 r6 r7 r8 target r works writable is write allowed asked f
+    absent_is size_is create_is exclusive_is truncate_is len_is c1_is long_is c2_is r1_is c3_is r2_is c4_is r3_is directory_is r4_is busy_is r5_is other_is over_is c6_is r6_is lack_is c7_is r7_is full_is c8_is r8_is target_is handed_on r_is =
     decided h (ops.Open bytes flags) (IsWritableFileAtPathInTree (tree_view h.tree) tree bytes) (record { path = p; size = size; target = target }) _ tree r asked (writer_late h bytes p flags works writable is write allowed)
     (writer_refused h bytes p flags found (sym works) (sym writable) (sym is) write (sym allowed) f ∙ ap first_refusal_in_list (sym lists))
     (λ none. record { path = ap (λ z. unwrap_or z []) is; size = f.sizes ∙ sym size_is; target = target_is; handed_on = handed_on }) r_is
@@ -106,12 +107,12 @@ writer_checked h bytes p flags found tree size long other absent create exclusiv
     full_as : full ≡ nat_lt (block_count h.tree.disk) (length (disk_summary_of_tree h.tree).used + (if nat_lt 0 (unwrap_or size 0) then 2 else 0))
     full_as = full_is ∙ ap (λ a. nat_lt a.block_count (length a.used + (if nat_lt 0 (unwrap_or size 0) then 2 else 0))) same
 
-    lists : (found.fault ∷ r1 ∷ r2 ∷ r3 ∷ r4 ∷ r5 ∷ r6 ∷ r7 ∷ r8 ∷ []) ≡ (found.fault ∷ refuse_if (is_absent_node found.node && flags.create && has_too_long_last_name p) ops.NameTooLong ∷ refuse_if (is_absent_node found.node && not flags.create) ops.NoEnt
+    lists : (found.fault ∷ r1 ∷ r2 ∷ r3 ∷ r4 ∷ r5 ∷ r6 ∷ r7 ∷ r8 ∷ []) ≡ (found.fault ∷ refuse_if (is_absent_node found.node && flags.create && has_too_long_last_name (disk_summary_of_tree h.tree) p) ops.NameTooLong ∷ refuse_if (is_absent_node found.node && not flags.create) ops.NoEnt
         ∷ refuse_if (not (is_absent_node found.node) && flags.exclusive) ops.Exist ∷ refuse_if (is_directory_node found.node) ops.IsDir ∷ refuse_if (is_busy h p) ops.Busy
         ∷ refuse_if (is_absent_node found.node && is_entry_over_charge_limit (disk_summary_of_tree h.tree) (last_name_of_path p) []) ops.EntryFull ∷ refuse_if (is_absent_node found.node && lacks_free_blocks (disk_summary_of_tree h.tree) h.files 2) ops.NoSpace
         ∷ refuse_if (flags.truncate && overfills_disk (disk_summary_of_tree h.tree) (writer_after_open p flags (file_bytes_of_node (tree_view h.tree p)))) ops.NoSpace ∷ [])
     lists = both refl
-        (both (when ops.NameTooLong r1_is (c2_is ∙ ap₂ (λ a b. a && b) (c1_is ∙ ap₂ (λ a b. a && b) absent_is create_is) (ap (nat_lt 255) long_is) ∙ three (is_absent_node found.node) flags.create (has_too_long_last_name p)))
+        (both (when ops.NameTooLong r1_is (c2_is ∙ ap₂ (λ a b. a && b) (c1_is ∙ ap₂ (λ a b. a && b) absent_is create_is) (long_is ∙ ap₂ (λ (around : DiskSummary) n. nat_lt (name_max_of around.profile) n) same len_is) ∙ three (is_absent_node found.node) flags.create (has_too_long_last_name (disk_summary_of_tree h.tree) p)))
         (both (when ops.NoEnt r2_is (c3_is ∙ ap₂ (λ a b. a && not b) absent_is create_is))
         (both (when ops.Exist r3_is (c4_is ∙ ap₂ (λ a b. not a && b) absent_is exclusive_is))
         (both (when ops.IsDir r4_is directory_is)

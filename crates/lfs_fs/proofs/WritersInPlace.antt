@@ -44,9 +44,9 @@ has_contents t w unsaved can is = subst (λ u. HasFileUnderUnsavedContents t w.p
 pub has_size : (t : TreeState) (w : Writer) (unsaved : Option UnsavedContents) → CanChangeWriter t w → unsaved ≡ w.unsaved → length (unsaved_or_tree_bytes_of_writer t w.path unsaved) ≡ w.size
 has_size t w unsaved can is = ap (λ u. length (unsaved_or_tree_bytes_of_writer t w.path u)) is ∙ can.written.size
 
-pub same_form : (t : TreeState) (w : Writer) (unsaved : Option UnsavedContents) (c : WriterContents) → unsaved ≡ w.unsaved → IsStorageFormOfOptionalUnsavedContents t.disk.block_size unsaved (length (unsaved_or_tree_bytes_of_writer t w.path unsaved)) (storage_form_of_contents c) →
-    IsStorageFormOfOptionalUnsavedContents t.disk.block_size w.unsaved (length (unsaved_or_tree_bytes_of_writer t w.path w.unsaved)) (storage_form_of_contents c)
-same_form t w unsaved c is h = subst (λ u. IsStorageFormOfOptionalUnsavedContents t.disk.block_size u (length (unsaved_or_tree_bytes_of_writer t w.path u)) (storage_form_of_contents c)) is h
+pub same_form : (t : TreeState) (w : Writer) (unsaved : Option UnsavedContents) (c : WriterContents) → unsaved ≡ w.unsaved → IsStorageFormOfOptionalUnsavedContents t.disk.profile t.disk.block_size unsaved (length (unsaved_or_tree_bytes_of_writer t w.path unsaved)) (storage_form_of_contents c) →
+    IsStorageFormOfOptionalUnsavedContents t.disk.profile t.disk.block_size w.unsaved (length (unsaved_or_tree_bytes_of_writer t w.path w.unsaved)) (storage_form_of_contents c)
+same_form t w unsaved c is h = subst (λ u. IsStorageFormOfOptionalUnsavedContents t.disk.profile t.disk.block_size u (length (unsaved_or_tree_bytes_of_writer t w.path u)) (storage_form_of_contents c)) is h
 
 pub same_bytes : (t : TreeState) (w : Writer) (unsaved : Option UnsavedContents) (bytes : List ℕ) → unsaved ≡ w.unsaved → bytes ≡ unsaved_or_tree_bytes_of_writer t w.path unsaved → bytes ≡ unsaved_or_tree_bytes_of_writer t w.path w.unsaved
 same_bytes t w unsaved bytes is e = subst (λ u. bytes ≡ unsaved_or_tree_bytes_of_writer t w.path u) is e

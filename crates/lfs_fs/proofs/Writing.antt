@@ -8,6 +8,7 @@ use Rattle.lfs_model.specs.TreeEdits.{file_bytes_of_node, tree_after_change_of_n
 use Rattle.lfs_model.specs.Effects.{node_with_bytes}
 use Rattle.lfs_model.proofs.Paths.{path_itself}
 use Rattle.std.specs.Option.{option_map}
+use Rattle.lfs_model.specs.declared.limits.Profile.{Profile}
 use Rattle.lfs_model.specs.Disk.{SameGeometry, block_count, inline_limit}
 use Rattle.lfs_model.specs.Session as session
 use Rattle.lfs_model.specs.Writers.{writer_after_sync, writer_after_truncate, writer_after_write, contents_after_write, is_nonsequential_write, write_position, bytes_padded_with_zeros}
@@ -121,16 +122,16 @@ settle_truncated limit size f v other h = first (size == contents_size_of_storag
 pub changed_in : (t : TreeState) (w : Writer) (u : UnsavedContents) → AreOptionalUnsavedContentsOfWriter t w w.unsaved → w.unsaved ≡ Some u → AreUnsavedContentsOfWriter t w u
 changed_in t w u h e = subst (AreOptionalUnsavedContentsOfWriter t w) e h
 
-pub kept_by_form : (t : TreeState) (w : Writer) (shape : ContentsStorageForm) → IsWriterOverWritableImage t w → IsStorageFormOfOptionalUnsavedContents t.disk.block_size w.unsaved (length (unsaved_or_tree_bytes_of_writer t w.path w.unsaved)) shape → IsStorageFormOfWriterContents t.disk.block_size shape (writer_view t w)
+pub kept_by_form : (t : TreeState) (w : Writer) (shape : ContentsStorageForm) → IsWriterOverWritableImage t w → IsStorageFormOfOptionalUnsavedContents t.disk.profile t.disk.block_size w.unsaved (length (unsaved_or_tree_bytes_of_writer t w.path w.unsaved)) shape → IsStorageFormOfWriterContents t.disk.profile t.disk.block_size shape (writer_view t w)
 kept_by_form t w shape opened h = go w.unsaved refl h
   where
-    go : (u : Option UnsavedContents) → w.unsaved ≡ u → IsStorageFormOfOptionalUnsavedContents t.disk.block_size u (length (unsaved_or_tree_bytes_of_writer t w.path w.unsaved)) shape → IsStorageFormOfWriterContents t.disk.block_size shape (writer_view t w)
-    go None e (inl k) = subst (λ f. IsStorageFormOfWriterContents t.disk.block_size f (writer_view t w)) (sym k.0) (record { size = refl; fits = k.1 })
-    go None e (inr k) = subst (λ f. IsStorageFormOfWriterContents t.disk.block_size f (writer_view t w)) (sym k) (record {
+    go : (u : Option UnsavedContents) → w.unsaved ≡ u → IsStorageFormOfOptionalUnsavedContents t.disk.profile t.disk.block_size u (length (unsaved_or_tree_bytes_of_writer t w.path w.unsaved)) shape → IsStorageFormOfWriterContents t.disk.profile t.disk.block_size shape (writer_view t w)
+    go None e (inl k) = subst (λ f. IsStorageFormOfWriterContents t.disk.profile t.disk.block_size f (writer_view t w)) (sym k.0) (record { size = refl; fits = k.1 })
+    go None e (inr k) = subst (λ f. IsStorageFormOfWriterContents t.disk.profile t.disk.block_size f (writer_view t w)) (sym k) (record {
       size = refl;
       fits = record { dirty = λ z. absurd (cc); large = λ z. absurd (cc); turned = λ z. absurd (cc) };
     })
-    go (Some u) e k = subst (λ f. IsStorageFormOfWriterContents t.disk.block_size f (writer_view t w)) (sym k) (changed_in t w u opened.changed e).kept
+    go (Some u) e k = subst (λ f. IsStorageFormOfWriterContents t.disk.profile t.disk.block_size f (writer_view t w)) (sym k) (changed_in t w u opened.changed e).kept
 
 -- ---- the writer after
 
@@ -166,8 +167,8 @@ broken_after old mid new (Ok x) asked b = tt
 broken_after old mid new (Err e) asked b = broken_later old mid new asked b
 
 pub as_writer : (old new : TreeState) (path : Path) (position size : ℕ) (appends turned : Bool) (end : Option ℕ) (c : WriterContents) (v : session.FileWriter) → WritesOnlyUnusedBlocks old new → old.writable ≡ true →
-    gstate_of_pairs old.pairs ≡ zero_gstate → is_file (tree_view old path) ≡ true → length (bytes_of_writer_contents (kept_thread_of_tree_state new) c) ≡ size → AreWriterContentsOverTreeFile new path c → IsStorageFormOfWriterContents old.disk.block_size (storage_form_of_contents c) v →
-    IsInMemoryExactlyUpToInlineLimit (inline_limit old.disk.block_size) (storage_form_of_contents c) → HasRoomForWriter old v →
+    gstate_of_pairs old.pairs ≡ zero_gstate → is_file (tree_view old path) ≡ true → length (bytes_of_writer_contents (kept_thread_of_tree_state new) c) ≡ size → AreWriterContentsOverTreeFile new path c → IsStorageFormOfWriterContents old.disk.profile old.disk.block_size (storage_form_of_contents c) v →
+    IsInMemoryExactlyUpToInlineLimit (inline_limit old.disk.profile old.disk.block_size) (storage_form_of_contents c) → HasRoomForWriter old v →
     writer_view new (record { path = path; position = position; size = size; appends = appends; unsaved = Some (record { contents = c; has_turned = turned; last_end = end }) }) ≡ v →
     IsChangedWriterSeenAs new v (record { path = path; position = position; size = size; appends = appends; unsaved = Some (record { contents = c; has_turned = turned; last_end = end }) })
 as_writer old new path position size appends turned end c v b writable settled there long over kept settle room seen = record {
@@ -179,10 +180,10 @@ as_writer old new path position size appends turned end c v b writable settled t
     size = long;
     changed = record {
       over = over;
-      kept = subst (λ z. IsStorageFormOfWriterContents new.disk.block_size (storage_form_of_contents c) z) (sym seen) (subst (λ a. IsStorageFormOfWriterContents a.block_size (storage_form_of_contents c) v) (sym b.around) kept);
-      form = subst (λ a. IsInMemoryExactlyUpToInlineLimit (inline_limit a.block_size) (storage_form_of_contents c)) (sym b.around) settle;
-      room = subst (λ a. length a.used + blocks_reserved_for_size a.block_size turned size ≤ a.block_count) (sym b.around)
-          (subst (λ n. length (disk_summary_of_tree old).used + n ≤ block_count old.disk) (ap (reserved_block_count_of_writer old.disk.block_size) (sym seen) ∙ sym (held_one old.disk.block_size new w long)) room);
+      kept = subst (λ z. IsStorageFormOfWriterContents new.disk.profile new.disk.block_size (storage_form_of_contents c) z) (sym seen) (subst (λ a. IsStorageFormOfWriterContents a.profile a.block_size (storage_form_of_contents c) v) (sym b.around) kept);
+      form = subst (λ a. IsInMemoryExactlyUpToInlineLimit (inline_limit a.profile a.block_size) (storage_form_of_contents c)) (sym b.around) settle;
+      room = subst (λ a. length a.used + blocks_reserved_for_size a.profile a.block_size turned size ≤ a.block_count) (sym b.around)
+          (subst (λ n. length (disk_summary_of_tree old).used + n ≤ block_count old.disk) (ap (reserved_block_count_of_writer old.disk.profile old.disk.block_size) (sym seen) ∙ sym (held_one old.disk.profile old.disk.block_size new w long)) room);
     };
   };
   changed = refl;
@@ -194,8 +195,8 @@ as_writer old new path position size appends turned end c v b writable settled t
 -- the one that wrote bytes
 pub wrote : (old new : TreeState) (w : Writer) (bytes : List ℕ) (place end size : ℕ) (turned : Bool) (c : WriterContents) → WritesOnlyUnusedBlocks old new → IsWriterOverWritableImage old w → 1 ≤ length bytes → HasRoomForWriter old (writer_after_write (writer_view old w) bytes) →
     place ≡ write_position (writer_view old w) → end ≡ place + length bytes → size ≡ max w.size end → turned ≡ (is_unsaved_nonsequential w.unsaved || is_nonsequential_write (last_change_end_of_unsaved w.unsaved) (min place w.size)) →
-    AreWriterContentsOverTreeFile new w.path c → bytes_of_writer_contents (kept_thread_of_tree_state new) c ≡ contents_after_write (unsaved_or_tree_bytes_of_writer old w.path w.unsaved) place bytes → IsStorageFormOfWriterContents old.disk.block_size (storage_form_of_contents c) (writer_after_write (writer_view old w) bytes) →
-    IsInMemoryExactlyUpToInlineLimit (inline_limit old.disk.block_size) (storage_form_of_contents c) →
+    AreWriterContentsOverTreeFile new w.path c → bytes_of_writer_contents (kept_thread_of_tree_state new) c ≡ contents_after_write (unsaved_or_tree_bytes_of_writer old w.path w.unsaved) place bytes → IsStorageFormOfWriterContents old.disk.profile old.disk.block_size (storage_form_of_contents c) (writer_after_write (writer_view old w) bytes) →
+    IsInMemoryExactlyUpToInlineLimit (inline_limit old.disk.profile old.disk.block_size) (storage_form_of_contents c) →
     IsChangedWriterSeenAs new (writer_after_write (writer_view old w) bytes) (record { path = w.path; position = end; size = size; appends = w.appends; unsaved = Some (record { contents = c; has_turned = turned; last_end = Some end }) })
 wrote old new w bytes place end size turned c b opened some room at stop long turns_is over are kept settle =
     as_writer old new w.path end size w.appends turned (Some end) c (writer_after_write (writer_view old w) bytes) b opened.writable opened.settled opened.there
@@ -219,8 +220,8 @@ wrote old new w bytes place end size turned c b opened some room at stop long tu
 -- the one whose contents have another size
 pub cut : (old new : TreeState) (w : Writer) (size : ℕ) (turned : Bool) (end : Option ℕ) (c : WriterContents) → WritesOnlyUnusedBlocks old new → IsWriterOverWritableImage old w → (size == length (unsaved_or_tree_bytes_of_writer old w.path w.unsaved)) ≡ false →
     HasRoomForWriter old (writer_after_truncate (writer_view old w) size) → turned ≡ (is_unsaved_nonsequential w.unsaved || is_some (last_change_end_of_unsaved w.unsaved)) → end ≡ (if nat_lt w.size size then Some size else last_change_end_of_unsaved w.unsaved) →
-    AreWriterContentsOverTreeFile new w.path c → bytes_of_writer_contents (kept_thread_of_tree_state new) c ≡ take size (bytes_padded_with_zeros size (unsaved_or_tree_bytes_of_writer old w.path w.unsaved)) → IsStorageFormOfWriterContents old.disk.block_size (storage_form_of_contents c) (writer_after_truncate (writer_view old w) size) →
-    IsInMemoryExactlyUpToInlineLimit (inline_limit old.disk.block_size) (storage_form_of_contents c) →
+    AreWriterContentsOverTreeFile new w.path c → bytes_of_writer_contents (kept_thread_of_tree_state new) c ≡ take size (bytes_padded_with_zeros size (unsaved_or_tree_bytes_of_writer old w.path w.unsaved)) → IsStorageFormOfWriterContents old.disk.profile old.disk.block_size (storage_form_of_contents c) (writer_after_truncate (writer_view old w) size) →
+    IsInMemoryExactlyUpToInlineLimit (inline_limit old.disk.profile old.disk.block_size) (storage_form_of_contents c) →
     IsChangedWriterSeenAs new (writer_after_truncate (writer_view old w) size) (record { path = w.path; position = w.position; size = size; appends = w.appends; unsaved = Some (record { contents = c; has_turned = turned; last_end = end }) })
 cut old new w size turned end c b opened other room turns_is end_is over are kept settle =
     as_writer old new w.path w.position size w.appends turned end c (writer_after_truncate (writer_view old w) size) b opened.writable opened.settled opened.there
@@ -241,56 +242,56 @@ cut old new w size turned end c b opened other room turns_is end_is over are kep
 -- ---- room, and what the laws of forms give
 
 abbrev pub LargeLaw : Type 0
-LargeLaw = (block_size : ℕ) (shape : ContentsStorageForm) (w : session.FileWriter) → IsStorageFormOfWriterContents block_size shape w → ExceedsInlineLimitIfInFlight (inline_limit block_size) shape
+LargeLaw = (profile : Profile) (block_size : ℕ) (shape : ContentsStorageForm) (w : session.FileWriter) → IsStorageFormOfWriterContents profile block_size shape w → ExceedsInlineLimitIfInFlight (inline_limit profile block_size) shape
 
 abbrev pub WriteLaw : Type 0
-WriteLaw = (block_size : ℕ) (shape : ContentsStorageForm) (w : session.FileWriter) (byte : ℕ) (bytes : List ℕ) (used all : ℕ) → IsStorageFormOfWriterContents block_size shape w → used + reserved_block_count_of_writer block_size (writer_after_write w (byte ∷ bytes)) ≤ all →
-    inline_limit block_size < max (contents_size_of_storage_form shape) (write_position w + length (byte ∷ bytes)) → used + block_room_for_write block_size (write_position w) (length (byte ∷ bytes)) shape ≤ all
+WriteLaw = (profile : Profile) (block_size : ℕ) (shape : ContentsStorageForm) (w : session.FileWriter) (byte : ℕ) (bytes : List ℕ) (used all : ℕ) → IsStorageFormOfWriterContents profile block_size shape w → used + reserved_block_count_of_writer profile block_size (writer_after_write w (byte ∷ bytes)) ≤ all →
+    inline_limit profile block_size < max (contents_size_of_storage_form shape) (write_position w + length (byte ∷ bytes)) → used + block_room_for_write block_size (write_position w) (length (byte ∷ bytes)) shape ≤ all
 
 abbrev pub WrittenLaw : Type 0
-WrittenLaw = (block_size : ℕ) (shape : ContentsStorageForm) (w : session.FileWriter) (byte : ℕ) (bytes : List ℕ) → IsStorageFormOfWriterContents block_size shape w →
-    IsStorageFormOfWriterContents block_size (storage_form_after_write (inline_limit block_size) (write_position w) (length (byte ∷ bytes)) shape) (writer_after_write w (byte ∷ bytes))
+WrittenLaw = (profile : Profile) (block_size : ℕ) (shape : ContentsStorageForm) (w : session.FileWriter) (byte : ℕ) (bytes : List ℕ) → IsStorageFormOfWriterContents profile block_size shape w →
+    IsStorageFormOfWriterContents profile block_size (storage_form_after_write (inline_limit profile block_size) (write_position w) (length (byte ∷ bytes)) shape) (writer_after_write w (byte ∷ bytes))
 
 abbrev pub TruncateLaw : Type 0
-TruncateLaw = (block_size : ℕ) (shape : ContentsStorageForm) (w : session.FileWriter) (size used all : ℕ) → IsStorageFormOfWriterContents block_size shape w → used + reserved_block_count_of_writer block_size w ≤ all → used + reserved_block_count_of_writer block_size (writer_after_truncate w size) ≤ all →
-    NeedsRoomToTruncate (inline_limit block_size) size shape → used + block_room_for_truncation block_size size shape ≤ all
+TruncateLaw = (profile : Profile) (block_size : ℕ) (shape : ContentsStorageForm) (w : session.FileWriter) (size used all : ℕ) → IsStorageFormOfWriterContents profile block_size shape w → used + reserved_block_count_of_writer profile block_size w ≤ all → used + reserved_block_count_of_writer profile block_size (writer_after_truncate w size) ≤ all →
+    NeedsRoomToTruncate (inline_limit profile block_size) size shape → used + block_room_for_truncation block_size size shape ≤ all
 
 abbrev pub TruncatedLaw : Type 0
-TruncatedLaw = (block_size : ℕ) (shape : ContentsStorageForm) (w : session.FileWriter) (size : ℕ) → IsStorageFormOfWriterContents block_size shape w → IsStorageFormOfWriterContents block_size (storage_form_after_truncate (inline_limit block_size) size shape) (writer_after_truncate w size)
+TruncatedLaw = (profile : Profile) (block_size : ℕ) (shape : ContentsStorageForm) (w : session.FileWriter) (size : ℕ) → IsStorageFormOfWriterContents profile block_size shape w → IsStorageFormOfWriterContents profile block_size (storage_form_after_truncate (inline_limit profile block_size) size shape) (writer_after_truncate w size)
 
-room_to_write : WriteLaw → (block_size : ℕ) (shape : ContentsStorageForm) (w : session.FileWriter) (bytes : List ℕ) (used all : ℕ) → 1 ≤ length bytes → IsStorageFormOfWriterContents block_size shape w → used + reserved_block_count_of_writer block_size (writer_after_write w bytes) ≤ all →
-    inline_limit block_size < max (contents_size_of_storage_form shape) (write_position w + length bytes) → used + block_room_for_write block_size (write_position w) (length bytes) shape ≤ all
-room_to_write law block_size shape w [] used all some kept room large = absurd (omega (arith, some))
-room_to_write law block_size shape w (b ∷ bytes) used all some kept room large = law block_size shape w b bytes used all kept room large
+room_to_write : WriteLaw → (profile : Profile) (block_size : ℕ) (shape : ContentsStorageForm) (w : session.FileWriter) (bytes : List ℕ) (used all : ℕ) → 1 ≤ length bytes → IsStorageFormOfWriterContents profile block_size shape w → used + reserved_block_count_of_writer profile block_size (writer_after_write w bytes) ≤ all →
+    inline_limit profile block_size < max (contents_size_of_storage_form shape) (write_position w + length bytes) → used + block_room_for_write block_size (write_position w) (length bytes) shape ≤ all
+room_to_write law profile block_size shape w [] used all some kept room large = absurd (omega (arith, some))
+room_to_write law profile block_size shape w (b ∷ bytes) used all some kept room large = law profile block_size shape w b bytes used all kept room large
 
-kept_written : WrittenLaw → (block_size : ℕ) (shape : ContentsStorageForm) (w : session.FileWriter) (bytes : List ℕ) → 1 ≤ length bytes → IsStorageFormOfWriterContents block_size shape w →
-    IsStorageFormOfWriterContents block_size (storage_form_after_write (inline_limit block_size) (write_position w) (length bytes) shape) (writer_after_write w bytes)
-kept_written law block_size shape w [] some kept = absurd (omega (arith, some))
-kept_written law block_size shape w (b ∷ bytes) some kept = law block_size shape w b bytes kept
+kept_written : WrittenLaw → (profile : Profile) (block_size : ℕ) (shape : ContentsStorageForm) (w : session.FileWriter) (bytes : List ℕ) → 1 ≤ length bytes → IsStorageFormOfWriterContents profile block_size shape w →
+    IsStorageFormOfWriterContents profile block_size (storage_form_after_write (inline_limit profile block_size) (write_position w) (length bytes) shape) (writer_after_write w bytes)
+kept_written law profile block_size shape w [] some kept = absurd (omega (arith, some))
+kept_written law profile block_size shape w (b ∷ bytes) some kept = law profile block_size shape w b bytes kept
 
 pub can_write : (old mid : TreeState) (w : Writer) (bytes : List ℕ) (place : ℕ) (c : WriterContents) (path : Path) → CanWriteByWriter old w bytes → WasTreeOnlyRead old mid → place ≡ (if w.appends then w.size else w.position) → AreWriterContentsOverTreeFile mid path c → path ≡ w.path →
-    IsStorageFormOfOptionalUnsavedContents old.disk.block_size w.unsaved (length (unsaved_or_tree_bytes_of_writer old path w.unsaved)) (storage_form_of_contents c) → LargeLaw → WriteLaw → CanWriteWriterContents mid c place (length bytes)
+    IsStorageFormOfOptionalUnsavedContents old.disk.profile old.disk.block_size w.unsaved (length (unsaved_or_tree_bytes_of_writer old path w.unsaved)) (storage_form_of_contents c) → LargeLaw → WriteLaw → CanWriteWriterContents mid c place (length bytes)
 can_write old mid w bytes place c path can asked at over same shape large write =
     subst (λ t. CanWriteWriterContents t c place (length bytes)) (sym asked.same)
     (subst (λ p. CanWriteWriterContents (record old { history = mid.history; cache = mid.cache }) c p (length bytes)) (sym is) (record {
       works = can.can.works;
       stands = (subst (λ t. AreWriterContentsOverTreeFile t path c) asked.same over).stands;
-      large = large old.disk.block_size (storage_form_of_contents c) (writer_view old w) kept;
+      large = large old.disk.profile old.disk.block_size (storage_form_of_contents c) (writer_view old w) kept;
       some = can.some;
       small = can.small;
-      room = room_to_write write old.disk.block_size (storage_form_of_contents c) (writer_view old w) bytes (length (disk_summary_of_tree old).used) (block_count old.disk) can.some kept can.room;
+      room = room_to_write write old.disk.profile old.disk.block_size (storage_form_of_contents c) (writer_view old w) bytes (length (disk_summary_of_tree old).used) (block_count old.disk) can.some kept can.room;
     }))
   where
     is : place ≡ write_position (writer_view old w)
     is = place_is old w place can.can.written at
 
-    kept : IsStorageFormOfWriterContents old.disk.block_size (storage_form_of_contents c) (writer_view old w)
-    kept = kept_by_form old w (storage_form_of_contents c) can.can.written (subst (λ p. IsStorageFormOfOptionalUnsavedContents old.disk.block_size w.unsaved (length (unsaved_or_tree_bytes_of_writer old p w.unsaved)) (storage_form_of_contents c)) same shape)
+    kept : IsStorageFormOfWriterContents old.disk.profile old.disk.block_size (storage_form_of_contents c) (writer_view old w)
+    kept = kept_by_form old w (storage_form_of_contents c) can.can.written (subst (λ p. IsStorageFormOfOptionalUnsavedContents old.disk.profile old.disk.block_size w.unsaved (length (unsaved_or_tree_bytes_of_writer old p w.unsaved)) (storage_form_of_contents c)) same shape)
 
 pub has_written : (old mid new : TreeState) (w : Writer) (bytes : List ℕ) (place begin size : ℕ) (turned : Bool) (c d : WriterContents) (path : Path) → CanWriteByWriter old w bytes → WasTreeOnlyRead old mid →
-    place ≡ (if w.appends then w.size else w.position) → AreWriterContentsOverTreeFile mid path c → path ≡ w.path → IsStorageFormOfOptionalUnsavedContents old.disk.block_size w.unsaved (length (unsaved_or_tree_bytes_of_writer old path w.unsaved)) (storage_form_of_contents c) →
+    place ≡ (if w.appends then w.size else w.position) → AreWriterContentsOverTreeFile mid path c → path ≡ w.path → IsStorageFormOfOptionalUnsavedContents old.disk.profile old.disk.block_size w.unsaved (length (unsaved_or_tree_bytes_of_writer old path w.unsaved)) (storage_form_of_contents c) →
     bytes_of_writer_contents (kept_thread_of_tree_state mid) c ≡ unsaved_or_tree_bytes_of_writer old path w.unsaved → WrittenLaw → WritesOnlyUnusedBlocks mid new → ((p : Path) → AreWriterContentsOverTreeFile mid p c → AreWriterContentsOverTreeFile new p d) →
-    bytes_of_writer_contents (kept_thread_of_tree_state new) d ≡ contents_after_write (bytes_of_writer_contents (kept_thread_of_tree_state mid) c) place bytes → storage_form_of_contents d ≡ storage_form_after_write (inline_limit mid.disk.block_size) place (length bytes) (storage_form_of_contents c) →
+    bytes_of_writer_contents (kept_thread_of_tree_state new) d ≡ contents_after_write (bytes_of_writer_contents (kept_thread_of_tree_state mid) c) place bytes → storage_form_of_contents d ≡ storage_form_after_write (inline_limit mid.disk.profile mid.disk.block_size) place (length bytes) (storage_form_of_contents c) →
     begin ≡ min place w.size → turned ≡ (is_unsaved_nonsequential w.unsaved || is_nonsequential_write (last_change_end_of_unsaved w.unsaved) begin) → size ≡ max w.size (place + length bytes) →
     IsChangedWriterSeenAs new (writer_after_write (writer_view old w) bytes) (record { path = w.path; position = place + length bytes; size = size; appends = w.appends; unsaved = Some (record { contents = d; has_turned = turned; last_end = Some (place + length bytes) }) })
 has_written old mid new w bytes place begin size turned c d path can asked at over same shape had law beside overs wrote_is form_is begin_is turned_is size_is =
@@ -298,51 +299,51 @@ has_written old mid new w bytes place begin size turned c d path can asked at ov
     (turned_is ∙ ap (λ b. is_unsaved_nonsequential w.unsaved || is_nonsequential_write (last_change_end_of_unsaved w.unsaved) b) begin_is)
     (subst (λ p. AreWriterContentsOverTreeFile new p d) same (overs path over))
     (wrote_is ∙ ap (λ xs. contents_after_write xs place bytes) (had ∙ ap (λ p. unsaved_or_tree_bytes_of_writer old p w.unsaved) same))
-    kept (subst (IsInMemoryExactlyUpToInlineLimit (inline_limit old.disk.block_size)) (sym form_at)
-    (settle_written (inline_limit old.disk.block_size) (write_position (writer_view old w)) (length bytes) (storage_form_of_contents c) (writer_after_write (writer_view old w) bytes) written_kept.fits))
+    kept (subst (IsInMemoryExactlyUpToInlineLimit (inline_limit old.disk.profile old.disk.block_size)) (sym form_at)
+    (settle_written (inline_limit old.disk.profile old.disk.block_size) (write_position (writer_view old w)) (length bytes) (storage_form_of_contents c) (writer_after_write (writer_view old w) bytes) written_kept.fits))
   where
     is : place ≡ write_position (writer_view old w)
     is = place_is old w place can.can.written at
 
-    before_kept : IsStorageFormOfWriterContents old.disk.block_size (storage_form_of_contents c) (writer_view old w)
-    before_kept = kept_by_form old w (storage_form_of_contents c) can.can.written (subst (λ p. IsStorageFormOfOptionalUnsavedContents old.disk.block_size w.unsaved (length (unsaved_or_tree_bytes_of_writer old p w.unsaved)) (storage_form_of_contents c)) same shape)
+    before_kept : IsStorageFormOfWriterContents old.disk.profile old.disk.block_size (storage_form_of_contents c) (writer_view old w)
+    before_kept = kept_by_form old w (storage_form_of_contents c) can.can.written (subst (λ p. IsStorageFormOfOptionalUnsavedContents old.disk.profile old.disk.block_size w.unsaved (length (unsaved_or_tree_bytes_of_writer old p w.unsaved)) (storage_form_of_contents c)) same shape)
 
-    written_kept : IsStorageFormOfWriterContents old.disk.block_size (storage_form_after_write (inline_limit old.disk.block_size) (write_position (writer_view old w)) (length bytes) (storage_form_of_contents c)) (writer_after_write (writer_view old w) bytes)
-    written_kept = kept_written law old.disk.block_size (storage_form_of_contents c) (writer_view old w) bytes can.some before_kept
+    written_kept : IsStorageFormOfWriterContents old.disk.profile old.disk.block_size (storage_form_after_write (inline_limit old.disk.profile old.disk.block_size) (write_position (writer_view old w)) (length bytes) (storage_form_of_contents c)) (writer_after_write (writer_view old w) bytes)
+    written_kept = kept_written law old.disk.profile old.disk.block_size (storage_form_of_contents c) (writer_view old w) bytes can.some before_kept
 
-    form_at : storage_form_of_contents d ≡ storage_form_after_write (inline_limit old.disk.block_size) (write_position (writer_view old w)) (length bytes) (storage_form_of_contents c)
-    form_at = form_is ∙ ap₂ (λ n p. storage_form_after_write (inline_limit n) p (length bytes) (storage_form_of_contents c)) (ap (λ (t : TreeState). t.disk.block_size) asked.same) is
+    form_at : storage_form_of_contents d ≡ storage_form_after_write (inline_limit old.disk.profile old.disk.block_size) (write_position (writer_view old w)) (length bytes) (storage_form_of_contents c)
+    form_at = form_is ∙ ap₂ (λ n p. storage_form_after_write n p (length bytes) (storage_form_of_contents c)) (ap (λ (t : TreeState). inline_limit t.disk.profile t.disk.block_size) asked.same) is
 
-    kept : IsStorageFormOfWriterContents old.disk.block_size (storage_form_of_contents d) (writer_after_write (writer_view old w) bytes)
-    kept = subst (λ f. IsStorageFormOfWriterContents old.disk.block_size f (writer_after_write (writer_view old w) bytes)) (sym form_at) written_kept
+    kept : IsStorageFormOfWriterContents old.disk.profile old.disk.block_size (storage_form_of_contents d) (writer_after_write (writer_view old w) bytes)
+    kept = subst (λ f. IsStorageFormOfWriterContents old.disk.profile old.disk.block_size f (writer_after_write (writer_view old w) bytes)) (sym form_at) written_kept
 
 -- what the writer holds, there is room for
-held_room : (t : TreeState) (w : Writer) → CanChangeWriter t w → length (disk_summary_of_tree t).used ≤ block_count t.disk → length (disk_summary_of_tree t).used + reserved_block_count_of_writer t.disk.block_size (writer_view t w) ≤ block_count t.disk
-held_room t w can few = subst (λ n. length (disk_summary_of_tree t).used + n ≤ block_count t.disk) (held_one t.disk.block_size t w can.written.size) (go w.unsaved refl)
+held_room : (t : TreeState) (w : Writer) → CanChangeWriter t w → length (disk_summary_of_tree t).used ≤ block_count t.disk → length (disk_summary_of_tree t).used + reserved_block_count_of_writer t.disk.profile t.disk.block_size (writer_view t w) ≤ block_count t.disk
+held_room t w can few = subst (λ n. length (disk_summary_of_tree t).used + n ≤ block_count t.disk) (held_one t.disk.profile t.disk.block_size t w can.written.size) (go w.unsaved refl)
   where
-    go : (u : Option UnsavedContents) → w.unsaved ≡ u → length (disk_summary_of_tree t).used + blocks_reserved_by_writer t.disk.block_size w ≤ block_count t.disk
+    go : (u : Option UnsavedContents) → w.unsaved ≡ u → length (disk_summary_of_tree t).used + blocks_reserved_by_writer t.disk.profile t.disk.block_size w ≤ block_count t.disk
     go None e = rw e (omega (arith, few))
     go (Some u) e = rw e (changed_in t w u can.written.changed e).room
 
 pub can_truncate : (old mid : TreeState) (w : Writer) (size : ℕ) (c : WriterContents) (path : Path) → CanTruncateByWriter old w size → WasTreeOnlyRead old mid → AreWriterContentsOverTreeFile mid path c → path ≡ w.path →
-    IsStorageFormOfOptionalUnsavedContents old.disk.block_size w.unsaved (length (unsaved_or_tree_bytes_of_writer old path w.unsaved)) (storage_form_of_contents c) → LargeLaw → TruncateLaw → CanTruncateWriterContents mid c size
+    IsStorageFormOfOptionalUnsavedContents old.disk.profile old.disk.block_size w.unsaved (length (unsaved_or_tree_bytes_of_writer old path w.unsaved)) (storage_form_of_contents c) → LargeLaw → TruncateLaw → CanTruncateWriterContents mid c size
 can_truncate old mid w size c path can asked over same shape large truncate =
     subst (λ t. CanTruncateWriterContents t c size) (sym asked.same) (record {
       works = can.can.works;
       stands = (subst (λ t. AreWriterContentsOverTreeFile t path c) asked.same over).stands;
-      large = large old.disk.block_size (storage_form_of_contents c) (writer_view old w) kept;
+      large = large old.disk.profile old.disk.block_size (storage_form_of_contents c) (writer_view old w) kept;
       small = can.small;
-      room = truncate old.disk.block_size (storage_form_of_contents c) (writer_view old w) size (length (disk_summary_of_tree old).used) (block_count old.disk) kept
+      room = truncate old.disk.profile old.disk.block_size (storage_form_of_contents c) (writer_view old w) size (length (disk_summary_of_tree old).used) (block_count old.disk) kept
           (held_room old w can.can (let r = can.room in omega (arith, r))) can.room;
     })
   where
-    kept : IsStorageFormOfWriterContents old.disk.block_size (storage_form_of_contents c) (writer_view old w)
-    kept = kept_by_form old w (storage_form_of_contents c) can.can.written (subst (λ p. IsStorageFormOfOptionalUnsavedContents old.disk.block_size w.unsaved (length (unsaved_or_tree_bytes_of_writer old p w.unsaved)) (storage_form_of_contents c)) same shape)
+    kept : IsStorageFormOfWriterContents old.disk.profile old.disk.block_size (storage_form_of_contents c) (writer_view old w)
+    kept = kept_by_form old w (storage_form_of_contents c) can.can.written (subst (λ p. IsStorageFormOfOptionalUnsavedContents old.disk.profile old.disk.block_size w.unsaved (length (unsaved_or_tree_bytes_of_writer old p w.unsaved)) (storage_form_of_contents c)) same shape)
 
 pub has_truncated : (old mid new : TreeState) (w : Writer) (size : ℕ) (turned : Bool) (end : Option ℕ) (c d : WriterContents) (path : Path) → CanTruncateByWriter old w size → WasTreeOnlyRead old mid →
-    AreWriterContentsOverTreeFile mid path c → path ≡ w.path → IsStorageFormOfOptionalUnsavedContents old.disk.block_size w.unsaved (length (unsaved_or_tree_bytes_of_writer old path w.unsaved)) (storage_form_of_contents c) →
+    AreWriterContentsOverTreeFile mid path c → path ≡ w.path → IsStorageFormOfOptionalUnsavedContents old.disk.profile old.disk.block_size w.unsaved (length (unsaved_or_tree_bytes_of_writer old path w.unsaved)) (storage_form_of_contents c) →
     bytes_of_writer_contents (kept_thread_of_tree_state mid) c ≡ unsaved_or_tree_bytes_of_writer old path w.unsaved → TruncatedLaw → WritesOnlyUnusedBlocks mid new → ((p : Path) → AreWriterContentsOverTreeFile mid p c → AreWriterContentsOverTreeFile new p d) →
-    bytes_of_writer_contents (kept_thread_of_tree_state new) d ≡ take size (bytes_padded_with_zeros size (bytes_of_writer_contents (kept_thread_of_tree_state mid) c)) → storage_form_of_contents d ≡ storage_form_after_truncate (inline_limit mid.disk.block_size) size (storage_form_of_contents c) →
+    bytes_of_writer_contents (kept_thread_of_tree_state new) d ≡ take size (bytes_padded_with_zeros size (bytes_of_writer_contents (kept_thread_of_tree_state mid) c)) → storage_form_of_contents d ≡ storage_form_after_truncate (inline_limit mid.disk.profile mid.disk.block_size) size (storage_form_of_contents c) →
     turned ≡ (is_unsaved_nonsequential w.unsaved || is_some (last_change_end_of_unsaved w.unsaved)) → end ≡ (if nat_lt w.size size then Some size else last_change_end_of_unsaved w.unsaved) →
     IsChangedWriterSeenAs new (writer_after_truncate (writer_view old w) size) (record { path = w.path; position = w.position; size = size; appends = w.appends; unsaved = Some (record { contents = d; has_turned = turned; last_end = end }) })
 has_truncated old mid new w size turned end c d path can asked over same shape had law beside overs cut_is form_is turned_is end_is =
@@ -350,23 +351,23 @@ has_truncated old mid new w size turned end c d path can asked over same shape h
     (ne_eqb size (length (unsaved_or_tree_bytes_of_writer old w.path w.unsaved)) (λ e. can.other (e ∙ can.can.written.size))) can.room turned_is end_is
     (subst (λ p. AreWriterContentsOverTreeFile new p d) same (overs path over))
     (cut_is ∙ ap (λ xs. take size (bytes_padded_with_zeros size xs)) (had ∙ ap (λ p. unsaved_or_tree_bytes_of_writer old p w.unsaved) same))
-    (subst (λ f. IsStorageFormOfWriterContents old.disk.block_size f (writer_after_truncate (writer_view old w) size)) (sym form_at) truncated_kept)
-    (subst (IsInMemoryExactlyUpToInlineLimit (inline_limit old.disk.block_size)) (sym form_at)
-    (settle_truncated (inline_limit old.disk.block_size) size (storage_form_of_contents c) (writer_after_truncate (writer_view old w) size) (λ e. can.other (e ∙ before_kept.size ∙ can.can.written.size)) truncated_kept.fits))
+    (subst (λ f. IsStorageFormOfWriterContents old.disk.profile old.disk.block_size f (writer_after_truncate (writer_view old w) size)) (sym form_at) truncated_kept)
+    (subst (IsInMemoryExactlyUpToInlineLimit (inline_limit old.disk.profile old.disk.block_size)) (sym form_at)
+    (settle_truncated (inline_limit old.disk.profile old.disk.block_size) size (storage_form_of_contents c) (writer_after_truncate (writer_view old w) size) (λ e. can.other (e ∙ before_kept.size ∙ can.can.written.size)) truncated_kept.fits))
   where
-    before_kept : IsStorageFormOfWriterContents old.disk.block_size (storage_form_of_contents c) (writer_view old w)
-    before_kept = kept_by_form old w (storage_form_of_contents c) can.can.written (subst (λ p. IsStorageFormOfOptionalUnsavedContents old.disk.block_size w.unsaved (length (unsaved_or_tree_bytes_of_writer old p w.unsaved)) (storage_form_of_contents c)) same shape)
+    before_kept : IsStorageFormOfWriterContents old.disk.profile old.disk.block_size (storage_form_of_contents c) (writer_view old w)
+    before_kept = kept_by_form old w (storage_form_of_contents c) can.can.written (subst (λ p. IsStorageFormOfOptionalUnsavedContents old.disk.profile old.disk.block_size w.unsaved (length (unsaved_or_tree_bytes_of_writer old p w.unsaved)) (storage_form_of_contents c)) same shape)
 
-    truncated_kept : IsStorageFormOfWriterContents old.disk.block_size (storage_form_after_truncate (inline_limit old.disk.block_size) size (storage_form_of_contents c)) (writer_after_truncate (writer_view old w) size)
-    truncated_kept = law old.disk.block_size (storage_form_of_contents c) (writer_view old w) size before_kept
+    truncated_kept : IsStorageFormOfWriterContents old.disk.profile old.disk.block_size (storage_form_after_truncate (inline_limit old.disk.profile old.disk.block_size) size (storage_form_of_contents c)) (writer_after_truncate (writer_view old w) size)
+    truncated_kept = law old.disk.profile old.disk.block_size (storage_form_of_contents c) (writer_view old w) size before_kept
 
-    form_at : storage_form_of_contents d ≡ storage_form_after_truncate (inline_limit old.disk.block_size) size (storage_form_of_contents c)
-    form_at = form_is ∙ ap (λ n. storage_form_after_truncate (inline_limit n) size (storage_form_of_contents c)) (ap (λ (t : TreeState). t.disk.block_size) asked.same)
+    form_at : storage_form_of_contents d ≡ storage_form_after_truncate (inline_limit old.disk.profile old.disk.block_size) size (storage_form_of_contents c)
+    form_at = form_is ∙ ap (λ n. storage_form_after_truncate n size (storage_form_of_contents c)) (ap (λ (t : TreeState). inline_limit t.disk.profile t.disk.block_size) asked.same)
 
 -- ---- saving
 
 abbrev pub EndLaw : Type 0
-EndLaw = (block_size : ℕ) (shape : ContentsStorageForm) (w : session.FileWriter) (used all : ℕ) → IsStorageFormOfWriterContents block_size shape w → used + reserved_block_count_of_writer block_size w ≤ all → used + block_room_for_finish block_size shape ≤ all
+EndLaw = (profile : Profile) (block_size : ℕ) (shape : ContentsStorageForm) (w : session.FileWriter) (used all : ℕ) → IsStorageFormOfWriterContents profile block_size shape w → used + reserved_block_count_of_writer profile block_size w ≤ all → used + block_room_for_finish block_size shape ≤ all
 
 room_to_store : (used all blocks : ℕ) (turned : Bool) → used + (2 + cond turned 2 1 * blocks) ≤ all → used + blocks + 2 ≤ all
 room_to_store used all blocks true h = omega (arith, h)
@@ -380,10 +381,10 @@ can_store t w u path can is same law =
       settled = can.written.settled;
       over = changed.over;
       form = changed.form;
-      end = law t.disk.block_size (storage_form_of_contents u.contents) (writer_view t w) (length (disk_summary_of_tree t).used) (block_count t.disk) changed.kept
-          (subst (λ n. length (disk_summary_of_tree t).used + n ≤ block_count t.disk) (held_one t.disk.block_size t w can.written.size) held);
-      room = subst (λ n. length (disk_summary_of_tree t).used + skip_list_block_count_unless_inline t.disk.block_size n + 2 ≤ block_count t.disk) (sym long)
-          (room_to_store (length (disk_summary_of_tree t).used) (block_count t.disk) (skip_list_block_count_unless_inline t.disk.block_size w.size) u.has_turned changed.room);
+      end = law t.disk.profile t.disk.block_size (storage_form_of_contents u.contents) (writer_view t w) (length (disk_summary_of_tree t).used) (block_count t.disk) changed.kept
+          (subst (λ n. length (disk_summary_of_tree t).used + n ≤ block_count t.disk) (held_one t.disk.profile t.disk.block_size t w can.written.size) held);
+      room = subst (λ n. length (disk_summary_of_tree t).used + skip_list_block_count_unless_inline t.disk.profile t.disk.block_size n + 2 ≤ block_count t.disk) (sym long)
+          (room_to_store (length (disk_summary_of_tree t).used) (block_count t.disk) (skip_list_block_count_unless_inline t.disk.profile t.disk.block_size w.size) u.has_turned changed.room);
     })
   where
     changed : AreUnsavedContentsOfWriter t w u
@@ -392,7 +393,7 @@ can_store t w u path can is same law =
     long : length (bytes_of_writer_contents (kept_thread_of_tree_state t) u.contents) ≡ w.size
     long = sym (ap (λ z. length (unsaved_or_tree_bytes_of_writer t w.path z)) is) ∙ can.written.size
 
-    held : length (disk_summary_of_tree t).used + blocks_reserved_by_writer t.disk.block_size w ≤ block_count t.disk
+    held : length (disk_summary_of_tree t).used + blocks_reserved_by_writer t.disk.profile t.disk.block_size w ≤ block_count t.disk
     held = rw is changed.room
 
 stored_node : (n : Option Node) (bytes : List ℕ) → is_file n ≡ true → (is_file (option_map (node_with_bytes bytes) n) ≡ true) × (file_bytes_of_node (option_map (node_with_bytes bytes) n) ≡ bytes)

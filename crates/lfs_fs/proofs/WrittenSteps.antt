@@ -4,7 +4,7 @@ use Rattle.std.specs.Prelude.{◌==◌}
 use Rattle.std.specs.List.{list_any}
 use Rattle.std.specs.Option.{option_map}
 use Rattle.std.proofs.lemmas.Bool.{eqb-true, ltb-false}
-use Rattle.lfs_model.specs.Disk.{file_size_limit}
+use Rattle.lfs_model.specs.Disk.{file_max_of}
 use Rattle.lfs_model.specs.Operations as ops
 use Rattle.lfs_model.specs.Operations.{Operation}
 use Rattle.lfs_model.specs.Frame.{needs_no_device_or_memory}
@@ -44,14 +44,14 @@ module _ (t : TreeState) (fs : RuntimeOpenFilesByNumber) (fd : ℕ) (bytes : Lis
   seen_there = the_writer t fs fd (Some w) is_writer
 
   checks_are : refusal_by_checks (session_view_of_tree_and_files t fs) (ops.Write fd bytes)
-      ≡ first_refusal_in_list (refuse_if (nat_lt 0 (length bytes) && nat_lt file_size_limit (write_position (writer_view t w) + length bytes)) ops.TooBig ∷ refuse_if (nat_lt 0 (length bytes) && overfills_disk (disk_summary_of_tree t) (writer_after_write (writer_view t w) bytes)) ops.NoSpace ∷ [])
+      ≡ first_refusal_in_list (refuse_if (nat_lt 0 (length bytes) && nat_lt (file_max_of t.disk.profile) (write_position (writer_view t w) + length bytes)) ops.TooBig ∷ refuse_if (nat_lt 0 (length bytes) && overfills_disk (disk_summary_of_tree t) (writer_after_write (writer_view t w) bytes)) ops.NoSpace ∷ [])
   checks_are = rw (works_now, seen_there) refl
 
   left : (a b : Bool) → a ≡ true → (a && b) ≡ false → b ≡ false
   left true b k h = h
   left false b k h = absurd (cc)
 
-  small_enough : nat_lt 0 (length bytes) ≡ true → nat_lt file_size_limit (write_position (writer_view t w) + length bytes) ≡ false
+  small_enough : nat_lt 0 (length bytes) ≡ true → nat_lt (file_max_of t.disk.profile) (write_position (writer_view t w) + length bytes) ≡ false
   small_enough some = left (nat_lt 0 (length bytes)) _ some (unrefused _ ops.TooBig (neither _ _ (sym checks_are ∙ accepted)).0)
 
   has_room : nat_lt 0 (length bytes) ≡ true → overfills_disk (disk_summary_of_tree t) (writer_after_write (writer_view t w) bytes) ≡ false
@@ -59,7 +59,7 @@ module _ (t : TreeState) (fs : RuntimeOpenFilesByNumber) (fd : ℕ) (bytes : Lis
 
   pub few_bytes : (length bytes == 0) ≡ false → length bytes < 2 ^ 32
   few_bytes some =
-      let l = ltb-false file_size_limit (write_position (writer_view t w) + length bytes) (small_enough (some_bytes (length bytes) some).0) in
+      let l = ltb-false (file_max_of t.disk.profile) (write_position (writer_view t w) + length bytes) (small_enough (some_bytes (length bytes) some).0) in
       omega (arith, l)
 
   module _ (invariant : t.failed ≡ false → IsSessionReadyForCalls t fs) where
@@ -77,7 +77,7 @@ module _ (t : TreeState) (fs : RuntimeOpenFilesByNumber) (fd : ℕ) (bytes : Lis
         idle = λ saved. ready.idle (ap (list_any (λ v. is_some v.unsaved)) alone.writers ∙ ap (λ b. b || false) saved);
       };
       some = (some_bytes (length bytes) some).1;
-      small = (let l = ltb-false file_size_limit (write_position (writer_view t w) + length bytes) (small_enough (some_bytes (length bytes) some).0) in omega (arith, l));
+      small = (let l = ltb-false (file_max_of t.disk.profile) (write_position (writer_view t w) + length bytes) (small_enough (some_bytes (length bytes) some).0) in omega (arith, l));
       room = ltb-false _ _ (has_room (some_bytes (length bytes) some).0);
     }
 

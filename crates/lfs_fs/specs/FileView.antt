@@ -2,6 +2,7 @@
 use Rattle.std.specs.Prelude.{ℕ, ◌+◌, ◌*◌, Bool, false, if◌then◌else◌, List, [], ◌∷◌, ◌++◌, length, map, nat_lt, Option, Some, None, is_none, is_some, slice_get, slice_set, sum_by}
 use Rattle.std.specs.List.{list_any, position_or_len}
 use Rattle.std.specs.Option.{option_flatten, option_map}
+use Rattle.lfs_model.specs.declared.limits.Profile.{Profile}
 use Rattle.lfs_model.specs.TreeEdits.{file_bytes_of_node}
 use Rattle.lfs_model.specs.Session as session
 use Rattle.lfs_model.specs.Session.{skip_list_block_count_unless_inline}
@@ -109,15 +110,15 @@ open_file_with_position position (file.Reading r) = file.Reading (record r { pos
 open_file_with_position position (file.Writing w) = file.Writing (record w { position = position })
 
 -- how many blocks are held for contents of so many bytes that were changed
-abbrev pub blocks_reserved_for_size : ℕ → Bool → ℕ → ℕ
-blocks_reserved_for_size block_size turned size = 2 + (if turned then 2 else 1) * skip_list_block_count_unless_inline block_size size
+abbrev pub blocks_reserved_for_size : Profile → ℕ → Bool → ℕ → ℕ
+blocks_reserved_for_size profile block_size turned size = 2 + (if turned then 2 else 1) * skip_list_block_count_unless_inline profile block_size size
 
 -- how many blocks are held for a writer, by its size
-abbrev pub blocks_reserved_by_writer : ℕ → Writer → ℕ
-blocks_reserved_by_writer block_size w = if is_none w.unsaved then 0 else blocks_reserved_for_size block_size (is_unsaved_nonsequential w.unsaved) w.size
+abbrev pub blocks_reserved_by_writer : Profile → ℕ → Writer → ℕ
+blocks_reserved_by_writer profile block_size w = if is_none w.unsaved then 0 else blocks_reserved_for_size profile block_size (is_unsaved_nonsequential w.unsaved) w.size
 
-abbrev pub blocks_reserved_by_writers : ℕ → RuntimeOpenFilesByNumber → ℕ
-blocks_reserved_by_writers block_size files = sum_by (blocks_reserved_by_writer block_size) (writers_among files)
+abbrev pub blocks_reserved_by_writers : Profile → ℕ → RuntimeOpenFilesByNumber → ℕ
+blocks_reserved_by_writers profile block_size files = sum_by (blocks_reserved_by_writer profile block_size) (writers_among files)
 
 -- a writer has changes that aren't in the tree
 abbrev pub has_unsaved_writer : RuntimeOpenFilesByNumber → Bool

@@ -23,3 +23,4 @@ pub mod OpView
 pub mod DeviceLaws
 pub mod CallEnds
 pub mod CallEffects
+pub mod ImageLimits

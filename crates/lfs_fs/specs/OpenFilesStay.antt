@@ -16,7 +16,7 @@ use Rattle.lfs_fs.specs.declared.files.Writer.{Writer}
 pub record OperationConcernsNoOpenFileAndHasRoom (t : TreeState) (op : Operation) (files : RuntimeOpenFilesByNumber) : Type 0 where
   pub apart : AllByRecursion (λ w. removes_or_moves_path_or_ancestor op w.path ≡ false) (writers_among files)
   pub unread : AllByRecursion (λ r. removes_or_moves_path_or_ancestor op r.path ≡ false) (readers_among files)
-  pub room : (blocks_taken_by_operation op ≡ 0) ⊎ (length (disk_summary_of_tree t).used + reserved_block_count_of_writers t.disk.block_size (open_files_view t files) + blocks_taken_by_operation op ≤ block_count t.disk)
+  pub room : (blocks_taken_by_operation op ≡ 0) ⊎ (length (disk_summary_of_tree t).used + reserved_block_count_of_writers t.disk.profile t.disk.block_size (open_files_view t files) + blocks_taken_by_operation op ≤ block_count t.disk)
 
 -- the files of the writers are there as before
 abbrev pub KeepsFilesOfWriters : TreeState → TreeState → List Writer → Type 0

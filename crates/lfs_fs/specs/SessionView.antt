@@ -50,9 +50,9 @@ session_view_of_tree_and_files tree files = session_view_of_tree_and_files_view 
 -- blocks that the writer holds.
 pub record AreUnsavedContentsOfWriter (t : TreeState) (w : Writer) (u : UnsavedContents) : Type 0 where
   pub over : AreWriterContentsOverTreeFile t w.path u.contents
-  pub kept : IsStorageFormOfWriterContents t.disk.block_size (storage_form_of_contents u.contents) (writer_view t w)
-  pub form : IsInMemoryExactlyUpToInlineLimit (inline_limit t.disk.block_size) (storage_form_of_contents u.contents)
-  pub room : length (disk_summary_of_tree t).used + blocks_reserved_for_size t.disk.block_size u.has_turned w.size ≤ block_count t.disk
+  pub kept : IsStorageFormOfWriterContents t.disk.profile t.disk.block_size (storage_form_of_contents u.contents) (writer_view t w)
+  pub form : IsInMemoryExactlyUpToInlineLimit (inline_limit t.disk.profile t.disk.block_size) (storage_form_of_contents u.contents)
+  pub room : length (disk_summary_of_tree t).used + blocks_reserved_for_size t.disk.profile t.disk.block_size u.has_turned w.size ≤ block_count t.disk
 
 abbrev pub AreOptionalUnsavedContentsOfWriter : TreeState → Writer → Option UnsavedContents → Type 0
 AreOptionalUnsavedContentsOfWriter t w None = Unit {0}

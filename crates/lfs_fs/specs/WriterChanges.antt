@@ -1,5 +1,6 @@
 -- What calls of a writer need of the tree, and what they do.
 use Rattle.std.specs.Prelude.{ℕ, ◌≡◌, ◌+◌, ◌^◌, ◌≤◌, ◌<◌, Bool, true, false, List, length, Option, Some, None, is_some, slice_set}
+use Rattle.lfs_model.specs.declared.limits.Profile.{Profile}
 use Rattle.lfs_model.specs.TreeEdits.{is_file}
 use Rattle.lfs_model.specs.BlockSets.{in_flight_block_count}
 use Rattle.lfs_model.specs.Disk.{block_count}
@@ -27,9 +28,9 @@ pub record HasFileUnderUnsavedContents (t : TreeState) (path : Path) (unsaved : 
   pub over : (u : UnsavedContents) → unsaved ≡ Some u → AreWriterContentsOverTreeFile t path u.contents
 
 -- the form of such contents
-abbrev pub IsStorageFormOfOptionalUnsavedContents : ℕ → Option UnsavedContents → ℕ → ContentsStorageForm → Type 0
-IsStorageFormOfOptionalUnsavedContents block_size None size shape = IsFormOfOpenedContents block_size size shape
-IsStorageFormOfOptionalUnsavedContents block_size (Some u) size shape = shape ≡ storage_form_of_contents u.contents
+abbrev pub IsStorageFormOfOptionalUnsavedContents : Profile → ℕ → Option UnsavedContents → ℕ → ContentsStorageForm → Type 0
+IsStorageFormOfOptionalUnsavedContents profile block_size None size shape = IsFormOfOpenedContents profile block_size size shape
+IsStorageFormOfOptionalUnsavedContents profile block_size (Some u) size shape = shape ≡ storage_form_of_contents u.contents
 
 -- The writer may be changed: the tree works, and no block is in flight but the writer's.
 pub record CanChangeWriter (t : TreeState) (w : Writer) : Type 0 where
@@ -39,7 +40,7 @@ pub record CanChangeWriter (t : TreeState) (w : Writer) : Type 0 where
 
 -- there is room for what a writer would hold
 abbrev pub HasRoomForWriter : TreeState → session.FileWriter → Type 0
-HasRoomForWriter t w = length (disk_summary_of_tree t).used + reserved_block_count_of_writer t.disk.block_size w ≤ block_count t.disk
+HasRoomForWriter t w = length (disk_summary_of_tree t).used + reserved_block_count_of_writer t.disk.profile t.disk.block_size w ≤ block_count t.disk
 
 pub record CanWriteByWriter (t : TreeState) (w : Writer) (bytes : List ℕ) : Type 0 where
   pub can : CanChangeWriter t w

@@ -3,7 +3,7 @@
 ghost use Rattle.std.specs.Prelude.{if◌then◌else◌, nat_lt, ◌+◌, ◌≡◌, ◌<◌, ◌^◌, ℕ, List, [], length, map, true, false, is_some, unwrap_or};
 ghost use Rattle.lfs_model.specs.Operations as ops;
 ghost use Rattle.lfs_model.specs.Session.{is_entry_over_charge_limit};
-ghost use Rattle.lfs_model.specs.Disk.{block_count};
+ghost use Rattle.lfs_model.specs.Disk.{block_count, attr_max_of, file_max_of, name_max_of};
 ghost use Rattle.lfs_fs.specs.FileView.{open_file_at, open_files_view, blocks_reserved_by_writers, blocks_reserved_for_size, writer_of_open_file_or_none};
 ghost use Rattle.lfs_model.specs.Refusals.{path_of_bytes_or_root};
 ghost use Rattle.lfs_model.specs.Effects.{directory_items_at_path, file_size_of_node};
@@ -24,7 +24,6 @@ use crate::flags::OpenFlags;
 use bitflags::Flags;
 use lfs_device::{BlockDevice, Error};
 use lfs_lookup::{FileContents, FoundFile, ListItem, Path, PathLookup, Stat, refuse_if};
-use lfs_tag::Superblock;
 use lfs_tree::Tree;
 use std::alloc::Global;
 
@@ -47,8 +46,30 @@ pub(crate) fn is_entry_with_attributes_too_large<D: BlockDevice>(
     ensures { (name : List ℕ) (attributes : Attributes) → length name ≡ name_len → attributes_size attributes ≡ attributes_len → result ≡ is_entry_over_charge_limit (disk_summary_of_tree tree.now) name attributes }
 {
     let geometry = tree.geometry();
-    let entry = 4 + name_len as u64 + (4 + u64::from(geometry.inline_limit()));
+    let entry = 4 + name_len as u64 + (4 + u64::from(geometry.struct_limit()));
     u64::from(geometry.entry_size_limit()) < entry.saturating_add(attributes_len as u64)
+}
+
+// Returns whether a name of that length is longer than the profile lets be written.
+pub(crate) fn is_name_too_long<D: BlockDevice>(tree: &Tree<D>, name_len: usize) -> bool
+    ensures { result ≡ nat_lt (name_max_of tree.now.disk.profile) name_len }
+{
+    name_len > tree.geometry().name_max() as usize
+}
+
+// Returns whether a file of that size is longer than the profile lets be written.
+fn is_file_too_long<D: BlockDevice>(tree: &Tree<D>, size: u64) -> bool
+    ensures longer { result ≡ nat_lt (file_max_of tree.now.disk.profile) size }
+    ensures small { result ≡ false → size < 2 ^ 31 }
+{
+    size > u64::from(tree.geometry().file_max())
+}
+
+// Returns whether an attribute of that length is longer than the profile lets be written.
+fn is_attribute_too_long<D: BlockDevice>(tree: &Tree<D>, len: usize) -> bool
+    ensures { result ≡ nat_lt (attr_max_of tree.now.disk.profile) len }
+{
+    len > tree.geometry().attr_max() as usize
 }
 
 // Returns whether fewer blocks than that are free.
@@ -59,7 +80,7 @@ pub(crate) fn has_too_few_free_blocks<D: BlockDevice>(
 ) -> bool
     requires works { tree.now.failed ≡ false }
     requires small { need < 16 }
-    ensures { result ≡ nat_lt (block_count tree.now.disk) (length (disk_summary_of_tree tree.now).used + blocks_reserved_by_writers tree.now.disk.block_size files.now + need) }
+    ensures { result ≡ nat_lt (block_count tree.now.disk) (length (disk_summary_of_tree tree.now).used + blocks_reserved_by_writers tree.now.disk.profile tree.now.disk.block_size files.now + need) }
 {
     let held = files.reserved_block_count(tree.geometry());
     (tree.geometry().block_count as u64) < tree.used_count() as u64 + held + need as u64
@@ -113,10 +134,7 @@ pub fn check_mkdir<'a, D: BlockDevice>(
     let found = tree.look_up(alloc, &path)?;
     let checks = [
         found.fault,
-        refuse_if(
-            path.name_len() > Superblock::NAME_MAX as usize,
-            Error::NameTooLong,
-        ),
+        refuse_if(is_name_too_long(tree, path.name_len()), Error::NameTooLong),
         refuse_if(!found.node.is_nothing(), Error::Exist),
         refuse_if(
             is_new_entry_too_large(tree, path.name_len()),
@@ -142,7 +160,7 @@ pub fn check_seek<D: BlockDevice>(
     if !files.is_open(fd) {
         return Err(Error::BadFile);
     }
-    if position > Superblock::FILE_MAX {
+    if is_file_too_long(tree, position as u64) {
         return Err(Error::Invalid);
     }
     Ok(())
@@ -234,7 +252,7 @@ pub fn check_open_writer<'a, D: BlockDevice>(
         refuse_if(
             are_both_true(
                 are_both_true(is_absent, creates),
-                path.name_len() > Superblock::NAME_MAX as usize,
+                is_name_too_long(tree, path.name_len()),
             ),
             Error::NameTooLong,
         ),
@@ -424,7 +442,7 @@ pub fn check_set_attr<'a, D: BlockDevice>(
     let checks = [
         found.finding.fault,
         refuse_if(found.finding.node.is_nothing(), Error::NoEnt),
-        refuse_if(value.len() > Superblock::ATTR_MAX as usize, Error::TooBig),
+        refuse_if(is_attribute_too_long(tree, value.len()), Error::TooBig),
         refuse_if(
             is_entry_with_attributes_too_large(tree, path.name_len(), size),
             Error::EntryFull,
@@ -437,7 +455,7 @@ pub fn check_set_attr<'a, D: BlockDevice>(
 // Returns whether there is no room for the blocks that a writer would hold.
 fn lacks_room_for_writer_blocks<D: BlockDevice>(tree: &Tree<D>, has_turned: bool, size: u32) -> bool
     requires { tree.now.failed ≡ false }
-    ensures { result ≡ nat_lt (block_count tree.now.disk) (length (disk_summary_of_tree tree.now).used + blocks_reserved_for_size tree.now.disk.block_size has_turned size) }
+    ensures { result ≡ nat_lt (block_count tree.now.disk) (length (disk_summary_of_tree tree.now).used + blocks_reserved_for_size tree.now.disk.profile tree.now.disk.block_size has_turned size) }
 {
     let held = reserved_block_count_for_size(tree.geometry(), has_turned, size);
     (tree.geometry().block_count as u64) < tree.used_count() as u64 + held
@@ -463,7 +481,7 @@ pub fn check_write<D: BlockDevice>(
         return Ok(());
     }
     let place = writer.place();
-    if place as u64 + bytes.len() as u64 > Superblock::FILE_MAX as u64 {
+    if is_file_too_long(tree, place as u64 + bytes.len() as u64) {
         return Err(Error::TooBig);
     }
     let size = writer.size.max(place + bytes.len() as u32);
@@ -493,7 +511,7 @@ pub fn check_truncate<D: BlockDevice>(
     let Some(writer) = files.writer(fd) else {
         return Err(Error::BadFile);
     };
-    if size > Superblock::FILE_MAX {
+    if is_file_too_long(tree, size as u64) {
         return Err(Error::TooBig);
     }
     if size != writer.size

@@ -112,7 +112,7 @@ impl Writer {
 
     // Returns how many blocks are held for the writer.
     fn reserved_block_count(&self, geometry: Geometry) -> u64
-        ensures held { result ≡ blocks_reserved_by_writer geometry.block_size self.now }
+        ensures held { result ≡ blocks_reserved_by_writer geometry.profile geometry.block_size self.now }
         ensures few { result < 2 ^ 34 }
     {
         match &self.unsaved {
@@ -169,7 +169,7 @@ impl Files {
 
     // Returns how many blocks the open writer holds.
     pub(crate) fn reserved_block_count(&self, geometry: Geometry) -> u64
-        ensures held { result ≡ blocks_reserved_by_writers geometry.block_size self.now }
+        ensures held { result ≡ blocks_reserved_by_writers geometry.profile geometry.block_size self.now }
         ensures few { result < 2 ^ 34 }
     {
         blocks_reserved_among(&self.entries, geometry)
@@ -432,7 +432,7 @@ fn close_file_in_table(entries: &mut Vec<Option<OpenFile>>, index: usize)
 // Returns how many blocks the writer holds, of which there is one at most.
 fn blocks_reserved_among(entries: &[Option<OpenFile>], geometry: Geometry) -> u64
     requires { length (writers_among entries.now) ≤ 1 }
-    ensures held { result ≡ blocks_reserved_by_writers geometry.block_size entries.now }
+    ensures held { result ≡ blocks_reserved_by_writers geometry.profile geometry.block_size entries.now }
     ensures few { result < 2 ^ 34 }
 {
     for entry in entries {
@@ -445,7 +445,7 @@ fn blocks_reserved_among(entries: &[Option<OpenFile>], geometry: Geometry) -> u6
 
 // Returns how many blocks are held for changed contents of so many bytes.
 pub(crate) fn reserved_block_count_for_size(geometry: Geometry, has_turned: bool, size: u32) -> u64
-    ensures held { result ≡ blocks_reserved_for_size geometry.block_size has_turned size }
+    ensures held { result ≡ blocks_reserved_for_size geometry.profile geometry.block_size has_turned size }
     ensures few { result < 2 ^ 34 }
 {
     if size <= geometry.inline_limit() {

@@ -15,7 +15,7 @@ use lfs_writer::reserved_blocks_suffice_for_calls;
 // No more blocks are in flight than the session holds back. An operation that the tree applies
 // leaves the contents of a writer.
 pub(crate) fn tree_changes_spare_open_files()
-    ensures few { (t : TreeState) (files : RuntimeOpenFilesByNumber) → IsSessionReadyForCalls t files → in_flight_block_count t.map ≤ reserved_block_count_of_writers t.disk.block_size (open_files_view t files) }
+    ensures few { (t : TreeState) (files : RuntimeOpenFilesByNumber) → IsSessionReadyForCalls t files → in_flight_block_count t.map ≤ reserved_block_count_of_writers t.disk.profile t.disk.block_size (open_files_view t files) }
     ensures stay { (old new : TreeState) (op : Operation) (files : RuntimeOpenFilesByNumber) → IsSessionReadyForCalls old files → OperationConcernsNoOpenFileAndHasRoom old op files → KeepsFilesOfWriters old new (writers_among files) → IsOperationAppliedToTree old op new → OpenFilesStaySameAndReady old new files }
 {
     operations_leave_writer_contents_alone();

@@ -14,13 +14,13 @@ ghost use Rattle.lfs_fs.specs.RenamePaths.{IsRefusedWhateverFilesAreOpen, IsPerm
 
 use crate::check_order::{are_both_true, find_first_refusal, value_unless_checks_refuse};
 use crate::checks::{
-    has_too_few_free_blocks, is_entry_with_attributes_too_large, parse_path_unless_root,
+    has_too_few_free_blocks, is_entry_with_attributes_too_large, is_name_too_long,
+    parse_path_unless_root,
 };
 use crate::files::Files;
 use crate::owned_path::are_same_path_bytes;
 use lfs_device::{BlockDevice, Error};
 use lfs_lookup::{Path, Refusal, refuse_if};
-use lfs_tag::Superblock;
 use lfs_tree::{RenameFindings, RenameTargets, Tree};
 use std::alloc::Global;
 
@@ -142,7 +142,7 @@ fn rename_refusal_by_findings<D: BlockDevice>(
     let checks = [
         found.entry.fault,
         found.target.finding.fault,
-        refuse_if(name_len > Superblock::NAME_MAX as usize, Error::NameTooLong),
+        refuse_if(is_name_too_long(tree, name_len), Error::NameTooLong),
         refuse_if(entry.is_nothing(), Error::NoEnt),
         refuse_replacement_unless_same_path(is_same, puts_directory, Error::NotDir),
         refuse_replacement_unless_same_path(is_same, puts_file, Error::IsDir),

@@ -1,12 +1,13 @@
 ghost use Rattle.lfs_model.specs.Operations as ops;
 ghost use Rattle.lfs_model.specs.Operations.{Operation, Reply as Answer};
 ghost use Rattle.lfs_fs.specs.Replies.{reply_from_result};
-ghost use Rattle.std.specs.Prelude.{◌≡◌, ◌⊎◌, ◌++◌, None, false, true, List, [], map, All, IfOk, IfErr, OnOk};
+ghost use Rattle.std.specs.Prelude.{◌≡◌, ◌⊎◌, ◌++◌, ◌+◌, ◌≤◌, None, Some, false, true, List, [], map, All, IfOk, IfErr, OnOk};
 ghost use Rattle.lfs_model.specs.Disk.{SameGeometry};
 ghost use Rattle.lfs_model.specs.Thread.{Pair, blocks_of_pair_address};
 ghost use Rattle.lfs_model.specs.Fresh.{empty_tree};
 ghost use Rattle.lfs_model.specs.Headline.{IsSessionHealthyWithDiskTree, IsSessionAgreeingWithItsDisk};
-ghost use Rattle.lfs_model.specs.History.{fault_count_of_history};
+ghost use Rattle.lfs_model.specs.History.{fault_count_of_history, read_count_of_history};
+ghost use Rattle.lfs_model.specs.Profile.{superblock_of_image};
 ghost use Rattle.lfs_model.specs.State.{Healthy, session_after_mount};
 ghost use Rattle.lfs_model.specs.Run.{AreSessionSteps, SystemState};
 ghost use Rattle.lfs_model.specs.Performed.{AreStepsSurvivingLossWithinReadBounds};
@@ -20,9 +21,11 @@ ghost use Rattle.lfs_thread.specs.Kept.{disk_of_device, kept_thread_view};
 ghost use Rattle.lfs_model.specs.Thread.{anchor_pair_address};
 ghost use Rattle.lfs_model.specs.View.{IsAcceptedImage};
 ghost use Rattle.lfs_lookup.specs.Finds.{list_item_view, stat_view};
+ghost use Rattle.lfs_tag.specs.FieldsView.{superblock_view};
 ghost use Rattle.lfs_tree.specs.Formats.{FailedFormatSparesOtherBlocksInBothOrders, IsFreshlyFormatted, WritesFirstTwoBlocks};
 ghost use Rattle.lfs_tree.specs.TreeState.{kept_thread_of_tree_state};
 ghost use Rattle.lfs_fs.specs.GstateView.{reply_of_returned_gstate};
+ghost use Rattle.lfs_fs.specs.ImageLimits.{HasSessionFailedByRead, WasWorkingSessionRead};
 ghost use Rattle.lfs_fs.specs.SessionView.{IsSessionBegunByMount, EndsRunByError, system_state_of_session_view};
 ghost use Rattle.lfs_fs.specs.FlagsView.{flags_view};
 ghost use Rattle.lfs_fs.specs.OpView.{RefusesOnlyWithRefusalError, op_view, reply_result_view, reply_view};
@@ -53,6 +56,7 @@ use crate::writers::{
 use bitflags::Flags;
 use lfs_device::{BlockDevice, Error, NameOrder, Ordered};
 use lfs_lookup::{ListItem as Item, Stat};
+use lfs_tag::Superblock;
 use lfs_tree::{Tree, mount_in_either_name_order};
 use std::alloc::Global;
 use std::marker::Model;
@@ -64,9 +68,10 @@ use std::marker::Model;
 /// of the device failed, and with `NoMemory` where memory isn't granted. A session that has failed
 /// returns `Failed` from each call but [`remount`](Session::remount).
 ///
-/// Each call names its refusals in the order in which they are checked. `ReadOnly`, `BadFile`,
-/// `Invalid` and `Failed` come without a call of the device. So do all refusals of
-/// [`write`](Session::write) and [`truncate`](Session::truncate).
+/// Each call names its refusals in the order in which they are checked. A limit in bytes is the
+/// format's own, which the profile of the device may lower. `ReadOnly`, `BadFile`, `Invalid` and
+/// `Failed` come without a call of the device. So do all refusals of [`write`](Session::write) and
+/// [`truncate`](Session::truncate).
 #[derive(Drop)]
 pub struct Session<D: BlockDevice> {
     tree: Tree<Ordered<D>>,
@@ -170,8 +175,9 @@ impl<D: BlockDevice> Session<D> {
     ///
     /// `ReadOnly` where the image isn't in the writing profile; `Invalid` where the path isn't well
     /// formed; `NoEnt` or `NotDir` where a parent is missing or is a file; `NameTooLong` where the
-    /// name has more than 255 bytes; `Exist` where an entry is there; `EntryFull` where the name
-    /// takes too much of a metadata pair; `NoSpace` where fewer than four blocks are free.
+    /// name has more than 255 bytes, or more than the profile allows; `Exist` where an entry is
+    /// there; `EntryFull` where the name takes too much of a metadata pair; `NoSpace` where fewer
+    /// than four blocks are free.
     pub fn mkdir(&mut self, alloc: Global, path: &[u8]) -> Result<(), Error>
         ensures { IsSessionCallWithResult self.old (ops.Mkdir path.now) (reply_from_result (λ _. ops.Done) result) self.new }
     {
@@ -209,11 +215,11 @@ impl<D: BlockDevice> Session<D> {
     /// `ReadOnly` where the image isn't in the writing profile; `Invalid` where a path isn't well
     /// formed or is the root's, or the new one is beneath the old one; `NoEnt` or `NotDir` where a
     /// parent is missing or is a file, of the old path first; `NameTooLong` where the new name has
-    /// more than 255 bytes; `NoEnt` where no entry is at the old path; `NotDir` for a directory in
-    /// place of a file, `IsDir` for a file in place of a directory, `NotEmpty` where the directory
-    /// in its place has entries; `Busy` where a file at the old path, beneath it or at the new path
-    /// is open; `EntryFull` where the new name and the attributes take too much of a metadata pair;
-    /// `NoSpace` where fewer than two blocks are free.
+    /// more than 255 bytes, or more than the profile allows; `NoEnt` where no entry is at the old
+    /// path; `NotDir` for a directory in place of a file, `IsDir` for a file in place of a
+    /// directory, `NotEmpty` where the directory in its place has entries; `Busy` where a file at
+    /// the old path, beneath it or at the new path is open; `EntryFull` where the new name and the
+    /// attributes take too much of a metadata pair; `NoSpace` where fewer than two blocks are free.
     pub fn rename(&mut self, alloc: Global, from: &[u8], to: &[u8]) -> Result<(), Error>
         ensures { IsSessionCallWithResult self.old (ops.Rename from.now to.now) (reply_from_result (λ _. ops.Done) result) self.new }
     {
@@ -230,13 +236,14 @@ impl<D: BlockDevice> Session<D> {
     }
 
     /// Sets an attribute of an entry, in place of the one of that type, if the entry has one. The
-    /// type is from 0 to 255, and the value has at most 1,022 bytes. A recovery comes first.
+    /// type is from 0 to 255, and the value has at most 1,022 bytes, or fewer by the profile. A
+    /// recovery comes first.
     ///
     /// # Errors
     ///
     /// `ReadOnly` where the image isn't in the writing profile; `Invalid` where the path isn't well
     /// formed or is the root's; `NoEnt` or `NotDir` where a parent is missing or is a file; `NoEnt`
-    /// where no entry is there; `TooBig` where the value has more than 1,022 bytes; `EntryFull`
+    /// where no entry is there; `TooBig` where the value has more bytes than that; `EntryFull`
     /// where the name and the attributes take too much of a metadata pair; `NoSpace` where fewer
     /// than two blocks are free.
     pub fn set_attr(
@@ -357,13 +364,13 @@ impl<D: BlockDevice> Session<D> {
     /// `ReadOnly` where the file is opened for writing and the image isn't in the writing profile;
     /// `Invalid` where the path isn't well formed or the flags aren't allowed together; `NoEnt` or
     /// `NotDir` where a parent is missing or is a file; of a file to create `NameTooLong` where its
-    /// name has more than 255 bytes; `NoEnt` where no entry is there and none is created; `Exist`
-    /// where an entry is there, with [`EXCLUSIVE`](OpenFlags::EXCLUSIVE); `IsDir` for a directory;
-    /// `Busy` for writing where a file is open for writing, or this one is open at all; `Busy` for
-    /// reading where this file is open for writing, or 16 files are open for reading; of a file to
-    /// create `EntryFull` where its name takes too much of a metadata pair; `NoSpace` where fewer
-    /// than two blocks are free for a file to create, or with [`TRUNCATE`](OpenFlags::TRUNCATE) too
-    /// few for the file anew.
+    /// name has more than 255 bytes, or more than the profile allows; `NoEnt` where no entry is
+    /// there and none is created; `Exist` where an entry is there, with
+    /// [`EXCLUSIVE`](OpenFlags::EXCLUSIVE); `IsDir` for a directory; `Busy` for writing where a
+    /// file is open for writing, or this one is open at all; `Busy` for reading where this file is
+    /// open for writing, or 16 files are open for reading; of a file to create `EntryFull` where
+    /// its name takes too much of a metadata pair; `NoSpace` where fewer than two blocks are free
+    /// for a file to create, or with [`TRUNCATE`](OpenFlags::TRUNCATE) too few for the file anew.
     pub fn open(&mut self, alloc: Global, path: &[u8], flags: OpenFlags) -> Result<Fd, Error>
         ensures { IsSessionCallWithResult self.old (ops.Open path.now (flags_view flags)) (reply_from_result ops.Opened result) self.new }
     {
@@ -381,8 +388,8 @@ impl<D: BlockDevice> Session<D> {
     /// # Errors
     ///
     /// `BadFile` where no file is open for writing under the number; `TooBig` where the file would
-    /// have more than 2,147,483,647 bytes; `NoSpace` where too few blocks are free for what the
-    /// file would hold.
+    /// have more than 2,147,483,647 bytes, or more than the profile allows; `NoSpace` where too few
+    /// blocks are free for what the file would hold.
     pub fn write(&mut self, alloc: Global, fd: Fd, bytes: &[u8]) -> Result<u32, Error>
         ensures { IsSessionCallWithResult self.old (ops.Write fd bytes.now) (reply_from_result ops.Count result) self.new }
     {
@@ -402,7 +409,8 @@ impl<D: BlockDevice> Session<D> {
     /// # Errors
     ///
     /// `BadFile` where no file is open for writing under the number; `TooBig` for more than
-    /// 2,147,483,647 bytes; `NoSpace` where too few blocks are free for what the file would hold.
+    /// 2,147,483,647 bytes, or more than the profile allows; `NoSpace` where too few blocks are
+    /// free for what the file would hold.
     pub fn truncate(&mut self, alloc: Global, fd: Fd, size: u32) -> Result<(), Error>
         ensures { IsSessionCallWithResult self.old (ops.Truncate fd size) (reply_from_result (λ _. ops.Done) result) self.new }
     {
@@ -469,7 +477,7 @@ impl<D: BlockDevice> Session<D> {
     /// # Errors
     ///
     /// `BadFile` where no file is open under the number; `Invalid` for a position above
-    /// 2,147,483,647.
+    /// 2,147,483,647, or above the profile's longest file.
     pub fn seek(&mut self, fd: Fd, position: u32) -> Result<(), Error>
         ensures { IsSessionCallWithResult self.old (ops.Seek fd position) (reply_from_result (λ _. ops.Done) result) self.new }
     {
@@ -536,6 +544,29 @@ impl<D: BlockDevice> Session<D> {
         ensures { result ≡ self.now.tree.disk.order }
     {
         self.tree.device().order()
+    }
+
+    /// Returns the image's superblock: the version, the sizes of the device and the limits that the
+    /// image has. Where the limits are others than those of the session's profile, the image isn't
+    /// in the writing profile; [`mount_with_limits`](crate::mount_with_limits) takes those of the
+    /// image. The call takes at most one read.
+    ///
+    /// # Errors
+    ///
+    /// `Io` where the read failed, and `NoMemory` where memory isn't granted. After either the
+    /// session has failed.
+    pub fn superblock(&mut self, alloc: Global) -> Result<Superblock, Error>
+        ensures is { IfOk result (λ f. superblock_of_image self.old.tree.pairs ≡ Some (superblock_view f)) }
+        ensures read { OnOk result (WasWorkingSessionRead self.old self.new) }
+        ensures failed { IfErr result (HasSessionFailedByRead self.old self.new) }
+        ensures few { read_count_of_history self.new.tree.history ≤ read_count_of_history self.old.tree.history + 1 }
+    {
+        if self.tree.has_failed() {
+            return Err(Error::Failed);
+        }
+        let superblock = self.tree.superblock(alloc);
+        show_conforming_device_calls_to_proof(&self.tree);
+        superblock
     }
 
     // Performs one operation. A refusal is a reply; after an error the session has failed.
@@ -609,6 +640,9 @@ impl<D: BlockDevice> Session<D> {
 /// Begins a session over the image of a device, in the order of names that the image has. Where
 /// both orders fit, the longer names come first, as littlefs's own code has them. Only reads are
 /// made.
+///
+/// An image whose limits are others than those of the device's profile isn't in the writing
+/// profile. [`mount_with_limits`](crate::mount_with_limits) takes the limits of the image.
 ///
 /// # Errors
 ///

@@ -44,7 +44,7 @@ fn contents_of_writer<D: BlockDevice>(
     ensures asked { OnOk result (WasTreeOnlyRead tree.old tree.new) }
     ensures over { IfOk result (AreWriterContentsOverTreeFile tree.new path.now) }
     ensures bytes { IfOk result (λ c. bytes_of_writer_contents (kept_thread_of_tree_state tree.new) c ≡ unsaved_or_tree_bytes_of_writer tree.old path.now unsaved) }
-    ensures form { IfOk result (λ c. IsStorageFormOfOptionalUnsavedContents tree.old.disk.block_size unsaved (length (unsaved_or_tree_bytes_of_writer tree.old path.now unsaved)) (storage_form_of_contents c)) }
+    ensures form { IfOk result (λ c. IsStorageFormOfOptionalUnsavedContents tree.old.disk.profile tree.old.disk.block_size unsaved (length (unsaved_or_tree_bytes_of_writer tree.old path.now unsaved)) (storage_form_of_contents c)) }
     ensures broken { OnErr result (IsTreeFailedByRead tree.old tree.new) }
     ensures errors { IfErr result (IsIoWithFaultOrNoMemory tree.old tree.new) }
 {

@@ -10,6 +10,8 @@ mod answers;
 #[cfg(test)]
 mod failed_sessions;
 #[cfg(test)]
+mod limits;
+#[cfg(test)]
 mod lines;
 #[cfg(test)]
 mod memory;

@@ -149,9 +149,9 @@ module _ (t : KeptThread) (path : Path) where
   not_file shown.ParentIsMissing s e = ap is_file (nothing_at t.disk t.pairs path (refused_none t.disk t.pairs path [] ops.NoEnt s.shows))
 
 -- an entry of the writing profile has few bytes in its slot
-inline_within : (disk : Disk) (ps : List Pair) (first : ℕ) (name : Name) (index id : ℕ) (s : IsPlaceOfNameInDirectory ps first name index id) → IsWritableImage disk ps → HasInlineBytesWithinLimit (inline_limit disk.block_size) s.stands.slot.struct
+inline_within : (disk : Disk) (ps : List Pair) (first : ℕ) (name : Name) (index id : ℕ) (s : IsPlaceOfNameInDirectory ps first name index id) → IsWritableImage disk ps → HasInlineBytesWithinLimit (inline_limit disk.profile disk.block_size) s.stands.slot.struct
 inline_within disk ps first name index id s fits =
-    let fit : Slot → Type 0 = IsSlotWithinWritableLimits disk.block_size disk.page in
+    let fit : Slot → Type 0 = IsSlotWithinWritableLimits disk.profile disk.block_size disk.page in
     let all = recursion_from_All (λ (p : Pair). All fit p.content.slots) ps fits.slots in
     let one = (each_right (λ (p : Pair). All fit p.content.slots) s.place.left (s.pair ∷ s.rest)
     (each_right (λ (p : Pair). All fit p.content.slots) s.place.front (s.place.left ++ s.pair ∷ s.rest) (subst (Each (λ (p : Pair). All fit p.content.slots)) s.place.parts all))).0 in
@@ -165,7 +165,7 @@ pub record IsFileOf (t : KeptThread) (path : Path) (slot : SlotPosition) (conten
   pub bytes : file_bytes_of_struct t.disk held.struct ≡ file_bytes_of_node (tree_on_disk t.disk t.pairs path)
   pub few : length (file_bytes_of_struct t.disk held.struct) < 2 ^ 31
   pub at : slot_of_path t.pairs path ≡ Some held
-  pub inline : IsWritableImage t.disk t.pairs → HasInlineBytesWithinLimit (inline_limit t.disk.block_size) held.struct
+  pub inline : IsWritableImage t.disk t.pairs → HasInlineBytesWithinLimit (inline_limit t.disk.profile t.disk.block_size) held.struct
 
 pub file_of_path : (t : KeptThread) (path : Path) (x : VisiblePathLookup) (slot : SlotPosition) (contents : FileStorage) → IsAcceptedImage t.disk t.pairs → IsLookupResultAtPathHidingMovedSlot t path x → spot_and_storage_of_found_file x ≡ Some (slot, contents) → IsFileOf t path slot contents
 file_of_path t path x slot contents ok shows e =

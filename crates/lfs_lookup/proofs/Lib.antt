@@ -18,6 +18,7 @@ pub mod Roots
 mod LastNames
 pub mod RootPairs
 mod Profiled
+mod ImageSuperblock
 pub mod AtPaths
 mod ListAtNames
 mod ListAtShort

@@ -4,12 +4,13 @@ use Rattle.std.specs.Prelude.{All, nat_le}
 use Rattle.std.specs.List.{remove}
 use Rattle.std.proofs.lemmas.Bool.{leb-true}
 use Rattle.std.proofs.lemmas.List.Elements.{recursion_from_All}
+use Rattle.lfs_model.specs.declared.limits.AcceptedVersions.{AcceptedVersions}
 use Rattle.lfs_model.specs.Disk.{Disk}
 use Rattle.lfs_model.specs.Names.{is_path_component, name_limit}
 use Rattle.lfs_model.specs.Slots.{Gstate, Slot, is_superblock, same_pair}
 use Rattle.lfs_model.specs.Thread.{Pair, gstate_of_pairs, pair_count_before_root, slots_not_moved, entries_not_moved}
 use Rattle.lfs_model.specs.Tree.{Path}
-use Rattle.lfs_model.specs.View.{IsAcceptedImage, IsFileOrDirectoryEntry, HasSuperblockWithInlineBytesIfAnySlot}
+use Rattle.lfs_model.specs.View.{IsAcceptedImage, IsFileOrDirectoryEntry, HasSuperblockIfAnySlot}
 use Rattle.lfs_model.specs.Shown.{IsPathToDirectory, entries_by_directory_in_thread}
 use Rattle.lfs_model.proofs.Counts.{Each, each_weaker}
 use Rattle.lfs_lookup.proofs.Visits.{each_visible}
@@ -31,9 +32,9 @@ entry_fits s h k = leb-true (length s.name) name_limit (right (is_path_component
 entries_fit : (slots : List Slot) → All IsFileOrDirectoryEntry slots → Each may_fit slots
 entries_fit slots h = each_weaker IsFileOrDirectoryEntry may_fit entry_fits slots (recursion_from_All IsFileOrDirectoryEntry slots h)
 
-headed_fit : (bytes : List ℕ) (slots : List Slot) → HasSuperblockWithInlineBytesIfAnySlot bytes slots → Each may_fit slots
-headed_fit bytes [] h = tt
-headed_fit bytes (s ∷ slots) h = ((λ k. let e = h.0 in absurd (cc)), entries_fit slots h.2)
+headed_fit : (versions : AcceptedVersions) (bytes : List ℕ) (slots : List Slot) → HasSuperblockIfAnySlot versions bytes slots → Each may_fit slots
+headed_fit versions bytes [] h = tt
+headed_fit versions bytes (s ∷ slots) h = ((λ k. let e = h.0 in absurd (cc)), entries_fit slots h.2)
 
 -- ---- the pairs of the thread
 
@@ -47,8 +48,8 @@ pairs_fit disk ps ok =
     let n = pair_count_before_root ps + 1 in
     let s = ok.superblock in
     each_parted (λ p. Each may_fit p.content.slots) n ps
-    (each_weaker (λ (p : Pair). HasSuperblockWithInlineBytesIfAnySlot s.0 p.content.slots) (λ (p : Pair). Each may_fit p.content.slots) (λ p h. headed_fit s.0 p.content.slots h) (take n ps)
-    (recursion_from_All (λ (p : Pair). HasSuperblockWithInlineBytesIfAnySlot s.0 p.content.slots) (take n ps) s.1.1))
+    (each_weaker (λ (p : Pair). HasSuperblockIfAnySlot disk.profile.versions s.0 p.content.slots) (λ (p : Pair). Each may_fit p.content.slots) (λ p h. headed_fit disk.profile.versions s.0 p.content.slots h) (take n ps)
+    (recursion_from_All (λ (p : Pair). HasSuperblockIfAnySlot disk.profile.versions s.0 p.content.slots) (take n ps) s.1.1))
     (each_weaker (λ (p : Pair). All IsFileOrDirectoryEntry p.content.slots) (λ (p : Pair). Each may_fit p.content.slots) (λ p h. entries_fit p.content.slots h) (drop n ps)
     (recursion_from_All (λ (p : Pair). All IsFileOrDirectoryEntry p.content.slots) (drop n ps) ok.slots))
 

@@ -3,12 +3,16 @@ use Rattle.std.proofs.Common.{ℕ, zero, suc, ◌≡◌, ◌≢◌, ◌<◌, ◌
 use Rattle.std.specs.Prelude.{All, nat_lt, map, slice_index_or, Some}
 use Rattle.std.proofs.lemmas.List.{get_or-drop, get_or-take, get_or_default, length-drop, length-map, length-take}
 use Rattle.lfs_model.specs.Content.{RawSlot, slot_if_name_and_struct_present, slots_if_names_and_structs_present}
+use Rattle.lfs_device.specs.declared.geometry.Geometry.{Geometry}
+use Rattle.lfs_model.specs.declared.limits.AcceptedVersions.{AcceptedVersions}
+use Rattle.lfs_model.specs.declared.limits.Profile.{Profile}
 use Rattle.lfs_model.specs.Disk.{Disk}
 use Rattle.lfs_model.specs.Slots.{Directory, File, IsContentFittingPair, Inline, KindOfSlot, Slot, Superblock, is_superblock_kind}
 use Rattle.lfs_model.specs.Thread.{Pair, is_hard_tail, pair_count_before_root}
 use Rattle.lfs_model.specs.Profile.{IsSlotWithinWritableLimits, AreNoEmptyPairsAfterHardTails, IsWritableImage}
-use Rattle.lfs_model.specs.View.{HasSuperblockWithInlineBytesIfAnySlot, IsAcceptedImage, IsFileOrDirectoryEntry, IsStructOfKind}
+use Rattle.lfs_model.specs.View.{HasSuperblockIfAnySlot, IsAcceptedImage, IsFileOrDirectoryEntry, IsStructOfKind}
 use Rattle.lfs_model.proofs.Completed.{complete_length, complete_parts}
+use Rattle.lfs_thread.specs.Beside.{DiskHasGeometry}
 use Rattle.lfs_thread.specs.Steps.{empty_pair_at_anchor}
 use Rattle.lfs_lookup.specs.Profile.{IsPairInWritingProfile, HasSuperblockStructOf24Bytes, follows_hard_tail_at}
 
@@ -74,12 +78,12 @@ filled_each root ps h i l e =
 -- ---- the image
 
 abbrev pub EachFits : Disk → ℕ → List Pair → ℕ → Type 0
-EachFits disk root ps n = (i : ℕ) → i < n → IsPairInWritingProfile disk.block_size disk.page (follows_hard_tail_at root ps i) (slice_index_or ps i empty_pair_at_anchor).content
+EachFits disk root ps n = (i : ℕ) → i < n → IsPairInWritingProfile disk.profile disk.block_size disk.page (follows_hard_tail_at root ps i) (slice_index_or ps i empty_pair_at_anchor).content
 
 pub writable_from : (disk : Disk) (ps : List Pair) → EachFits disk (pair_count_before_root ps) ps (length ps) → IsWritableImage disk ps
 writable_from disk ps h = record {
   pairs = λ i d l. subst (λ (p : Pair). IsContentFittingPair disk.block_size disk.page p.content) (get_or_default ps i empty_pair_at_anchor d l) (h i l).pair;
-  slots = λ i d l. subst (λ (p : Pair). All (IsSlotWithinWritableLimits disk.block_size disk.page) p.content.slots) (get_or_default ps i empty_pair_at_anchor d l) (h i l).slots;
+  slots = λ i d l. subst (λ (p : Pair). All (IsSlotWithinWritableLimits disk.profile disk.block_size disk.page) p.content.slots) (get_or_default ps i empty_pair_at_anchor d l) (h i l).slots;
   no_empty_pair = have_from false (drop (pair_count_before_root ps) ps) (filled_from (pair_count_before_root ps) ps (λ i l. (h i l).filled));
 }
 
@@ -109,10 +113,10 @@ shaped_entry s e k = go s.kind k e.struct
     go Directory k e = absurd (cc)
     go Superblock k e = absurd e
 
-shaped_headed : (bytes : List ℕ) (slots : List Slot) → length bytes ≡ 24 → HasSuperblockWithInlineBytesIfAnySlot bytes slots → All HasSuperblockStructOf24Bytes slots
-shaped_headed bytes [] n h i d l = absurd (omega (arith, l))
-shaped_headed bytes (s ∷ slots) n h zero d l = λ k. (bytes, (h.1, n))
-shaped_headed bytes (s ∷ slots) n h (suc i) d l = shaped_entry (slice_index_or slots i d) (h.2 i d (omega (arith, l)))
+shaped_headed : (versions : AcceptedVersions) (bytes : List ℕ) (slots : List Slot) → length bytes ≡ 24 → HasSuperblockIfAnySlot versions bytes slots → All HasSuperblockStructOf24Bytes slots
+shaped_headed versions bytes [] n h i d l = absurd (omega (arith, l))
+shaped_headed versions bytes (s ∷ slots) n h zero d l = λ k. (h.1.0, (h.1.1.0, h.1.1.1.len ∙ n))
+shaped_headed versions bytes (s ∷ slots) n h (suc i) d l = shaped_entry (slice_index_or slots i d) (h.2 i d (omega (arith, l)))
 
 pub shaped_all : (disk : Disk) (ps : List Pair) (i : ℕ) → IsAcceptedImage disk ps → i < length ps → All HasSuperblockStructOf24Bytes (slice_index_or ps i empty_pair_at_anchor).content.slots
 shaped_all disk ps i ok l = go (below_or_not i (pair_count_before_root ps + 1))
@@ -122,7 +126,7 @@ shaped_all disk ps i ok l = go (below_or_not i (pair_count_before_root ps + 1))
         let n = length-take (pair_count_before_root ps + 1) ps in
         let s = ok.superblock in
         subst (λ (p : Pair). All HasSuperblockStructOf24Bytes p.content.slots) (get_or-take (pair_count_before_root ps + 1) ps i empty_pair_at_anchor a)
-        (shaped_headed s.0 (slice_index_or (take (pair_count_before_root ps + 1) ps) i empty_pair_at_anchor).content.slots s.1.0.len (s.1.1 i empty_pair_at_anchor (omega (arith, n, l, a))))
+        (shaped_headed disk.profile.versions s.0 (slice_index_or (take (pair_count_before_root ps + 1) ps) i empty_pair_at_anchor).content.slots s.1.0.len (s.1.1 i empty_pair_at_anchor (omega (arith, n, l, a))))
     go (inr a) =
         let n = length-drop (pair_count_before_root ps + 1) ps in
         let k = i - (pair_count_before_root ps + 1) in
@@ -148,33 +152,34 @@ complete_count f xs all e = complete_length (map f xs) all e ∙ length-map xs f
 abbrev pub no_slot : Slot
 no_slot = record { kind = File; name = []; struct = Inline []; attributes = [] }
 
-pub fits_next : (block_size page : ℕ) (all : List Slot) (n : ℕ) → n < length all → ((k : ℕ) (d : Slot) → k < n → IsSlotWithinWritableLimits block_size page (slice_index_or all k d)) →
-    IsSlotWithinWritableLimits block_size page (slice_index_or all n no_slot) → (k : ℕ) (d : Slot) → k < n + 1 → IsSlotWithinWritableLimits block_size page (slice_index_or all k d)
-fits_next block_size page all n m h f k d l = go (below_or_not k n)
+pub fits_next : (profile : Profile) (block_size page : ℕ) (all : List Slot) (n : ℕ) → n < length all → ((k : ℕ) (d : Slot) → k < n → IsSlotWithinWritableLimits profile block_size page (slice_index_or all k d)) →
+    IsSlotWithinWritableLimits profile block_size page (slice_index_or all n no_slot) → (k : ℕ) (d : Slot) → k < n + 1 → IsSlotWithinWritableLimits profile block_size page (slice_index_or all k d)
+fits_next profile block_size page all n m h f k d l = go (below_or_not k n)
   where
-    go : (k < n) ⊎ (n ≤ k) → IsSlotWithinWritableLimits block_size page (slice_index_or all k d)
+    go : (k < n) ⊎ (n ≤ k) → IsSlotWithinWritableLimits profile block_size page (slice_index_or all k d)
     go (inl a) = h k d a
     go (inr a) =
         let same : n ≡ k = omega (arith, a, l) in
-        subst (IsSlotWithinWritableLimits block_size page) (get_or_default all n no_slot d m ∙ ap (λ i. slice_index_or all i d) same) f
+        subst (IsSlotWithinWritableLimits profile block_size page) (get_or_default all n no_slot d m ∙ ap (λ i. slice_index_or all i d) same) f
 
-pub fits_more : (disk : Disk) (root : ℕ) (ps : List Pair) (n : ℕ) → EachFits disk root ps n → IsPairInWritingProfile disk.block_size disk.page (follows_hard_tail_at root ps n) (slice_index_or ps n empty_pair_at_anchor).content → EachFits disk root ps (n + 1)
+pub fits_more : (disk : Disk) (root : ℕ) (ps : List Pair) (n : ℕ) → EachFits disk root ps n → IsPairInWritingProfile disk.profile disk.block_size disk.page (follows_hard_tail_at root ps n) (slice_index_or ps n empty_pair_at_anchor).content → EachFits disk root ps (n + 1)
 fits_more disk root ps n h f i l = go (below_or_not i n)
   where
-    go : (i < n) ⊎ (n ≤ i) → IsPairInWritingProfile disk.block_size disk.page (follows_hard_tail_at root ps i) (slice_index_or ps i empty_pair_at_anchor).content
+    go : (i < n) ⊎ (n ≤ i) → IsPairInWritingProfile disk.profile disk.block_size disk.page (follows_hard_tail_at root ps i) (slice_index_or ps i empty_pair_at_anchor).content
     go (inl a) = h i a
     go (inr a) =
         let same : n ≡ i = omega (arith, a, l) in
-        subst (λ k. IsPairInWritingProfile disk.block_size disk.page (follows_hard_tail_at root ps k) (slice_index_or ps k empty_pair_at_anchor).content) same f
+        subst (λ k. IsPairInWritingProfile disk.profile disk.block_size disk.page (follows_hard_tail_at root ps k) (slice_index_or ps k empty_pair_at_anchor).content) same f
 
 -- what a pair of the thread as it was read is, in the words of the thread before
 abbrev pub IsAtPair : Disk → ℕ → List Pair → ℕ → Type 0
-IsAtPair disk root ps i = IsPairInWritingProfile disk.block_size disk.page (follows_hard_tail_at root ps i) (slice_index_or ps i empty_pair_at_anchor).content
+IsAtPair disk root ps i = IsPairInWritingProfile disk.profile disk.block_size disk.page (follows_hard_tail_at root ps i) (slice_index_or ps i empty_pair_at_anchor).content
 
-pub as_before : (disk : Disk) (root : ℕ) (qs ps : List Pair) (i block_size page : ℕ) (follows : Bool) → block_size ≡ disk.block_size → page ≡ disk.page → qs ≡ ps → follows ≡ follows_hard_tail_at root qs i →
-    (b : Bool) → (b ≡ true ↔ IsPairInWritingProfile block_size page follows (slice_index_or qs i empty_pair_at_anchor).content) → b ≡ true ↔ IsAtPair disk root ps i
-as_before disk root qs ps i block_size page follows e f g h b k =
-    subst (λ (xs : List Pair). b ≡ true ↔ IsPairInWritingProfile disk.block_size disk.page (follows_hard_tail_at root xs i) (slice_index_or xs i empty_pair_at_anchor).content) g
-    (subst (λ w. b ≡ true ↔ IsPairInWritingProfile disk.block_size disk.page w (slice_index_or qs i empty_pair_at_anchor).content) h
-    (subst (λ n. b ≡ true ↔ IsPairInWritingProfile disk.block_size n follows (slice_index_or qs i empty_pair_at_anchor).content) f
-    (subst (λ n. b ≡ true ↔ IsPairInWritingProfile n page follows (slice_index_or qs i empty_pair_at_anchor).content) e k)))
+pub as_before : (disk : Disk) (root : ℕ) (qs ps : List Pair) (i : ℕ) (geometry : Geometry) (follows : Bool) → DiskHasGeometry geometry disk → qs ≡ ps → follows ≡ follows_hard_tail_at root qs i →
+    (b : Bool) → (b ≡ true ↔ IsPairInWritingProfile geometry.profile geometry.block_size geometry.page follows (slice_index_or qs i empty_pair_at_anchor).content) → b ≡ true ↔ IsAtPair disk root ps i
+as_before disk root qs ps i geometry follows divided g h b k =
+    subst (λ (xs : List Pair). b ≡ true ↔ IsPairInWritingProfile disk.profile disk.block_size disk.page (follows_hard_tail_at root xs i) (slice_index_or xs i empty_pair_at_anchor).content) g
+    (subst (λ w. b ≡ true ↔ IsPairInWritingProfile disk.profile disk.block_size disk.page w (slice_index_or qs i empty_pair_at_anchor).content) h
+    (subst (λ n. b ≡ true ↔ IsPairInWritingProfile disk.profile disk.block_size n follows (slice_index_or qs i empty_pair_at_anchor).content) divided.page
+    (subst (λ n. b ≡ true ↔ IsPairInWritingProfile disk.profile n geometry.page follows (slice_index_or qs i empty_pair_at_anchor).content) divided.block_size
+    (subst (λ (v : Profile). b ≡ true ↔ IsPairInWritingProfile v geometry.block_size geometry.page follows (slice_index_or qs i empty_pair_at_anchor).content) divided.profile k))))

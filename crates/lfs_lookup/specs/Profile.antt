@@ -1,5 +1,6 @@
 -- Whether an image is in the writing profile.
 use Rattle.std.specs.Prelude.{ℕ, ◌≡◌, ◌≢◌, ◌-◌, ◌&&◌, nat_lt, Bool, true, List, [], length, slice_index_or, All}
+use Rattle.lfs_model.specs.declared.limits.Profile.{Profile}
 use Rattle.lfs_model.specs.Slots.{PairContent, IsContentFittingPair, Inline, Slot, is_superblock}
 use Rattle.lfs_model.specs.Thread.{Pair, is_hard_tail}
 use Rattle.lfs_model.specs.Profile.{IsSlotWithinWritableLimits}
@@ -10,9 +11,9 @@ abbrev pub HasSuperblockStructOf24Bytes : Slot → Type 0
 HasSuperblockStructOf24Bytes s = is_superblock s ≡ true → (bytes : List ℕ) × ((s.struct ≡ Inline bytes) × (length bytes ≡ 24))
 
 -- A pair is in the profile; `follows` tells whether a hard tail names it.
-pub record IsPairInWritingProfile (block_size page : ℕ) (follows : Bool) (c : PairContent) : Type 0 where
+pub record IsPairInWritingProfile (profile : Profile) (block_size page : ℕ) (follows : Bool) (c : PairContent) : Type 0 where
   pub pair : IsContentFittingPair block_size page c
-  pub slots : All (IsSlotWithinWritableLimits block_size page) c.slots
+  pub slots : All (IsSlotWithinWritableLimits profile block_size page) c.slots
   pub filled : follows ≡ true → c.slots ≢ []
 
 -- the pair comes after the root's first pair, and a hard tail names it

@@ -1,5 +1,5 @@
-//! Look-ups in the directories of an accepted image, by name and by path. Also whether the image
-//! may be changed.
+//! Look-ups in the directories of an accepted image, by name and by path. Also the image's
+//! superblock, and whether the image may be changed.
 #![tactic(auto)]
 
 mod addresses;
@@ -12,6 +12,7 @@ mod entry;
 mod file_bytes;
 mod file_contents;
 mod found_entries;
+mod image_superblock;
 mod items;
 mod kinds;
 mod listings;
@@ -40,6 +41,7 @@ pub use file_contents::{
     FileContents, FoundFile, find_file_contents_at_path, read_file_contents_from_position,
 };
 pub use found_entries::{FoundAttribute, FoundNode, Listing, Node, NodeAndEmptiness};
+pub use image_superblock::superblock;
 pub use items::{NameAndOwnedStruct, OwnedStruct, owned_copy_of_struct};
 pub use kinds::{Kind, ListItem, Stat};
 pub use listings::list_directory_at_path;

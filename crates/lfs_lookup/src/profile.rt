@@ -3,7 +3,7 @@
 ghost use Rattle.std.specs.Prelude.{List, ◌≡◌, ◌↔◌, ◌<◌, IsTrue, All, IfOk, IfErr, Some, false, length, map, true};
 ghost use Rattle.lfs_model.specs.Content.{slot_if_name_and_struct_present, slots_if_names_and_structs_present, struct_of_type_and_bytes};
 ghost use Rattle.lfs_model.specs.EntryTypes.{superblock_fields_of_struct_bytes};
-ghost use Rattle.lfs_model.specs.Disk.{file_size_limit};
+ghost use Rattle.lfs_model.specs.Disk.{attr_max_of, file_max_of, name_max_of};
 ghost use Rattle.lfs_model.specs.Slots.{PairContent as ModelContent, File, Slot as ModelSlot};
 ghost use Rattle.lfs_model.specs.Thread.{pair_count_before_root};
 ghost use Rattle.lfs_model.specs.Profile.{IsEntryWithinWritableLimits, IsSlotWithinWritableLimits, IsWritableImage};
@@ -29,27 +29,24 @@ fn is_entry_in_writing_profile(
     structure: &NameOrStruct<'_>,
     attributes: &[Attribute<'_>],
 ) -> bool
-    ensures { IsTrue result ↔ IsEntryWithinWritableLimits geometry.now.block_size geometry.now.page
+    ensures { IsTrue result ↔ IsEntryWithinWritableLimits geometry.now.profile geometry.now.block_size geometry.now.page
         (record { kind = File; name = name.now.bytes.now; struct = struct_of_type_and_bytes structure.now.kind structure.now.bytes.now; attributes = map attribute_view attributes.now }) }
 {
-    let limit = geometry.inline_limit();
     let charge = attributes_size(attributes)
         .saturating_add(name.bytes.len() as u64)
-        .saturating_add(u64::from(limit) + 8);
+        .saturating_add(u64::from(geometry.struct_limit()) + 8);
     charge <= u64::from(geometry.entry_size_limit())
-        && (structure.kind != INLINE_STRUCT || structure.bytes.len() <= limit as usize)
+        && (structure.kind != INLINE_STRUCT
+            || structure.bytes.len() <= geometry.inline_limit() as usize)
 }
 
-// Returns whether a superblock has the limits of a fresh image.
-fn has_limits_of_fresh_superblock(structure: &NameOrStruct<'_>) -> bool
+// Returns whether a superblock has the limits that are written on a device of this geometry.
+fn has_limits_of_profile(geometry: &Geometry, structure: &NameOrStruct<'_>) -> bool
     requires { length structure.now.bytes.now ≡ 24 }
-    ensures { IsTrue result ↔ (((superblock_fields_of_struct_bytes structure.now.bytes.now).name_max ≡ 255) × ((superblock_fields_of_struct_bytes structure.now.bytes.now).file_max ≡ file_size_limit) × ((superblock_fields_of_struct_bytes structure.now.bytes.now).attr_max ≡ 1022)) }
+    ensures { IsTrue result ↔ (((superblock_fields_of_struct_bytes structure.now.bytes.now).name_max ≡ name_max_of geometry.now.profile) × ((superblock_fields_of_struct_bytes structure.now.bytes.now).file_max ≡ file_max_of geometry.now.profile) × ((superblock_fields_of_struct_bytes structure.now.bytes.now).attr_max ≡ attr_max_of geometry.now.profile)) }
 {
     match <&[u8; 24]>::try_from(structure.bytes) {
-        Ok(bytes) => {
-            let fields = superblock_of(bytes);
-            fields.name_max == 255 && fields.file_max == 2_147_483_647 && fields.attr_max == 1022
-        }
+        Ok(bytes) => superblock_of(bytes).has_limits(geometry),
         Err(_) => false,
     }
 }
@@ -57,13 +54,13 @@ fn has_limits_of_fresh_superblock(structure: &NameOrStruct<'_>) -> bool
 // Returns whether a slot is within the writing profile.
 fn is_slot_in_writing_profile(geometry: &Geometry, slot: &Slot<'_>) -> bool
     requires { (s : ModelSlot) × ((slot_if_name_and_struct_present (slot_view slot.now) ≡ Some s) × HasSuperblockStructOf24Bytes s) }
-    ensures { (s : ModelSlot) → slot_if_name_and_struct_present (slot_view slot.now) ≡ Some s → HasSuperblockStructOf24Bytes s → IsTrue result ↔ IsSlotWithinWritableLimits geometry.now.block_size geometry.now.page s }
+    ensures { (s : ModelSlot) → slot_if_name_and_struct_present (slot_view slot.now) ≡ Some s → HasSuperblockStructOf24Bytes s → IsTrue result ↔ IsSlotWithinWritableLimits geometry.now.profile geometry.now.block_size geometry.now.page s }
 {
     let (Some(name), Some(structure)) = (slot.name, slot.structure) else {
         return false;
     };
     if slot.is_superblock() {
-        return has_limits_of_fresh_superblock(&structure);
+        return has_limits_of_profile(geometry, &structure);
     }
     is_entry_in_writing_profile(geometry, &name, &structure, &slot.attributes)
 }
@@ -71,7 +68,7 @@ fn is_slot_in_writing_profile(geometry: &Geometry, slot: &Slot<'_>) -> bool
 // Returns whether all slots are within the writing profile.
 fn are_slots_in_writing_profile(geometry: &Geometry, slots: &[Slot<'_>]) -> bool
     requires { (all : List ModelSlot) × ((slots_if_names_and_structs_present (map slot_view slots.now) ≡ Some all) × All HasSuperblockStructOf24Bytes all) }
-    ensures { (all : List ModelSlot) → slots_if_names_and_structs_present (map slot_view slots.now) ≡ Some all → All HasSuperblockStructOf24Bytes all → IsTrue result ↔ All (IsSlotWithinWritableLimits geometry.now.block_size geometry.now.page) all }
+    ensures { (all : List ModelSlot) → slots_if_names_and_structs_present (map slot_view slots.now) ≡ Some all → All HasSuperblockStructOf24Bytes all → IsTrue result ↔ All (IsSlotWithinWritableLimits geometry.now.profile geometry.now.block_size geometry.now.page) all }
 {
     for slot in slots {
         if !is_slot_in_writing_profile(geometry, slot) {
@@ -97,7 +94,7 @@ fn is_log_in_writing_profile(
     follows: bool,
 ) -> Result<bool, Error>
     requires { (content : ModelContent) × (IsLogBlockOfContent log.now content × All HasSuperblockStructOf24Bytes content.slots) }
-    ensures is { (content : ModelContent) → IsLogBlockOfContent log.now content → All HasSuperblockStructOf24Bytes content.slots → IfOk result (λ b. IsTrue b ↔ IsPairInWritingProfile geometry.now.block_size geometry.now.page follows content) }
+    ensures is { (content : ModelContent) → IsLogBlockOfContent log.now content → All HasSuperblockStructOf24Bytes content.slots → IfOk result (λ b. IsTrue b ↔ IsPairInWritingProfile geometry.now.profile geometry.now.block_size geometry.now.page follows content) }
     ensures errors { IfErr result (λ e. e ≡ Error.NoMemory) }
 {
     let content = Content::read(alloc, log)?;
@@ -122,7 +119,7 @@ fn is_pair_at_index_in_profile<D: BlockDevice>(
     requires works { thread.old.failed ≡ false }
     requires below { index < length thread.old.kept.pairs }
     requires shaped { All HasSuperblockStructOf24Bytes (thread_pair_at_index thread.old.kept index).content.slots }
-    ensures is { IfOk result (λ b. IsTrue b ↔ IsPairInWritingProfile geometry.now.block_size geometry.now.page follows (thread_pair_at_index thread.old.kept index).content) }
+    ensures is { IfOk result (λ b. IsTrue b ↔ IsPairInWritingProfile geometry.now.profile geometry.now.block_size geometry.now.page follows (thread_pair_at_index thread.old.kept index).content) }
     ensures reading { OnlyReadsThreadAndReportsErrors thread.old thread.new result }
 {
     thread.load_pair(index)?;
@@ -145,8 +142,8 @@ pub fn is_pair_after_hard_tail<D: BlockDevice>(
 
 /// Returns whether an image is in the writing profile, so that it may be changed. Each pair has at
 /// most a thousand slots, whose bytes it could hold after a compaction. Each superblock has the
-/// limits of a fresh image. Each entry takes at most half of a pair's bytes, with any inline
-/// contents that it may get. A file's contents are inline up to an eighth of a block only. Only the
+/// limits of the device's profile. Each entry takes at most half of a pair's bytes, with any inline
+/// contents that it may get. A file's contents are inline up to the device's limit only. Only the
 /// first pair of a directory may have no slots.
 ///
 /// `root` is the number of the root directory's first pair.
@@ -164,7 +161,7 @@ pub fn is_writable<D: BlockDevice>(
     ensures is { IfOk result (λ b. IsTrue b ↔ IsWritableImage thread.old.kept.disk thread.old.kept.pairs) }
     ensures reading { OnlyReadsThreadAndReportsErrors thread.old thread.new result }
 {
-    let geometry = thread.device().geometry();
+    let geometry = thread.geometry();
     for index in 0..thread.len() {
         let follows = is_pair_after_hard_tail(thread, root, index);
         if !is_pair_at_index_in_profile(alloc, thread, &geometry, index, follows)? {

@@ -13,11 +13,12 @@ use Rattle.byteorder.specs.Endian.{little_number}
 use Rattle.lfs_model.specs.declared.order.NameOrder.{NameOrder}
 use Rattle.lfs_model.specs.Disk.{Disk, block_count}
 use Rattle.lfs_model.specs.Names.{Name, name_cmp, same_name, is_less_ordering, is_valid_name}
+use Rattle.lfs_model.specs.declared.limits.AcceptedVersions.{AcceptedVersions}
 use Rattle.lfs_model.specs.Slots.{Slot, KindOfSlot, File, Directory, Superblock, Struct, Inline, Ctz, Branch, Gstate, same_pair, is_superblock}
 use Rattle.lfs_model.specs.Content.{content_of_pair_at, current_block_of_pair_at}
 use Rattle.lfs_model.specs.Thread.{Pair, anchor_pair_address, AreLinkedByTails, blocks_of_pairs, pairs_from_root_directory_on, first_pair_address, pairs_from_first_with_slots, gstate_of_pairs, root_directory_address_of_pairs, starts_with_superblock}
 use Rattle.lfs_model.specs.Tree.{Path, root_slot, branch_address_of_struct, slot_at_path, directory_address_at_path, names_of_directory_at_address}
-use Rattle.lfs_model.specs.View.{first_slot_name, first_pair_slots, IsAcceptedImage, BeginsWithLogEntry, IsSuperblockStruct, HasSuperblockWithInlineBytesIfAnySlot, IsFileOrDirectoryEntry, IsStructOfKind, IsSkipListIfCtzStruct, HasValidMoveOrNone, IsEntrySlotInThread, IsSomeSlotButNotSuperblock, superblock_name_log_entry, pairs_of_superblock_chain, pairs_after_superblock_chain}
+use Rattle.lfs_model.specs.View.{is_accepted_version, first_slot_name, first_pair_slots, IsAcceptedImage, BeginsWithLogEntry, IsSuperblockStruct, HasSuperblockIfAnySlot, IsSameSuperblockStruct, IsFileOrDirectoryEntry, IsStructOfKind, IsSkipListIfCtzStruct, HasValidMoveOrNone, IsEntrySlotInThread, IsSomeSlotButNotSuperblock, superblock_name_log_entry, pairs_of_superblock_chain, pairs_after_superblock_chain}
 use Rattle.lfs_model.specs.Shown.{IsPathToDirectory, IsDirectoryAddressReachedBySomePath, directories_in_thread, entries_by_directory_in_thread, all_slots_not_moved, used_blocks}
 use Rattle.lfs_model.specs.TreeEdits.{same_path}
 use Rattle.lfs_model.proofs.Paths.{name_from_same, path_from_same}
@@ -105,26 +106,29 @@ suits_from Superblock s e = absurd (cc)
 entry_from : (s : Slot) → is_entry s ≡ true → IsFileOrDirectoryEntry s
 entry_from s e = let both = and_parts (is_valid_name s.name) (has_struct_of_its_kind s.kind s.struct) e in record { name = both.0; struct = suits_from s.kind s.struct both.1 }
 
-abbrev pub is_inline : List ℕ → Struct → Bool
-is_inline bytes (Inline held) = same_name held bytes
-is_inline bytes (Ctz head size) = false
-is_inline bytes (Branch to) = false
+abbrev pub is_inline : AcceptedVersions → List ℕ → Struct → Bool
+is_inline versions bytes (Inline held) = length held == length bytes && (is_accepted_version versions (little_number 4 held) && same_name (drop 4 held) (drop 4 bytes))
+is_inline versions bytes (Ctz head size) = false
+is_inline versions bytes (Branch to) = false
 
-inline_from : (bytes : List ℕ) (s : Struct) → is_inline bytes s ≡ true → s ≡ Inline bytes
-inline_from bytes (Inline held) e = ap Inline (name_from_same held bytes e)
-inline_from bytes (Ctz head size) e = absurd (cc)
-inline_from bytes (Branch to) e = absurd (cc)
+inline_from : (versions : AcceptedVersions) (bytes : List ℕ) (s : Struct) → is_inline versions bytes s ≡ true → (own : List ℕ) × ((s ≡ Inline own) × IsSameSuperblockStruct versions bytes own)
+inline_from versions bytes (Inline held) e =
+    let one = and_parts (length held == length bytes) (is_accepted_version versions (little_number 4 held) && same_name (drop 4 held) (drop 4 bytes)) e in
+    let two = and_parts (is_accepted_version versions (little_number 4 held)) (same_name (drop 4 held) (drop 4 bytes)) one.1 in
+    (held, (refl, record { len = eqb-true (length held) (length bytes) one.0; version = two.0; rest = name_from_same (drop 4 held) (drop 4 bytes) two.1 }))
+inline_from versions bytes (Ctz head size) e = absurd (cc)
+inline_from versions bytes (Branch to) e = absurd (cc)
 
-abbrev pub has_superblock : List ℕ → List Slot → Bool
-has_superblock bytes [] = true
-has_superblock bytes (s ∷ slots) = is_superblock s && (is_inline bytes s.struct && list_all is_entry slots)
+abbrev pub has_superblock : AcceptedVersions → List ℕ → List Slot → Bool
+has_superblock versions bytes [] = true
+has_superblock versions bytes (s ∷ slots) = is_superblock s && (is_inline versions bytes s.struct && list_all is_entry slots)
 
-superblock_from : (bytes : List ℕ) (slots : List Slot) → has_superblock bytes slots ≡ true → HasSuperblockWithInlineBytesIfAnySlot bytes slots
-superblock_from bytes [] e = tt
-superblock_from bytes (s ∷ slots) e =
-    let one = and_parts (is_superblock s) (is_inline bytes s.struct && list_all is_entry slots) e in
-    let two = and_parts (is_inline bytes s.struct) (list_all is_entry slots) one.1 in
-    (one.0, inline_from bytes s.struct two.0, all_from is_entry IsFileOrDirectoryEntry entry_from slots two.1)
+superblock_from : (versions : AcceptedVersions) (bytes : List ℕ) (slots : List Slot) → has_superblock versions bytes slots ≡ true → HasSuperblockIfAnySlot versions bytes slots
+superblock_from versions bytes [] e = tt
+superblock_from versions bytes (s ∷ slots) e =
+    let one = and_parts (is_superblock s) (is_inline versions bytes s.struct && list_all is_entry slots) e in
+    let two = and_parts (is_inline versions bytes s.struct) (list_all is_entry slots) one.1 in
+    (one.0, inline_from versions bytes s.struct two.0, all_from is_entry IsFileOrDirectoryEntry entry_from slots two.1)
 
 -- ---- what a path leads to
 
@@ -211,16 +215,16 @@ move_from ps g e = go (or_cases (g.kind == 0x000 && (g.id == 0 && (g.pair.0 == 0
 
 abbrev pub is_struct : Disk → List ℕ → Bool
 is_struct disk bytes =
-    length bytes == 24 && (little_number 4 bytes == 0x00020000 && (little_number 4 (drop 4 bytes) == disk.block_size && little_number 4 (drop 8 bytes) == block_count disk))
+    length bytes == 24 && (is_accepted_version disk.profile.versions (little_number 4 bytes) && (little_number 4 (drop 4 bytes) == disk.block_size && little_number 4 (drop 8 bytes) == block_count disk))
 
 struct_from : (disk : Disk) (bytes : List ℕ) → is_struct disk bytes ≡ true → IsSuperblockStruct disk bytes
 struct_from disk bytes e =
-    let one = and_parts (length bytes == 24) (little_number 4 bytes == 0x00020000 && (little_number 4 (drop 4 bytes) == disk.block_size && little_number 4 (drop 8 bytes) == block_count disk)) e in
-    let two = and_parts (little_number 4 bytes == 0x00020000) (little_number 4 (drop 4 bytes) == disk.block_size && little_number 4 (drop 8 bytes) == block_count disk) one.1 in
+    let one = and_parts (length bytes == 24) (is_accepted_version disk.profile.versions (little_number 4 bytes) && (little_number 4 (drop 4 bytes) == disk.block_size && little_number 4 (drop 8 bytes) == block_count disk)) e in
+    let two = and_parts (is_accepted_version disk.profile.versions (little_number 4 bytes)) (little_number 4 (drop 4 bytes) == disk.block_size && little_number 4 (drop 8 bytes) == block_count disk) one.1 in
     let three = and_parts (little_number 4 (drop 4 bytes) == disk.block_size) (little_number 4 (drop 8 bytes) == block_count disk) two.1 in
     record {
       len = eqb-true (length bytes) 24 one.0;
-      version = eqb-true (little_number 4 bytes) 0x00020000 two.0;
+      version = two.0;
       block_size = eqb-true (little_number 4 (drop 4 bytes)) disk.block_size three.0;
       block_count = eqb-true (little_number 4 (drop 8 bytes)) (block_count disk) three.1;
     }
@@ -231,7 +235,7 @@ tests disk ps bytes k =
     list_all (λ b. nat_lt b (block_count disk)) (blocks_of_pairs ps)
     ∷ are_apart (blocks_of_pairs ps)
     ∷ is_struct disk bytes
-    ∷ list_all (λ p. has_superblock bytes p.content.slots) (pairs_of_superblock_chain ps)
+    ∷ list_all (λ p. has_superblock disk.profile.versions bytes p.content.slots) (pairs_of_superblock_chain ps)
     ∷ list_all (λ p. list_all is_entry p.content.slots) (pairs_after_superblock_chain ps)
     ∷ is_outlined k (entries_by_directory_in_thread ps) (root_slot (root_directory_address_of_pairs ps))
     ∷ on_branches (λ path at. rise disk.order (names_of_directory_at_address (entries_by_directory_in_thread ps) at)) (outline_in k ps)
@@ -269,7 +273,7 @@ image_is_accepted disk ps bytes k h =
       first = h.first;
       named = h.named;
       root = t.1.1.1.1.1.1.1.1.1.1.1.1.0;
-      superblock = (bytes, (struct_from disk bytes t.1.1.0, all_from (λ p. has_superblock bytes p.content.slots) (λ p. HasSuperblockWithInlineBytesIfAnySlot bytes p.content.slots) (λ p. superblock_from bytes p.content.slots) (pairs_of_superblock_chain ps) t.1.1.1.0));
+      superblock = (bytes, (struct_from disk bytes t.1.1.0, all_from (λ p. has_superblock disk.profile.versions bytes p.content.slots) (λ p. HasSuperblockIfAnySlot disk.profile.versions bytes p.content.slots) (λ p. superblock_from disk.profile.versions bytes p.content.slots) (pairs_of_superblock_chain ps) t.1.1.1.0));
       slots = all_from (λ p. list_all is_entry p.content.slots) (λ p. All IsFileOrDirectoryEntry p.content.slots) (λ p. all_from is_entry IsFileOrDirectoryEntry entry_from p.content.slots) (pairs_after_superblock_chain ps) t.1.1.1.1.0;
       order = λ path at l. rise_from disk.order (names_of_directory_at_address (entries_by_directory_in_thread ps) at) (led k ps whole (λ path at. rise disk.order (names_of_directory_at_address (entries_by_directory_in_thread ps) at)) t.1.1.1.1.1.1.0 path at l);
       branches = λ path at l. Any-from_list_any (λ d. same_pair d.at at) (directories_in_thread ps) (led k ps whole (λ path at. begins ps at) t.1.1.1.1.1.1.1.0 path at l);

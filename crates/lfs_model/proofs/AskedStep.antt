@@ -1,7 +1,7 @@
 -- A question to a session on a fresh disk.
 use Rattle.std.proofs.Common.{◌≡◌, true, List, [], ◌∷◌, None, refl, subst, ap, arith}
 use Rattle.std.specs.Prelude.{codes}
-use Rattle.lfs_model.specs.Disk.{block_count}
+use Rattle.lfs_model.specs.Disk.{block_count, default_profile}
 use Rattle.lfs_model.specs.Content.{content_of_pair_at}
 use Rattle.lfs_model.specs.Slots.{zero_gstate}
 use Rattle.lfs_model.specs.Thread.{Pair}
@@ -27,7 +27,7 @@ abbrev pub op : ops.Operation
 op = ops.Stat (codes "/")
 
 abbrev around : DiskSummary
-around = record { writable = true; block_size = 1024; page = 128; block_count = 2; used = 0 ∷ 1 ∷ []; gstate = zero_gstate }
+around = record { writable = true; profile = default_profile; block_size = 1024; page = 128; block_count = 2; used = 0 ∷ 1 ∷ []; gstate = zero_gstate }
 
 pub carried : (s : Session) (ps qs : List Pair) → IsAcceptedImage small_fresh_image ps → IsAcceptedImage small_fresh_image qs → IsOperationEffectOnDisk small_fresh_image ps s op [] small_fresh_image qs
 carried s ps qs a b =
@@ -54,14 +54,14 @@ turn = record {
       only_pair_of_fresh_disk small_fresh_image ∷ [],
       (
         accepted small_fresh_image fresh,
-        record { block_size = refl; page = refl; block_count = refl; used = refl; gstate = refl; writable = ((λ e. writable small_fresh_image fresh), λ w. refl) },
+        record { profile = refl; block_size = refl; page = refl; block_count = refl; used = refl; gstate = refl; writable = ((λ e. writable small_fresh_image fresh), λ w. refl) },
       ),
     );
     shows = λ e. absurd (cc);
     answers = refl;
   };
   agrees = fresh_agrees small_fresh_image fresh;
-  geometry = record { block_size = refl; page = refl; order = refl; count = refl };
+  geometry = record { block_size = refl; page = refl; order = refl; profile = refl; count = refl };
   calls = [];
   called = refl;
   refused = λ e. absurd (cc);

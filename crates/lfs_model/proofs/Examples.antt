@@ -1,7 +1,7 @@
 -- What images show, from what computes.
 use Rattle.std.proofs.Common.{ℕ, ◌≡◌, Bool, true, false, List, [], ◌∷◌, Option, Some, refl, sym, ap, ◌∙◌, option_map, cond, map}
 use Rattle.std.specs.Prelude.{find}
-use Rattle.lfs_model.specs.Disk.{Disk}
+use Rattle.lfs_model.specs.Disk.{Disk, default_profile}
 use Rattle.lfs_model.specs.Slots.{Slot, File, Directory, Inline, Ctz, Branch, Tail, Gstate}
 use Rattle.lfs_model.specs.Thread.{Pair, gstate_of_pairs, root_directory_address_of_pairs}
 use Rattle.lfs_model.specs.Tree.{Path, Node, root_slot, node_of_struct_and_attributes}
@@ -59,4 +59,4 @@ abbrev pub folder : List ℕ → ℕ × ℕ → Slot
 folder name to = record { kind = Directory; name = name; struct = Branch to; attributes = [] }
 
 abbrev pub large_superblock : Slot
-large_superblock = superblock_slot 4096 16
+large_superblock = superblock_slot default_profile 4096 16

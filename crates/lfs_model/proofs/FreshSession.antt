@@ -1,7 +1,7 @@
 -- A session on a fresh disk, for examples: its disk's pairs, and what a loss of power leaves before the first call.
 use Rattle.std.proofs.Common.{ℕ, ◌≡◌, ◌<◌, inl, true, List, [], ◌∷◌, Some, refl, sym, ap, ◌∙◌, arith}
 use Rattle.std.specs.Prelude.{All, slice_index}
-use Rattle.lfs_model.specs.Disk.{Disk, block_bytes_on_disk, block_count}
+use Rattle.lfs_model.specs.Disk.{Disk, block_bytes_on_disk, block_count, default_profile}
 use Rattle.lfs_model.specs.Content.{content_of_pair_at}
 use Rattle.lfs_model.specs.Slots.{zero_gstate}
 use Rattle.lfs_model.specs.Thread.{Pair, AreLinkedByTails, anchor_pair_address, blocks_of_pairs}
@@ -35,10 +35,10 @@ pub tree_is_empty : (ps : List Pair) → IsAcceptedImage small_fresh_image ps �
 tree_is_empty ps ok = ap (tree_on_disk small_fresh_image) (one_thread (content_of_pair_at small_fresh_image) (block_count small_fresh_image) ps pairs ok.thread are_accepted.thread) ∙ shows small_fresh_image
 
 abbrev pub around : DiskSummary
-around = record { writable = true; block_size = 1024; page = 128; block_count = 2; used = 0 ∷ 1 ∷ []; gstate = zero_gstate }
+around = record { writable = true; profile = default_profile; block_size = 1024; page = 128; block_count = 2; used = 0 ∷ 1 ∷ []; gstate = zero_gstate }
 
 pub surrounds : IsSummaryOfDisk small_fresh_image pairs around
-surrounds = record { block_size = refl; page = refl; block_count = refl; used = refl; gstate = refl; writable = ((λ e. writable small_fresh_image fresh), λ w. refl) }
+surrounds = record { profile = refl; block_size = refl; page = refl; block_count = refl; used = refl; gstate = refl; writable = ((λ e. writable small_fresh_image fresh), λ w. refl) }
 
 pub is_at_work : IsHealthySessionOnWritableDisk fresh_system_state (session_after_mount empty_tree) pairs around
 is_at_work = record { healthy = refl; accepted = are_accepted; writable = writable small_fresh_image fresh; surrounds = surrounds }

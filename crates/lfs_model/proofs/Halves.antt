@@ -4,7 +4,8 @@ use Rattle.std.specs.List.{insert}
 use Rattle.std.proofs.lemmas.Bool.{cases_lt}
 use Rattle.std.proofs.lemmas.List.{take_at, drop_at, take-append-drop}
 use Rattle.std.proofs.lemmas.List.Sums.{sum_by-cons, sum_by-append, sum_by-take-drop}
-use Rattle.lfs_model.specs.Disk.{pair_capacity, charged_entry_size_limit_in_pair, inline_limit, slots_per_pair_limit}
+use Rattle.lfs_model.specs.declared.limits.Profile.{Profile}
+use Rattle.lfs_model.specs.Disk.{pair_capacity, charged_entry_size_limit_in_pair, inline_limit, slots_per_pair_limit, longest_struct}
 use Rattle.lfs_model.specs.Slots.{Slot, Struct, Inline, Ctz, Branch, slot_size, struct_len, attributes_size, PairContent, IsContentFittingPair}
 use Rattle.lfs_model.specs.Content.{RawSlot, RawPairContent, pair_content_if_slots_complete, slot_if_name_and_struct_present, slots_if_names_and_structs_present}
 use Rattle.lfs_model.specs.WrittenContent.{raw_slot_size, IsRawContentFittingPair}
@@ -80,19 +81,16 @@ slots_fit block_size page raw fits = record { size = fits.size; count = fits.cou
 -- ---- complete ones
 
 -- an entry of the profile takes at most half of a pair
-pub entry_small : (block_size page : ℕ) (s : Slot) → 1024 ≤ block_size → IsEntryWithinWritableLimits block_size page s → slot_size s ≤ charged_entry_size_limit_in_pair block_size page
-entry_small block_size page s large fits = go s.struct refl fits.inline
+pub entry_small : (profile : Profile) (block_size page : ℕ) (s : Slot) → 1024 ≤ block_size → IsEntryWithinWritableLimits profile block_size page s → slot_size s ≤ charged_entry_size_limit_in_pair block_size page
+entry_small profile block_size page s large fits = go s.struct refl fits.inline
   where
-    charge : 4 + length s.name + (4 + inline_limit block_size) + attributes_size s.attributes ≤ charged_entry_size_limit_in_pair block_size page
+    charge : 4 + length s.name + (4 + longest_struct profile block_size) + attributes_size s.attributes ≤ charged_entry_size_limit_in_pair block_size page
     charge = fits.charge
 
-    eight : 8 ≤ inline_limit block_size
-    eight = omega arith
-
-    bounded : struct_len s.struct ≤ inline_limit block_size → slot_size s ≤ charged_entry_size_limit_in_pair block_size page
+    bounded : struct_len s.struct ≤ longest_struct profile block_size → slot_size s ≤ charged_entry_size_limit_in_pair block_size page
     bounded l = omega arith
 
-    go : (t : Struct) → s.struct ≡ t → HasInlineBytesWithinLimit (inline_limit block_size) t → slot_size s ≤ charged_entry_size_limit_in_pair block_size page
+    go : (t : Struct) → s.struct ≡ t → HasInlineBytesWithinLimit (inline_limit profile block_size) t → slot_size s ≤ charged_entry_size_limit_in_pair block_size page
     go (Inline bytes) e h = bounded (omega (arith, ap struct_len e))
     go (Ctz head size) e h = bounded (omega (arith, ap struct_len e))
     go (Branch to) e h = bounded (omega (arith, ap struct_len e))

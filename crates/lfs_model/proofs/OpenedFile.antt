@@ -3,6 +3,7 @@ use Rattle.std.proofs.Common.{◌≡◌, true, [], ◌∷◌, ◌++◌, Some, No
 use Rattle.std.specs.Prelude.{codes, nat_eq}
 use Rattle.std.specs.List.{IsDistinct}
 use Rattle.std.proofs.lemmas.List.Elements.{All-from_recursion}
+use Rattle.lfs_model.specs.Disk.{default_profile}
 use Rattle.lfs_model.specs.Crc.{crc_of, next_bits}
 use Rattle.lfs_model.specs.Log.{chain_of, chain_within, commit_within, entry_at, closes}
 use Rattle.lfs_model.specs.Content.{content_of_pair_at, current_block_of_pair_at}
@@ -34,10 +35,10 @@ abbrev pub op : ops.Operation
 op = ops.Open (codes "/b") flags_to_open_new_file
 
 abbrev pub around : DiskSummary
-around = record { writable = true; block_size = 4096; page = 256; block_count = 16; used = 0 ∷ 1 ∷ []; gstate = zero_gstate }
+around = record { writable = true; profile = default_profile; block_size = 4096; page = 256; block_count = 16; used = 0 ∷ 1 ∷ []; gstate = zero_gstate }
 
 abbrev superblock : Slot
-superblock = superblock_slot 4096 16
+superblock = superblock_slot default_profile 4096 16
 
 abbrev pub pair : Pair
 pair = only_pair_of_fresh_disk large_fresh_image
@@ -79,7 +80,7 @@ commit = record {
   still = refl;
   site = record { chain = refl; ends = tt; run = refl };
   device = record {
-    geometry = record { block_size = refl; page = refl; order = refl; count = refl };
+    geometry = record { block_size = refl; page = refl; order = refl; profile = refl; count = refl };
     contents = All-from_recursion (λ r. content_of_pair_at large_image_with_file r.at ≡ Some r.content) (next ∷ []) (holds, tt);
     first = begins;
     files = All-from_recursion (λ s. HasSameFileBlocksOfStructOnDisks large_fresh_image large_image_with_file s.struct) (superblock ∷ []) (tt, tt);
@@ -101,13 +102,13 @@ completed = create_completed large_fresh_image large_image_with_file site pair n
 pub over : IsOver large_fresh_image (pair ∷ []) (session_after_mount empty_tree) around
 over = record {
   accepted = accepted large_fresh_image fresh;
-  surrounds = record { block_size = refl; page = refl; block_count = refl; used = refl; gstate = refl; writable = ((λ e. writable large_fresh_image fresh), λ w. refl) };
+  surrounds = record { profile = refl; block_size = refl; page = refl; block_count = refl; used = refl; gstate = refl; writable = ((λ e. writable large_fresh_image fresh), λ w. refl) };
   tree = sym (shows large_fresh_image);
 }
 
 proper : IsProper large_fresh_image (pair ∷ []) (session_after_mount empty_tree) op system_state_after_open.calls large_image_with_file
 proper = record {
-  geometry = record { block_size = refl; page = refl; order = refl; count = refl };
+  geometry = record { block_size = refl; page = refl; order = refl; profile = refl; count = refl };
   other = refl;
   asks = refl;
   fills = refl;
@@ -129,7 +130,7 @@ opened = (effect_of_operation around (session_after_mount empty_tree) op).1
 pub opened_over : IsOver large_image_with_file (next ∷ []) opened around
 opened_over = record {
   accepted = completed.accepted;
-  surrounds = record { block_size = refl; page = refl; block_count = refl; used = refl; gstate = refl; writable = ((λ e. completed.writable), λ w. refl) };
+  surrounds = record { profile = refl; block_size = refl; page = refl; block_count = refl; used = refl; gstate = refl; writable = ((λ e. completed.writable), λ w. refl) };
   tree = sym (completed.tree around);
 }
 

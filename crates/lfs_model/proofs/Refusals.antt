@@ -8,15 +8,17 @@ use Rattle.std.proofs.lemmas.Option.{same_Some, slice_get_within, get_or_from_sl
 use Rattle.std.proofs.lemmas.List.Elements.{All-from_recursion, All-head, All-tail}
 use Rattle.std.proofs.lemmas.List.Folds.{list_any-from_Any}
 use Rattle.byteorder.specs.Endian.{little_number}
+use Rattle.std.proofs.lemmas.List.{drop-drop}
 use Rattle.lfs_model.specs.declared.order.NameOrder.{NameOrder}
 use Rattle.lfs_model.specs.Disk.{Disk, block_count, block_bytes_on_disk}
-use Rattle.lfs_model.specs.Names.{Name, name_cmp, is_less_ordering, is_valid_name}
+use Rattle.lfs_model.specs.Names.{Name, name_cmp, is_less_ordering, is_valid_name, same_name}
+use Rattle.lfs_model.specs.declared.limits.AcceptedVersions.{AcceptedVersions}
 use Rattle.lfs_model.specs.Slots.{PairContent, Slot, KindOfSlot, File, Directory, Superblock, Struct, Inline, Ctz, Branch, Gstate, same_pair}
 use Rattle.lfs_model.specs.Content.{content_of_pair_at, has_commit}
 use Rattle.lfs_model.specs.Thread.{Pair, anchor_pair_address, AreLinkedByTails, pair_address_named_by_tail, blocks_of_pairs, pairs_from_root_directory_on, starts_with_superblock, gstate_of_pairs, root_directory_address_of_pairs, ThreadDirectory}
 use Rattle.lfs_model.specs.Tree.{Path, root_slot, names_of_directory_at_address}
 use Rattle.lfs_model.specs.TreeEdits.{same_path}
-use Rattle.lfs_model.specs.View.{IsAcceptedImage, first_pair_slots, HasValidMoveOrNone, IsEntrySlotInThread, IsSomeSlotButNotSuperblock, IsFileOrDirectoryEntry, IsStructOfKind, HasSuperblockWithInlineBytesIfAnySlot, IsSuperblockStruct, pairs_of_superblock_chain, pairs_after_superblock_chain, IsSkipListIfCtzStruct}
+use Rattle.lfs_model.specs.View.{IsAcceptedImage, first_pair_slots, HasValidMoveOrNone, IsEntrySlotInThread, IsSomeSlotButNotSuperblock, IsFileOrDirectoryEntry, IsStructOfKind, HasSuperblockIfAnySlot, IsSameSuperblockStruct, IsSuperblockStruct, pairs_of_superblock_chain, pairs_after_superblock_chain, IsSkipListIfCtzStruct}
 use Rattle.lfs_model.specs.Profile.{IsWritableImage, IsSlotWithinWritableLimits}
 use Rattle.lfs_model.specs.Shown.{IsPathToDirectory, IsDirectoryAddressReachedBySomePath, directories_in_thread, entries_by_directory_in_thread, used_blocks, all_slots_not_moved}
 use Rattle.lfs_model.specs.examples.Images.{IsNoAcceptedImage, IsNoWritableImage}
@@ -174,30 +176,43 @@ fails_slots disk ps fails a = let e = all_to (λ p. list_all is_entry p.content.
 pub fails_root : (disk : Disk) (ps : List Pair) → starts_with_superblock (first_pair_slots (pairs_from_root_directory_on ps)) ≡ false → IsAcceptedImage disk ps → ⊥
 fails_root disk ps fails a = let e = sym a.root ∙ fails in cc
 
-inline_to : (bytes : List ℕ) (s : Struct) → s ≡ Inline bytes → is_inline bytes s ≡ true
-inline_to bytes s e = rw e (same_itself bytes)
+same_to : (xs ys : List ℕ) → xs ≡ ys → same_name xs ys ≡ true
+same_to xs ys e = ap (same_name xs) (sym e) ∙ same_itself xs
 
-superblock_to : (bytes : List ℕ) (slots : List Slot) → HasSuperblockWithInlineBytesIfAnySlot bytes slots → has_superblock bytes slots ≡ true
-superblock_to bytes [] h = refl
-superblock_to bytes (s ∷ slots) h = and_from _ _ h.0 (and_from _ _ (inline_to bytes s.struct h.1) (all_to is_entry IsFileOrDirectoryEntry entry_to slots h.2))
+-- bytes that are the same as the superblock's but for an accepted version
+module _ (versions : AcceptedVersions) (held bytes : List ℕ) (same : IsSameSuperblockStruct versions held bytes) where
+  inline_to : (s : Struct) (own : List ℕ) → s ≡ Inline own → IsSameSuperblockStruct versions held own → is_inline versions bytes s ≡ true
+  inline_to s own e h =
+      ap (is_inline versions bytes) e
+      ∙ and_from _ _ (eq-eqb (length own) (length bytes) (h.len ∙ sym same.len)) (and_from _ _ h.version (same_to (drop 4 own) (drop 4 bytes) (h.rest ∙ sym same.rest)))
 
-struct_to : (disk : Disk) (bytes : List ℕ) → IsSuperblockStruct disk bytes → is_struct disk bytes ≡ true
-struct_to disk bytes h =
-    and_from _ _ (eq-eqb (length bytes) 24 h.len) (and_from _ _ (eq-eqb (little_number 4 bytes) 0x00020000 h.version)
-    (and_from _ _ (eq-eqb (little_number 4 (drop 4 bytes)) disk.block_size h.block_size) (eq-eqb (little_number 4 (drop 8 bytes)) (block_count disk) h.block_count)))
+  superblock_to : (slots : List Slot) → HasSuperblockIfAnySlot versions held slots → has_superblock versions bytes slots ≡ true
+  superblock_to [] h = refl
+  superblock_to (s ∷ slots) h = and_from _ _ h.0 (and_from _ _ (inline_to s.struct h.1.0 h.1.1.0 h.1.1.1) (all_to is_entry IsFileOrDirectoryEntry entry_to slots h.2))
+
+struct_to : (disk : Disk) (held bytes : List ℕ) → IsSuperblockStruct disk held → IsSameSuperblockStruct disk.profile.versions held bytes → is_struct disk bytes ≡ true
+struct_to disk held bytes h same =
+    let size : little_number 4 (drop 4 bytes) ≡ disk.block_size = ap (little_number 4) same.rest ∙ h.block_size in
+    let count : little_number 4 (drop 8 bytes) ≡ block_count disk =
+    ap (little_number 4) (sym (drop-drop 4 4 bytes) ∙ ap (drop 4) same.rest ∙ drop-drop 4 4 held) ∙ h.block_count in
+    and_from _ _ (eq-eqb (length bytes) 24 (same.len ∙ h.len)) (and_from _ _ same.version
+    (and_from _ _ (eq-eqb (little_number 4 (drop 4 bytes)) disk.block_size size) (eq-eqb (little_number 4 (drop 8 bytes)) (block_count disk) count)))
 
 -- the superblock's bytes aren't those of the disk, or not those of each of its pairs
-pub fails_superblock : (disk : Disk) (ps : List Pair) (p : Pair) (rest : List Pair) (bytes : List ℕ) → pairs_of_superblock_chain ps ≡ p ∷ rest → ((held : List ℕ) → HasSuperblockWithInlineBytesIfAnySlot held p.content.slots → Inline bytes ≡ Inline held) →
-    (is_struct disk bytes && list_all (λ q. has_superblock bytes q.content.slots) (pairs_of_superblock_chain ps)) ≡ false → IsAcceptedImage disk ps → ⊥
+pub fails_superblock : (disk : Disk) (ps : List Pair) (p : Pair) (rest : List Pair) (bytes : List ℕ) → pairs_of_superblock_chain ps ≡ p ∷ rest →
+    ((held : List ℕ) → HasSuperblockIfAnySlot disk.profile.versions held p.content.slots → (own : List ℕ) × ((Inline bytes ≡ Inline own) × IsSameSuperblockStruct disk.profile.versions held own)) →
+    (is_struct disk bytes && list_all (λ q. has_superblock disk.profile.versions bytes q.content.slots) (pairs_of_superblock_chain ps)) ≡ false → IsAcceptedImage disk ps → ⊥
 fails_superblock disk ps p rest bytes are first fails a =
     let held = a.superblock.0 in
+    let V = disk.profile.versions in
     let each = a.superblock.1.1 in
-    let here : HasSuperblockWithInlineBytesIfAnySlot held p.content.slots = All-head (λ q. HasSuperblockWithInlineBytesIfAnySlot held q.content.slots) p rest (subst (All (λ q. HasSuperblockWithInlineBytesIfAnySlot held q.content.slots)) are each) in
-    let same : bytes ≡ held = let e = first held here in cc in
-    let struct = struct_to disk held a.superblock.1.0 in
-    let pairs = all_to (λ q. has_superblock held q.content.slots) (λ q. HasSuperblockWithInlineBytesIfAnySlot held q.content.slots) (λ q. superblock_to held q.content.slots) (pairs_of_superblock_chain ps) each in
-    let pass : (is_struct disk held && list_all (λ q. has_superblock held q.content.slots) (pairs_of_superblock_chain ps)) ≡ true = and_from (is_struct disk held) (list_all (λ q. has_superblock held q.content.slots) (pairs_of_superblock_chain ps)) struct pairs in
-    let now = rw (← same) at pass in
+    let here : HasSuperblockIfAnySlot V held p.content.slots = All-head (λ q. HasSuperblockIfAnySlot V held q.content.slots) p rest (subst (All (λ q. HasSuperblockIfAnySlot V held q.content.slots)) are each) in
+    let f = first held here in
+    let is : bytes ≡ f.0 = let e = f.1.0 in cc in
+    let same : IsSameSuperblockStruct V held bytes = subst (IsSameSuperblockStruct V held) (sym is) f.1.1 in
+    let struct = struct_to disk held bytes a.superblock.1.0 same in
+    let pairs = all_to (λ q. has_superblock V bytes q.content.slots) (λ q. HasSuperblockIfAnySlot V held q.content.slots) (λ q. superblock_to V held bytes same q.content.slots) (pairs_of_superblock_chain ps) each in
+    let pass : (is_struct disk bytes && list_all (λ q. has_superblock V bytes q.content.slots) (pairs_of_superblock_chain ps)) ≡ true = and_from (is_struct disk bytes) (list_all (λ q. has_superblock V bytes q.content.slots) (pairs_of_superblock_chain ps)) struct pairs in
     cc
 
 abbrev pub is_list_if_ctz : Disk → Struct → Bool
@@ -222,8 +237,8 @@ read_only_with disk qs links contents never ps a w =
     never (subst (IsWritableImage disk) is w)
 
 -- a slot of a pair that doesn't fit
-pub fails_slot : (disk : Disk) (ps : List Pair) (i k : ℕ) (p : Pair) (s : Slot) → slice_get ps i ≡ Some p → slice_get p.content.slots k ≡ Some s → (IsSlotWithinWritableLimits disk.block_size disk.page s → ⊥) → IsWritableImage disk ps → ⊥
+pub fails_slot : (disk : Disk) (ps : List Pair) (i k : ℕ) (p : Pair) (s : Slot) → slice_get ps i ≡ Some p → slice_get p.content.slots k ≡ Some s → (IsSlotWithinWritableLimits disk.profile disk.block_size disk.page s → ⊥) → IsWritableImage disk ps → ⊥
 fails_slot disk ps i k p s pair slot never w =
-    let P : Pair → Type 0 = λ p. All (IsSlotWithinWritableLimits disk.block_size disk.page) p.content.slots in
+    let P : Pair → Type 0 = λ p. All (IsSlotWithinWritableLimits disk.profile disk.block_size disk.page) p.content.slots in
     let held : P p = subst P (get_or_from_slice_get ps i p p pair) (w.slots i p (slice_get_within ps i p pair)) in
-    never (subst (IsSlotWithinWritableLimits disk.block_size disk.page) (get_or_from_slice_get p.content.slots k s s slot) (held k s (slice_get_within p.content.slots k s slot)))
+    never (subst (IsSlotWithinWritableLimits disk.profile disk.block_size disk.page) (get_or_from_slice_get p.content.slots k s s slot) (held k s (slice_get_within p.content.slots k s slot)))

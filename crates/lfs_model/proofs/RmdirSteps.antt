@@ -266,14 +266,14 @@ module _ (disk new : Disk) (chain before left after : List Pair) (p o q : Pair) 
   follows = directory_goes_beside disk new chain before left after p [] o q [] [] [] l r u step other P a leads same d branch (pair_back o.at d address) empty
       (λ e. (alone, (recovered_from disk (thread_at (last_site chain before left after) (p ∷ ([] ++ o ∷ []))) step.accepted settled).reached))
 
-  old_within : IsWithin disk.block_size disk.page p
+  old_within : IsWithin disk.profile disk.block_size disk.page p
   old_within = within_at disk (last_site chain before left after) p (o ∷ []) old_writable
 
-  within : IsWithin disk.block_size disk.page q
+  within : IsWithin disk.profile disk.block_size disk.page q
   within = record {
     pair = fits_same disk (pair_with_slots (l ++ r) p) q kept (fits_fewer disk p l r u held old_within.pair);
-    slots = subst (All (IsSlotWithinWritableLimits disk.block_size disk.page)) (sym kept)
-        (All-from_recursion (IsSlotWithinWritableLimits disk.block_size disk.page) (l ++ r) (fit_spliced disk p l (u ∷ []) [] r old_within held tt));
+    slots = subst (All (IsSlotWithinWritableLimits disk.profile disk.block_size disk.page)) (sym kept)
+        (All-from_recursion (IsSlotWithinWritableLimits disk.profile disk.block_size disk.page) (l ++ r) (fit_spliced disk p l (u ∷ []) [] r old_within held tt));
   }
 
   still_writable : IsWritableImage new (thread_at (last_site chain before left after) (q ∷ []))

@@ -67,7 +67,7 @@ pub refused_step : (disk : Disk) (ps : List Pair) (s : Session) (around : DiskSu
 refused_step disk ps s around op error calls old over other e writes = record {
   answered = answered_by disk ps s around op (ops.Refused error) s over other (ap (λ r. result_after_refusal_check r s (effect_of_operation around s op)) e);
   agrees = (ps, (over.accepted, over.tree));
-  geometry = record { block_size = refl; page = refl; order = refl; count = refl };
+  geometry = record { block_size = refl; page = refl; order = refl; profile = refl; count = refl };
   calls = calls;
   called = refl;
   refused = λ h. (refl, writes);
@@ -130,7 +130,7 @@ pub idle_step : (disk : Disk) (ps : List Pair) (s : Session) (around : DiskSumma
 idle_step disk ps s around op calls old over accepted other same none still writes silent = record {
   answered = answered_by disk ps s around op (effect_of_operation around s op).0 (effect_of_operation around s op).1 over other (ap (λ r. result_after_refusal_check r s (effect_of_operation around s op)) accepted);
   agrees = (ps, (over.accepted, same ∙ over.tree));
-  geometry = record { block_size = refl; page = refl; order = refl; count = refl };
+  geometry = record { block_size = refl; page = refl; order = refl; profile = refl; count = refl };
   calls = calls;
   called = refl;
   refused = λ h. (refl, writes);
@@ -230,7 +230,7 @@ failed_step disk around op old other = record {
     answers = ap (λ b. cond b (reply_and_session_health_after_remount None) (reply_and_session_health_unless_remount around HasFailed op)) other;
   };
   agrees = tt;
-  geometry = record { block_size = refl; page = refl; order = refl; count = refl };
+  geometry = record { block_size = refl; page = refl; order = refl; profile = refl; count = refl };
   calls = [];
   called = refl;
   refused = λ h. (refl, (refl, refl));
@@ -251,7 +251,7 @@ remounted_step disk ps around state calls old ok surrounds writes = record {
     answers = refl;
   };
   agrees = (ps, (ok, refl));
-  geometry = record { block_size = refl; page = refl; order = refl; count = refl };
+  geometry = record { block_size = refl; page = refl; order = refl; profile = refl; count = refl };
   calls = calls;
   called = refl;
   refused = λ h. (refl, writes);

@@ -44,27 +44,27 @@ taken_before disk ps new qs walk after step = record { pairs = qs; accepted = st
 -- ---- the profile of a pair that changes
 
 -- the pair of a site keeps to the profile
-pub within_at : (disk : Disk) (w : Site) (p : Pair) (rest : List Pair) → IsWritableImage disk (thread_at w (p ∷ rest)) → IsWithin disk.block_size disk.page p
+pub within_at : (disk : Disk) (w : Site) (p : Pair) (rest : List Pair) → IsWritableImage disk (thread_at w (p ∷ rest)) → IsWithin disk.profile disk.block_size disk.page p
 within_at disk w p rest ok = record {
   pair = here (IsContentFittingPairOnDisk disk) (recursion_from_All (IsContentFittingPairOnDisk disk) (thread_at w (p ∷ rest)) ok.pairs);
-  slots = here (λ (x : Pair). All (IsSlotWithinWritableLimits disk.block_size disk.page) x.content.slots) (recursion_from_All (λ (x : Pair). All (IsSlotWithinWritableLimits disk.block_size disk.page) x.content.slots) (thread_at w (p ∷ rest)) ok.slots);
+  slots = here (λ (x : Pair). All (IsSlotWithinWritableLimits disk.profile disk.block_size disk.page) x.content.slots) (recursion_from_All (λ (x : Pair). All (IsSlotWithinWritableLimits disk.profile disk.block_size disk.page) x.content.slots) (thread_at w (p ∷ rest)) ok.slots);
 }
   where
     here : (F : Pair → Type 0) → Each F (thread_at w (p ∷ rest)) → F p
     here F h = (each_right F (w.before ++ w.left) (p ∷ rest ++ (w.right ++ w.after)) (each_right F w.chain (dirs_at w (p ∷ rest)) h)).0
 
 -- a pair with the slots of another
-pub within_same : (disk : Disk) (p q : Pair) → q.content.slots ≡ p.content.slots → IsWithin disk.block_size disk.page p → IsWithin disk.block_size disk.page q
-within_same disk p q e h = record { pair = fits_same disk p q e h.pair; slots = subst (All (IsSlotWithinWritableLimits disk.block_size disk.page)) (sym e) h.slots }
+pub within_same : (disk : Disk) (p q : Pair) → q.content.slots ≡ p.content.slots → IsWithin disk.profile disk.block_size disk.page p → IsWithin disk.profile disk.block_size disk.page q
+within_same disk p q e h = record { pair = fits_same disk p q e h.pair; slots = subst (All (IsSlotWithinWritableLimits disk.profile disk.block_size disk.page)) (sym e) h.slots }
 
 -- some slots of a pair within the profile are replaced by others that fit
-pub fit_spliced : (disk : Disk) (p : Pair) (l olds news r : List Slot) → IsWithin disk.block_size disk.page p → p.content.slots ≡ l ++ (olds ++ r) → Each (IsSlotWithinWritableLimits disk.block_size disk.page) news
-    → Each (IsSlotWithinWritableLimits disk.block_size disk.page) (l ++ (news ++ r))
+pub fit_spliced : (disk : Disk) (p : Pair) (l olds news r : List Slot) → IsWithin disk.profile disk.block_size disk.page p → p.content.slots ≡ l ++ (olds ++ r) → Each (IsSlotWithinWritableLimits disk.profile disk.block_size disk.page) news
+    → Each (IsSlotWithinWritableLimits disk.profile disk.block_size disk.page) (l ++ (news ++ r))
 fit_spliced disk p l olds news r h was fit =
-    let F : Slot → Type 0 = IsSlotWithinWritableLimits disk.block_size disk.page in
-    let held = subst (Each (IsSlotWithinWritableLimits disk.block_size disk.page)) was (recursion_from_All (IsSlotWithinWritableLimits disk.block_size disk.page) p.content.slots h.slots) in
-    each_append (IsSlotWithinWritableLimits disk.block_size disk.page) l (news ++ r) (each_left (IsSlotWithinWritableLimits disk.block_size disk.page) l (olds ++ r) held)
-    (each_append (IsSlotWithinWritableLimits disk.block_size disk.page) news r fit (each_right (IsSlotWithinWritableLimits disk.block_size disk.page) olds r (each_right (IsSlotWithinWritableLimits disk.block_size disk.page) l (olds ++ r) held)))
+    let F : Slot → Type 0 = IsSlotWithinWritableLimits disk.profile disk.block_size disk.page in
+    let held = subst (Each (IsSlotWithinWritableLimits disk.profile disk.block_size disk.page)) was (recursion_from_All (IsSlotWithinWritableLimits disk.profile disk.block_size disk.page) p.content.slots h.slots) in
+    each_append (IsSlotWithinWritableLimits disk.profile disk.block_size disk.page) l (news ++ r) (each_left (IsSlotWithinWritableLimits disk.profile disk.block_size disk.page) l (olds ++ r) held)
+    (each_append (IsSlotWithinWritableLimits disk.profile disk.block_size disk.page) news r fit (each_right (IsSlotWithinWritableLimits disk.profile disk.block_size disk.page) olds r (each_right (IsSlotWithinWritableLimits disk.profile disk.block_size disk.page) l (olds ++ r) held)))
 
 -- What a commit makes of the pair p at a site: q, or q and a new pair, with news where olds stood. The last slot goes only from a
 -- pair that no hard tail leads to.
@@ -73,11 +73,11 @@ pub record IsPut (disk : Disk) (w : Site) (p q : Pair) (more : List Pair) (l old
   pub was : p.content.slots ≡ l ++ (olds ++ r)
   pub is : slots_of_pairs_in_order (q ∷ more) ≡ l ++ (news ++ r)
   pub became : Became disk p (pair_with_slots (l ++ (news ++ r)) p) q more
-  pub fit : Each (IsSlotWithinWritableLimits disk.block_size disk.page) news
+  pub fit : Each (IsSlotWithinWritableLimits disk.profile disk.block_size disk.page) news
   pub filled : ends_in_hard_tail false (w.before ++ w.left) ≡ true → l ++ (news ++ r) ≢ []
 
 module _ (disk : Disk) (w : Site) (p q : Pair) (more : List Pair) (l olds news r : List Slot) (c : IsPut disk w p q more l olds news r) where
-  pub put_within : Each (IsWithin disk.block_size disk.page) (q ∷ more)
+  pub put_within : Each (IsWithin disk.profile disk.block_size disk.page) (q ∷ more)
   put_within = became_within disk p (pair_with_slots (l ++ (news ++ r)) p) q more c.is c.became (fit_spliced disk p l olds news r (within_at disk w p [] c.writable) c.was c.fit)
 
   pub put_filled : AreNoEmptyPairsAfterHardTails (ends_in_hard_tail false (w.before ++ w.left)) (p ∷ [] ++ (w.right ++ w.after)) → AreNoEmptyPairsAfterHardTails (ends_in_hard_tail false (w.before ++ w.left)) (q ∷ more ++ (w.right ++ w.after))
@@ -117,7 +117,7 @@ pub record IsTakenOver (disk : Disk) (w : Site) (p o q : Pair) : Type 0 where
   pub slots : q.content.slots ≡ p.content.slots
 
 module _ (disk : Disk) (w : Site) (p o q : Pair) (c : IsTakenOver disk w p o q) where
-  over_within : Each (IsWithin disk.block_size disk.page) (q ∷ [])
+  over_within : Each (IsWithin disk.profile disk.block_size disk.page) (q ∷ [])
   over_within = (within_same disk p q c.slots (within_at disk w p (o ∷ []) c.writable), tt)
 
   over_filled : AreNoEmptyPairsAfterHardTails (ends_in_hard_tail false (w.before ++ w.left)) (p ∷ o ∷ [] ++ (w.right ++ w.after)) → AreNoEmptyPairsAfterHardTails (ends_in_hard_tail false (w.before ++ w.left)) (q ∷ [] ++ (w.right ++ w.after))
@@ -167,7 +167,7 @@ pub record IsPutBeside (disk : Disk) (w : Site) (p q : Pair) (more : List Pair) 
   pub was : p.content.slots ≡ l ++ (olds ++ r)
   pub is : slots_of_pairs_in_order (q ∷ more) ≡ l ++ (news ++ r)
   pub cut : Cut disk (pair_with_slots (l ++ (news ++ r)) p) q more
-  pub fit : Each (IsSlotWithinWritableLimits disk.block_size disk.page) news
+  pub fit : Each (IsSlotWithinWritableLimits disk.profile disk.block_size disk.page) news
   pub filled : ends_in_hard_tail false (w.before ++ w.left) ≡ true → l ++ (news ++ r) ≢ []
   pub run : IsRun (q ∷ more)
   pub empty : f.content.slots ≡ []
@@ -178,27 +178,27 @@ module _ (disk new : Disk) (chain before left after : List Pair) (p q : Pair) (m
   abbrev draft : Pair
   draft = pair_with_slots (l ++ (news ++ r)) p
 
-  fit_now : Each (IsSlotWithinWritableLimits disk.block_size disk.page) (l ++ (news ++ r))
+  fit_now : Each (IsSlotWithinWritableLimits disk.profile disk.block_size disk.page) (l ++ (news ++ r))
   fit_now = fit_spliced disk p l olds news r (within_at disk (last_site chain before left after) p [] c.writable) c.was c.fit
 
-  empty_within : IsWithin disk.block_size disk.page f
+  empty_within : IsWithin disk.profile disk.block_size disk.page f
   empty_within = record {
     pair = subst (λ slots. IsContentFittingPair disk.block_size disk.page (record { slots = slots; tail = f.content.tail; move = f.content.move })) (sym c.empty) (record { size = omega arith; count = omega arith });
-    slots = subst (All (IsSlotWithinWritableLimits disk.block_size disk.page)) (sym c.empty) (λ k x lt. absurd (omega arith));
+    slots = subst (All (IsSlotWithinWritableLimits disk.profile disk.block_size disk.page)) (sym c.empty) (λ k x lt. absurd (omega arith));
   }
 
-  beside_within : (more : List Pair) → slots_of_pairs_in_order (q ∷ more) ≡ l ++ (news ++ r) → Cut disk (pair_with_slots (l ++ (news ++ r)) p) q more → Each (IsWithin disk.block_size disk.page) (q ∷ (more ++ f ∷ []))
+  beside_within : (more : List Pair) → slots_of_pairs_in_order (q ∷ more) ≡ l ++ (news ++ r) → Cut disk (pair_with_slots (l ++ (news ++ r)) p) q more → Each (IsWithin disk.profile disk.block_size disk.page) (q ∷ (more ++ f ∷ []))
   beside_within [] e k = (
     record {
       pair = fits_same disk draft q (sym (append-nil q.content.slots) ∙ e) k;
-      slots = All-from_recursion (IsSlotWithinWritableLimits disk.block_size disk.page) q.content.slots (subst (Each (IsSlotWithinWritableLimits disk.block_size disk.page)) (sym (sym (append-nil q.content.slots) ∙ e)) fit_now);
+      slots = All-from_recursion (IsSlotWithinWritableLimits disk.profile disk.block_size disk.page) q.content.slots (subst (Each (IsSlotWithinWritableLimits disk.profile disk.block_size disk.page)) (sym (sym (append-nil q.content.slots) ∙ e)) fit_now);
     },
     (empty_within, tt),
   )
   beside_within (g ∷ []) e k =
-      let all = each_pieces (IsSlotWithinWritableLimits disk.block_size disk.page) (λ (x : Pair). x.content.slots) (q ∷ g ∷ []) (subst (Each (IsSlotWithinWritableLimits disk.block_size disk.page)) (sym e) fit_now) in (
-        record { pair = k.1; slots = All-from_recursion (IsSlotWithinWritableLimits disk.block_size disk.page) q.content.slots all.0 },
-        (record { pair = k.2; slots = All-from_recursion (IsSlotWithinWritableLimits disk.block_size disk.page) g.content.slots all.1.0 }, (empty_within, tt)),
+      let all = each_pieces (IsSlotWithinWritableLimits disk.profile disk.block_size disk.page) (λ (x : Pair). x.content.slots) (q ∷ g ∷ []) (subst (Each (IsSlotWithinWritableLimits disk.profile disk.block_size disk.page)) (sym e) fit_now) in (
+        record { pair = k.1; slots = All-from_recursion (IsSlotWithinWritableLimits disk.profile disk.block_size disk.page) q.content.slots all.0 },
+        (record { pair = k.2; slots = All-from_recursion (IsSlotWithinWritableLimits disk.profile disk.block_size disk.page) g.content.slots all.1.0 }, (empty_within, tt)),
       )
   beside_within (g ∷ h ∷ more) e k = absurd k
 

@@ -6,6 +6,7 @@ use Rattle.std.proofs.lemmas.List.{append_cancel_right}
 use Rattle.lfs_model.specs.Blocks.{Blocks}
 use Rattle.lfs_model.specs.Disk.{Disk, SameGeometry, block_count}
 use Rattle.lfs_model.specs.declared.order.NameOrder.{NameOrder}
+use Rattle.lfs_model.specs.declared.limits.Profile.{Profile}
 use Rattle.lfs_model.specs.Content.{content_of_pair_at}
 use Rattle.lfs_model.specs.Thread.{Pair, gstate_of_pairs}
 use Rattle.lfs_model.specs.Tree.{Tree}
@@ -127,14 +128,14 @@ stays at s ps around after agrees work = left_before at.disk ps s.tree after wor
     (one_tree at.disk (tree_on_disk at.disk ps) s.tree (ps, (work.accepted, refl)) (shows_tree at s agrees work.healthy))
 
 abbrev around_of : Disk → List Pair → DiskSummary
-around_of disk ps = record { writable = true; block_size = disk.block_size; page = disk.page; block_count = block_count disk; used = used_blocks disk ps; gstate = gstate_of_pairs ps }
+around_of disk ps = record { writable = true; profile = disk.profile; block_size = disk.block_size; page = disk.page; block_count = block_count disk; used = used_blocks disk ps; gstate = gstate_of_pairs ps }
 
 at_work : (at : SystemState) (agrees : IsSessionHealthyWithDiskTree at) (profile : IsAcceptedWritableDisk at.disk) → IsHealthySessionOnWritableDisk at agrees.session profile.0 (around_of at.disk profile.0)
 at_work at agrees profile = record {
   healthy = agrees.healthy;
   accepted = profile.1.0;
   writable = profile.1.1;
-  surrounds = record { block_size = refl; page = refl; block_count = refl; used = refl; gstate = refl; writable = ((λ e. profile.1.1), λ w. refl) };
+  surrounds = record { profile = refl; block_size = refl; page = refl; block_count = refl; used = refl; gstate = refl; writable = ((λ e. profile.1.1), λ w. refl) };
 }
 
 -- what a stop at any time leaves has P, so has what this one left
@@ -219,12 +220,12 @@ either_part from next to blocks first second since = go (among_parts (λ e. AreB
     go (inl k) = inr (record { events = second.events; extends = second.extends; stopped = any_from (λ e. AreBlocksLeftByPowerLossInCall e blocks) second.events k })
     go (inr k) = inl (record { events = first.events; extends = first.extends; stopped = any_from (λ e. AreBlocksLeftByPowerLossInCall e blocks) first.events k })
 
-abbrev disk_with : ℕ → ℕ → NameOrder → Blocks → Disk
-disk_with block_size page order blocks = record { block_size = block_size; page = page; order = order; blocks = blocks }
+abbrev disk_with : ℕ → ℕ → NameOrder → Profile → Blocks → Disk
+disk_with block_size page order profile blocks = record { block_size = block_size; page = page; order = order; profile = profile; blocks = blocks }
 
 same_blocks : (disk new : Disk) (blocks : Blocks) → SameGeometry disk new → disk_with_blocks blocks disk ≡ disk_with_blocks blocks new
 same_blocks disk new blocks g =
-    ap₂ (λ b p. disk_with b p disk.order blocks) (sym g.block_size) (sym g.page) ∙ ap (λ o. disk_with new.block_size new.page o blocks) (sym g.order)
+    ap₂ (λ b p. disk_with b p disk.order disk.profile blocks) (sym g.block_size) (sym g.page) ∙ ap₂ (λ o v. disk_with new.block_size new.page o v blocks) (sym g.order) (sym g.profile)
 
 -- ---- the run
 

@@ -1,5 +1,6 @@
 -- Session steps that survive stops survive them.
 use Rattle.std.proofs.Common.{ℕ, ◌≡◌, Bool, true, false, cond, List, Option, refl, sym, ap, ap₂, subst, ◌∙◌}
+use Rattle.lfs_model.specs.declared.limits.Profile.{Profile}
 use Rattle.lfs_model.specs.Content.{content_of_pair_at}
 use Rattle.lfs_model.specs.Disk.{Disk, block_count}
 use Rattle.lfs_model.specs.Operations.{Operation, Reply}
@@ -30,8 +31,9 @@ same_surroundings disk ps qs a b one other around about =
   where
     all : IsSummaryOfDisk disk qs a → IsSummaryOfDisk disk qs b → a ≡ b
     all x y =
-        ap₂ (λ (s p : ℕ). record a { block_size = s; page = p }) (x.block_size ∙ sym y.block_size) (x.page ∙ sym y.page)
-        ∙ ap₂ (λ (n : ℕ) (u : List ℕ). record a { block_size = b.block_size; page = b.page; block_count = n; used = u }) (x.block_count ∙ sym y.block_count) (x.used ∙ sym y.used)
+        ap (λ (k : Profile). record a { profile = k }) (x.profile ∙ sym y.profile)
+        ∙ ap₂ (λ (s p : ℕ). record a { profile = b.profile; block_size = s; page = p }) (x.block_size ∙ sym y.block_size) (x.page ∙ sym y.page)
+        ∙ ap₂ (λ (n : ℕ) (u : List ℕ). record a { profile = b.profile; block_size = b.block_size; page = b.page; block_count = n; used = u }) (x.block_count ∙ sym y.block_count) (x.used ∙ sym y.used)
         ∙ ap₂ (λ (g : Gstate) (w : Bool). record b { gstate = g; writable = w }) (x.gstate ∙ sym y.gstate) (same_bit a.writable b.writable (λ h. y.writable.1 (x.writable.0 h)) (λ h. x.writable.1 (y.writable.0 h)))
 
 -- ---- a turn

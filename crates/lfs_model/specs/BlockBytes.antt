@@ -7,6 +7,7 @@ use Rattle.lfs_model.specs.Names.{Name}
 use Rattle.lfs_model.specs.EntryTypes.{file_name_type, directory_name_type, directory_struct_type, inline_struct_type, ctz_struct_type, move_state_type, no_id}
 use Rattle.lfs_model.specs.WrittenContent.{log_entry_of_type_id_and_bytes, bytes_of_pair_address}
 use Rattle.lfs_model.specs.View.{superblock_name_log_entry}
+use Rattle.lfs_model.specs.declared.limits.Profile.{Profile}
 use Rattle.lfs_model.specs.Fresh.{superblock_struct_bytes}
 
 -- storage that nothing was written to
@@ -29,8 +30,8 @@ ctz_file_name_and_struct_entries id name head size = log_entry_of_type_id_and_by
 abbrev pub directory_name_and_struct_entries : ℕ → Name → ℕ × ℕ → List LogEntry
 directory_name_and_struct_entries id name to = log_entry_of_type_id_and_bytes directory_name_type id name ∷ log_entry_of_type_id_and_bytes directory_struct_type id (bytes_of_pair_address to) ∷ []
 
-abbrev pub superblock_name_and_struct_entries : ℕ → ℕ → List LogEntry
-superblock_name_and_struct_entries block_size block_count = superblock_name_log_entry ∷ log_entry_of_type_id_and_bytes inline_struct_type 0 (superblock_struct_bytes block_size block_count) ∷ []
+abbrev pub superblock_name_and_struct_entries : Profile → ℕ → ℕ → List LogEntry
+superblock_name_and_struct_entries profile block_size block_count = superblock_name_log_entry ∷ log_entry_of_type_id_and_bytes inline_struct_type 0 (superblock_struct_bytes profile block_size block_count) ∷ []
 
 -- a move state by its first word
 abbrev pub move_state_entry_with_first_word : ℕ → ℕ × ℕ → LogEntry

@@ -1,8 +1,11 @@
 -- A device's bytes under a geometry.
-use Rattle.std.specs.Prelude.{ℕ, ◌≡◌, ◌-◌, ◌/◌, ◌%◌, min, List, length}
+use Rattle.std.specs.Prelude.{ℕ, ◌≡◌, ◌≤◌, ◌-◌, ◌/◌, ◌%◌, min, max, List, length}
 use Rattle.lfs_model.specs.Blocks.{Blocks, block_bytes_by_number, cut}
 use Rattle.lfs_model.specs.declared.order.NameOrder.{NameOrder}
+use Rattle.lfs_model.specs.declared.limits.AcceptedVersions.TheVariants.{OnlyTwoZero}
+use Rattle.lfs_model.specs.declared.limits.Profile.{Profile}
 use Rattle.lfs_model.specs.Geometry.{IsValidGeometry}
+use Rattle.lfs_model.specs.Names.{name_limit}
 use Rattle.lfs_model.specs.Tag.{tag_data_limit}
 
 pub record Disk : Type 0 where
@@ -10,6 +13,8 @@ pub record Disk : Type 0 where
   pub page : ℕ
   -- the order of the names in its directories
   pub order : NameOrder
+  -- what is accepted of an image, and what is written
+  pub profile : Profile
   pub blocks : Blocks
 
 abbrev pub block_count : Disk → ℕ
@@ -18,11 +23,12 @@ block_count disk = length disk.blocks
 abbrev pub block_bytes_on_disk : Disk → ℕ → List ℕ
 block_bytes_on_disk disk b = block_bytes_by_number disk.blocks b
 
--- as many blocks and pages, of the same size, and the same order of names
+-- as many blocks and pages, of the same size, the same order of names, and the same profile
 pub record SameGeometry (disk new : Disk) : Type 0 where
   pub block_size : new.block_size ≡ disk.block_size
   pub page : new.page ≡ disk.page
   pub order : new.order ≡ disk.order
+  pub profile : new.profile ≡ disk.profile
   pub count : block_count new ≡ block_count disk
 
 -- An image of a device: its bytes, a whole number of blocks.
@@ -31,12 +37,16 @@ pub record IsImageOfWholeBlocks (block_size page : ℕ) (bytes : List ℕ) : Typ
   pub whole : length bytes % block_size ≡ 0
 
 -- the disk of an image
-abbrev pub disk_of_image : ℕ → ℕ → NameOrder → List ℕ → Disk
-disk_of_image block_size page order bytes = record { block_size = block_size; page = page; order = order; blocks = cut block_size (length bytes / block_size) bytes }
+abbrev pub disk_of_image : ℕ → ℕ → Profile → NameOrder → List ℕ → Disk
+disk_of_image block_size page profile order bytes = record { block_size = block_size; page = page; order = order; profile = profile; blocks = cut block_size (length bytes / block_size) bytes }
 
--- The size of the largest file that is kept inline, in bytes.
-abbrev pub inline_limit : ℕ → ℕ
-inline_limit block_size = min (block_size / 8) tag_data_limit
+-- The size of the largest file that is kept inline, in bytes: an eighth of a block, and no more than the profile has.
+abbrev pub inline_limit : Profile → ℕ → ℕ
+inline_limit profile block_size = min profile.inline_max (min (block_size / 8) tag_data_limit)
+
+-- the most bytes of a struct: of inline contents, or 8 of two addresses
+abbrev pub longest_struct : Profile → ℕ → ℕ
+longest_struct profile block_size = max 8 (inline_limit profile block_size)
 
 -- How many bytes the slots of a written pair may take. They take the block without revision (4), tail (12), move state (16),
 -- checksum (8) and the padding to a page (page - 1).
@@ -49,9 +59,37 @@ charged_entry_size_limit_in_pair block_size page = pair_capacity block_size page
 abbrev pub slots_per_pair_limit : ℕ
 slots_per_pair_limit = 1000
 
+-- the most bytes of a file that an image may have
 abbrev pub file_size_limit : ℕ
 file_size_limit = 2147483647
 
--- the most bytes of an attribute
+-- the most bytes of an attribute that an image may have
 abbrev pub attribute_size_limit : ℕ
 attribute_size_limit = 1022
+
+-- ---- what a profile lets be written
+
+-- The most bytes of a name, a file and an attribute. A profile can only lower what an image may have.
+abbrev pub name_max_of : Profile → ℕ
+name_max_of profile = min profile.name_max name_limit
+
+abbrev pub file_max_of : Profile → ℕ
+file_max_of profile = min profile.file_max file_size_limit
+
+abbrev pub attr_max_of : Profile → ℕ
+attr_max_of profile = min profile.attr_max attribute_size_limit
+
+-- Version 2.0 and littlefs's own limits. No metadata pair moves.
+abbrev pub default_profile : Profile
+default_profile = record { versions = OnlyTwoZero; name_max = 255; file_max = 2147483647; attr_max = 1022; inline_max = 1022; pair_cycles = 0 }
+
+-- no limit is 0, or above what an image may have
+pub record IsValidProfile (profile : Profile) : Type 0 where
+  pub some_name : 1 ≤ profile.name_max
+  pub name : profile.name_max ≤ name_limit
+  pub some_file : 1 ≤ profile.file_max
+  pub file : profile.file_max ≤ file_size_limit
+  pub some_attr : 1 ≤ profile.attr_max
+  pub attr : profile.attr_max ≤ attribute_size_limit
+  pub some_inline : 1 ≤ profile.inline_max
+  pub inline : profile.inline_max ≤ tag_data_limit

@@ -3,32 +3,32 @@ use Rattle.std.specs.Prelude.{ℕ, ◌≡◌, List, [], ◌∷◌, Some, None, c
 use Rattle.std.specs.List.{flat_map}
 use Rattle.byteorder.specs.Endian.{little_bytes}
 use Rattle.lfs_model.specs.Geometry.{IsValidGeometry}
-use Rattle.lfs_model.specs.Disk.{Disk, block_count, file_size_limit, attribute_size_limit}
+use Rattle.lfs_model.specs.declared.limits.Profile.{Profile}
+use Rattle.lfs_model.specs.Disk.{Disk, block_count, name_max_of, file_max_of, attr_max_of}
 use Rattle.lfs_model.specs.Slots.{Slot, Superblock, Inline, PairContent, zero_gstate}
 use Rattle.lfs_model.specs.Content.{content_of_pair_at, current_block_of_pair_at}
 use Rattle.lfs_model.specs.Thread.{Pair, anchor_pair_address}
 use Rattle.lfs_model.specs.Tree.{Tree, DirectoryNode}
 use Rattle.lfs_model.specs.View.{BeginsWithLogEntry, superblock_name_log_entry}
-use Rattle.lfs_model.specs.Names.{name_limit}
 
--- version 2.0, block size, block count, and the limits of names, files and attributes
-abbrev pub superblock_struct_bytes : ℕ → ℕ → List ℕ
-superblock_struct_bytes block_size blocks = flat_map (little_bytes 4) (0x00020000 ∷ block_size ∷ blocks ∷ name_limit ∷ file_size_limit ∷ attribute_size_limit ∷ [])
+-- version 2.0, block size, block count, and the profile's limits of names, files and attributes
+abbrev pub superblock_struct_bytes : Profile → ℕ → ℕ → List ℕ
+superblock_struct_bytes profile block_size blocks = flat_map (little_bytes 4) (0x00020000 ∷ block_size ∷ blocks ∷ name_max_of profile ∷ file_max_of profile ∷ attr_max_of profile ∷ [])
 
-abbrev pub superblock_slot : ℕ → ℕ → Slot
-superblock_slot block_size blocks = record { kind = Superblock; name = codes "littlefs"; struct = Inline (superblock_struct_bytes block_size blocks); attributes = [] }
+abbrev pub superblock_slot : Profile → ℕ → ℕ → Slot
+superblock_slot profile block_size blocks = record { kind = Superblock; name = codes "littlefs"; struct = Inline (superblock_struct_bytes profile block_size blocks); attributes = [] }
 
-abbrev pub content_of_fresh_disk : ℕ → ℕ → PairContent
-content_of_fresh_disk block_size blocks = record { slots = superblock_slot block_size blocks ∷ []; tail = None; move = zero_gstate }
+abbrev pub content_of_fresh_disk : Profile → ℕ → ℕ → PairContent
+content_of_fresh_disk profile block_size blocks = record { slots = superblock_slot profile block_size blocks ∷ []; tail = None; move = zero_gstate }
 
 -- the only pair of the thread
 abbrev pub only_pair_of_fresh_disk : Disk → Pair
-only_pair_of_fresh_disk disk = record { at = anchor_pair_address; content = content_of_fresh_disk disk.block_size (block_count disk) }
+only_pair_of_fresh_disk disk = record { at = anchor_pair_address; content = content_of_fresh_disk disk.profile disk.block_size (block_count disk) }
 
 -- The pair {0, 1} holds the superblock and nothing else. The other blocks may have any bytes.
 pub record IsFreshDisk (disk : Disk) : Type 0 where
   pub geometry : IsValidGeometry disk.block_size disk.page (block_count disk)
-  pub content : content_of_pair_at disk anchor_pair_address ≡ Some (content_of_fresh_disk disk.block_size (block_count disk))
+  pub content : content_of_pair_at disk anchor_pair_address ≡ Some (content_of_fresh_disk disk.profile disk.block_size (block_count disk))
   pub first : BeginsWithLogEntry (current_block_of_pair_at disk anchor_pair_address) superblock_name_log_entry
 
 -- a root without entries

@@ -12,6 +12,7 @@ use Rattle.lfs_model.specs.Effects.{refusal_or_effect_of_operation}
 
 -- what an operation takes from an accepted disk with these pairs
 pub record IsSummaryOfDisk (disk : Disk) (ps : List Pair) (around : DiskSummary) : Type 0 where
+  pub profile : around.profile ≡ disk.profile
   pub block_size : around.block_size ≡ disk.block_size
   pub page : around.page ≡ disk.page
   pub block_count : around.block_count ≡ block_count disk

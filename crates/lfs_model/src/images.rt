@@ -2,7 +2,9 @@
 
 ghost use Rattle.std.specs.Prelude.{◌≡◌, true, false, [], ◌∷◌, ◌++◌, Some, replicate, codes};
 ghost use Rattle.byteorder.specs.Endian.{little_bytes};
-ghost use Rattle.lfs_model.specs.Disk.{Disk};
+ghost use Rattle.lfs_model.specs.Names.{same_name};
+ghost use Rattle.lfs_model.specs.declared.limits.AcceptedVersions.TheVariants.{AlsoTwoOne};
+ghost use Rattle.lfs_model.specs.Disk.{Disk, default_profile};
 ghost use Rattle.lfs_model.specs.Slots.{zero_gstate};
 ghost use Rattle.lfs_model.specs.Thread.{gstate_of_pairs};
 ghost use Rattle.lfs_model.specs.Tree.{FileNode, DirectoryNode};
@@ -13,7 +15,7 @@ ghost use Rattle.lfs_model.specs.Shown.{tree_on_disk, used_blocks};
 ghost use Rattle.lfs_model.specs.Fresh.{IsFreshDisk, only_pair_of_fresh_disk, empty_tree};
 ghost use Rattle.lfs_model.specs.WrittenContent.{tail_log_entry};
 ghost use Rattle.lfs_model.specs.BlockBytes.{unwritten_storage_bytes, bytes_padded_to_block_size, inline_file_name_and_struct_entries, ctz_file_name_and_struct_entries, directory_name_and_struct_entries, move_state_entry_with_first_word, superblock_name_and_struct_entries, checksum_entry, metadata_block_bytes};
-ghost use Rattle.lfs_model.specs.examples.Images.{disk_view_of_nodes, IsNoAcceptedImage, IsNoWritableImage, small_fresh_image, large_fresh_image, block_with_shifted_slots, image_with_shifted_slots, image_over_storage_erased_to_zeros, image_of_two_commits, large_disk_with_blocks, root_block_with_entries, pair_block_with_entries, superblock_struct_bytes_with_fields, root_block_with_superblock_struct, image_of_first_block_and_others};
+ghost use Rattle.lfs_model.specs.examples.Images.{disk_view_of_nodes, IsNoAcceptedImage, IsNoWritableImage, small_fresh_image, large_fresh_image, block_with_shifted_slots, image_with_shifted_slots, image_over_storage_erased_to_zeros, image_of_two_commits, large_disk_with_blocks, root_block_with_entries, pair_block_with_entries, superblock_struct_bytes_with_fields, disk_with_accepted_versions, superblock_entries_with_struct, root_block_with_superblock_struct, image_of_first_block_and_others};
 
 /// A fresh image is accepted and may be written. It shows the empty root, and uses the first two blocks.
 pub fn fresh_image_is_accepted()
@@ -68,14 +70,14 @@ pub fn image_shows_its_only_file()
 pub fn later_block_of_pair_is_shown()
     // Block 1 is a fresh root of the revision before block 0's.
     ensures first { HasDiskView
-        (large_disk_with_blocks (block_with_shifted_slots ∷ metadata_block_bytes 4096 0xffffffff (superblock_name_and_struct_entries 4096 16 ++ checksum_entry 0xc3e1dffc 204 ∷ []) ∷ []))
+        (large_disk_with_blocks (block_with_shifted_slots ∷ metadata_block_bytes 4096 0xffffffff (superblock_name_and_struct_entries default_profile 4096 16 ++ checksum_entry 0xc3e1dffc 204 ∷ []) ∷ []))
         (disk_view_of_nodes (([], DirectoryNode [] (codes "b" ∷ []))
         ∷ (codes "b" ∷ [], FileNode ((0x41, codes "x") ∷ []) []) ∷ [])
         zero_gstate (0 ∷ 1 ∷ [])) }
 
     // Block 1 has a file, and the revision after block 0's.
     ensures second { HasDiskView
-        (large_disk_with_blocks (root_block_with_entries [] 0xf3277f4a 204 ∷ metadata_block_bytes 4096 2 (superblock_name_and_struct_entries 4096 16 ++ inline_file_name_and_struct_entries 1 (codes "a") (codes "hello") ++ checksum_entry 0xe6da60eb 190 ∷ []) ∷ []))
+        (large_disk_with_blocks (root_block_with_entries [] 0xf3277f4a 204 ∷ metadata_block_bytes 4096 2 (superblock_name_and_struct_entries default_profile 4096 16 ++ inline_file_name_and_struct_entries 1 (codes "a") (codes "hello") ++ checksum_entry 0xe6da60eb 190 ∷ []) ∷ []))
         (disk_view_of_nodes (([], DirectoryNode [] (codes "a" ∷ []))
         ∷ (codes "a" ∷ [], FileNode [] (codes "hello")) ∷ [])
         zero_gstate (0 ∷ 1 ∷ [])) }
@@ -169,7 +171,18 @@ pub fn root_begins_at_end_of_superblock_chain()
     // The superblock of the second pair gives 17 blocks.
     ensures other_bytes { IsNoAcceptedImage
         (image_of_first_block_and_others (root_block_with_entries (tail_log_entry true (Some (2, 3)) ∷ []) 0xef8649c3 192)
-        (pair_block_with_entries (superblock_name_and_struct_entries 4096 17 ++ inline_file_name_and_struct_entries 1 (codes "a") (codes "hi")) 0xa947a470 193 ∷ [])) }
+        (pair_block_with_entries (superblock_name_and_struct_entries default_profile 4096 17 ++ inline_file_name_and_struct_entries 1 (codes "a") (codes "hi")) 0xa947a470 193 ∷ [])) }
+
+    // The superblock of the second pair gives version 2.1, and that of the first 2.0.
+    ensures two_versions { HasDiskView
+        (disk_with_accepted_versions AlsoTwoOne (image_of_first_block_and_others (root_block_with_entries (tail_log_entry true (Some (2, 3)) ∷ []) 0xef8649c3 192)
+        (pair_block_with_entries (superblock_entries_with_struct (superblock_struct_bytes_with_fields 0x00020001 4096 255) ++ inline_file_name_and_struct_entries 1 (codes "a") (codes "hi")) 0xe9294708 193 ∷ [])))
+        (disk_view_of_nodes (([], DirectoryNode [] (codes "a" ∷ []))
+        ∷ (codes "a" ∷ [], FileNode [] (codes "hi")) ∷ [])
+        zero_gstate (0 ∷ 1 ∷ 2 ∷ 3 ∷ [])) }
+    ensures other_version { IsNoAcceptedImage
+        (image_of_first_block_and_others (root_block_with_entries (tail_log_entry true (Some (2, 3)) ∷ []) 0xef8649c3 192)
+        (pair_block_with_entries (superblock_entries_with_struct (superblock_struct_bytes_with_fields 0x00020001 4096 255) ++ inline_file_name_and_struct_entries 1 (codes "a") (codes "hi")) 0xe9294708 193 ∷ [])) }
 
     // The first pair has a file beside its superblock.
     ensures not_alone { IsNoAcceptedImage
@@ -226,4 +239,8 @@ pub fn image_outside_profile_is_read_only()
     ensures name_limit { HasDiskView (image_of_first_block_and_others (root_block_with_superblock_struct (superblock_struct_bytes_with_fields 0x00020000 4096 32) 0xe9693de0) [])
         (disk_view_of_nodes (([], DirectoryNode [] []) ∷ []) zero_gstate (0 ∷ 1 ∷ [])) }
     ensures name_limit_read_only { IsNoWritableImage (image_of_first_block_and_others (root_block_with_superblock_struct (superblock_struct_bytes_with_fields 0x00020000 4096 32) 0xe9693de0) []) }
+
+    // The superblock gives version 2.1, which is accepted.
+    ensures newer { HasDiskView (disk_with_accepted_versions AlsoTwoOne (image_of_first_block_and_others (root_block_with_superblock_struct (superblock_struct_bytes_with_fields 0x00020001 4096 255) 0xf2928257) []))
+        (disk_view_of_nodes (([], DirectoryNode [] []) ∷ []) zero_gstate (0 ∷ 1 ∷ [])) }
 {}

@@ -1,6 +1,7 @@
 // Skip lists, in blocks of 1,024 bytes.
 
 ghost use Rattle.std.specs.Prelude.{◌≡◌, ℕ, [], ◌∷◌, ◌++◌, map, replicate};
+ghost use Rattle.lfs_model.specs.Disk.{default_profile};
 ghost use Rattle.lfs_model.specs.SkipLists.{IsPlaceOfByteInList, IsSkipList, list_block_count_for_size, list_blocks_from_head, bytes_of_skip_list, pointer_count_of_list_block, data_capacity_of_list_block};
 ghost use Rattle.lfs_model.specs.Session.{skip_list_block_count_unless_inline};
 ghost use Rattle.lfs_model.specs.examples.Images.{three_block_skip_list, three_block_skip_list_with_pointer, blocks_of_endless_skip_list};
@@ -16,7 +17,7 @@ pub fn skip_list_size_gives_block_count()
     ensures places { IsPlaceOfByteInList 1024 1023 0 1023 × IsPlaceOfByteInList 1024 1024 1 4 × IsPlaceOfByteInList 1024 2043 1 1023 × IsPlaceOfByteInList 1024 2044 2 8 × IsPlaceOfByteInList 1024 4080 4 12 }
 
     // A file of at most an eighth of a block has no list.
-    ensures inline { map (skip_list_block_count_unless_inline 1024) (128 ∷ 129 ∷ []) ≡ 0 ∷ 1 ∷ [] }
+    ensures inline { map (skip_list_block_count_unless_inline default_profile 1024) (128 ∷ 129 ∷ []) ≡ 0 ∷ 1 ∷ [] }
 {}
 
 /// A list of 2,045 bytes in the blocks 5, 6 and 7.

@@ -1,6 +1,7 @@
 // Further rules of accepted images and of the writing profile.
 
 ghost use Rattle.std.specs.Prelude.{◌≡◌, true, false, [], ◌∷◌, ◌++◌, Some, replicate, codes};
+ghost use Rattle.lfs_model.specs.Disk.{default_profile};
 ghost use Rattle.lfs_model.specs.Slots.{zero_gstate};
 ghost use Rattle.lfs_model.specs.Tree.{DirectoryNode};
 ghost use Rattle.lfs_model.specs.EntryTypes.{create_tag_type, file_name_type, directory_name_type, superblock_name_type, directory_struct_type, inline_struct_type};
@@ -30,7 +31,7 @@ pub fn slot_with_mismatched_struct_is_not_accepted()
 /// The superblock's name is the first entry, and stays.
 pub fn bad_first_entry_is_not_accepted()
     ensures renamed { IsNoAcceptedImage (image_of_first_block_and_others (root_block_with_entries (log_entry_of_type_id_and_bytes superblock_name_type 0 (codes "LITTLEFS") ∷ []) 0x912d6571 192) []) }
-    ensures create_first { IsNoAcceptedImage (image_of_first_block_and_others (pair_block_with_entries (log_entry_of_type_id_and_bytes create_tag_type 0 [] ∷ superblock_name_log_entry ∷ log_entry_of_type_id_and_bytes inline_struct_type 0 (superblock_struct_bytes 4096 16) ∷ []) 0x914ab51c 200) []) }
+    ensures create_first { IsNoAcceptedImage (image_of_first_block_and_others (pair_block_with_entries (log_entry_of_type_id_and_bytes create_tag_type 0 [] ∷ superblock_name_log_entry ∷ log_entry_of_type_id_and_bytes inline_struct_type 0 (superblock_struct_bytes default_profile 4096 16) ∷ []) 0x914ab51c 200) []) }
 {}
 
 /// Which rules keep an accepted image from being written.

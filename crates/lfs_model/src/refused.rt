@@ -2,9 +2,10 @@
 
 ghost use Rattle.std.specs.Prelude.{true, false, [], ◌∷◌, ◌++◌, Some, replicate, codes};
 ghost use Rattle.byteorder.specs.Endian.{little_bytes};
+ghost use Rattle.lfs_model.specs.declared.limits.AcceptedVersions.TheVariants.{AlsoTwoOne};
 ghost use Rattle.lfs_model.specs.WrittenContent.{tail_log_entry};
 ghost use Rattle.lfs_model.specs.BlockBytes.{unwritten_storage_bytes, bytes_padded_to_block_size, inline_file_name_and_struct_entries, ctz_file_name_and_struct_entries, directory_name_and_struct_entries, move_state_entry_with_first_word};
-ghost use Rattle.lfs_model.specs.examples.Images.{IsNoAcceptedImage, root_block_with_entries, pair_block_with_entries, image_of_first_block_and_others, fresh_image_resized_to_block_count, superblock_struct_bytes_with_fields, root_block_with_superblock_struct};
+ghost use Rattle.lfs_model.specs.examples.Images.{IsNoAcceptedImage, root_block_with_entries, pair_block_with_entries, image_of_first_block_and_others, fresh_image_resized_to_block_count, superblock_struct_bytes_with_fields, root_block_with_superblock_struct, disk_with_accepted_versions};
 
 /// The thread must end, within the disk, and must not have a block twice.
 pub fn bad_thread_is_not_accepted()
@@ -77,12 +78,14 @@ pub fn move_naming_no_entry_is_not_accepted()
     ensures other_type { IsNoAcceptedImage (image_of_first_block_and_others (root_block_with_entries (move_state_entry_with_first_word 0x00100000 (0, 0) ∷ []) 0xdf2eca91 188) []) }
 {}
 
-/// The superblock gives the block size, the block count and the version 2.0.
+/// The superblock gives the block size, the block count and the version 2.0, where no other is accepted.
 pub fn bad_superblock_is_not_accepted()
     // The 16 blocks of a fresh image cut to 2, and lengthened by one.
     ensures cut { IsNoAcceptedImage (fresh_image_resized_to_block_count 2) }
     ensures lengthened { IsNoAcceptedImage (fresh_image_resized_to_block_count 17) }
     ensures version { IsNoAcceptedImage (image_of_first_block_and_others (root_block_with_superblock_struct (superblock_struct_bytes_with_fields 0x00020001 4096 255) 0xf2928257) []) }
+    // Version 2.2, where 2.1 is accepted too.
+    ensures later_version { IsNoAcceptedImage (disk_with_accepted_versions AlsoTwoOne (image_of_first_block_and_others (root_block_with_superblock_struct (superblock_struct_bytes_with_fields 0x00020002 4096 255) 0xf04c8570) [])) }
     ensures block_size { IsNoAcceptedImage (image_of_first_block_and_others (root_block_with_superblock_struct (superblock_struct_bytes_with_fields 0x00020000 8192 255) 0xf0b0f59e) []) }
 
     // Storage that nothing was written to.

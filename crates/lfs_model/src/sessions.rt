@@ -1,11 +1,12 @@
 // What sessions on a fresh disk reply.
 
 ghost use Rattle.std.specs.Prelude.{◌≡◌, true, [], ◌∷◌, ◌++◌, Some, None, replicate, codes};
+ghost use Rattle.lfs_model.specs.Disk.{default_profile};
 ghost use Rattle.lfs_model.specs.Operations as ops;
 ghost use Rattle.lfs_model.specs.Operations.{NoEnt, BadFile, Busy, Exist, NotDir, IsDir, Invalid, TooBig, NoSpace, NameTooLong, NotEmpty, NoAttr, EntryFull, Failed};
 ghost use Rattle.lfs_model.specs.State.{SessionHealth, HasFailed, Healthy, session_after_mount, reply_and_session_health_after_operation};
 ghost use Rattle.lfs_model.specs.Fresh.{empty_tree};
-ghost use Rattle.lfs_model.specs.examples.Sessions.{writable_disk_summary, replies_from_fresh_disk, operations_each_paired_with_used_block_count, no_flags, read_flags, write_flags, flags_to_open_new_file};
+ghost use Rattle.lfs_model.specs.examples.Sessions.{writable_disk_summary, replies_from_fresh_disk, replies_to_operations, operations_each_paired_with_used_block_count, no_flags, read_flags, write_flags, flags_to_open_new_file};
 
 /// Paths that are refused, and names of the greatest length.
 pub fn paths_are_checked()
@@ -180,4 +181,16 @@ pub fn failed_session_refuses_all_but_remount()
     ensures remount { reply_and_session_health_after_operation (writable_disk_summary 4096 256 16 2) (Some empty_tree) HasFailed ops.Remount ≡ (Some ops.Done, Healthy (session_after_mount empty_tree)) }
     ensures after_it { reply_and_session_health_after_operation (writable_disk_summary 4096 256 16 2) (Some empty_tree) (Healthy (session_after_mount empty_tree)) (ops.Stat (codes "/d")) ≡ (Some (ops.Refused NoEnt), Healthy (session_after_mount empty_tree)) }
     ensures not_accepted { (state : SessionHealth) → reply_and_session_health_after_operation (writable_disk_summary 4096 256 16 2) None state ops.Remount ≡ (None, HasFailed) }
+{}
+
+/// A profile lowers the limits of names, files and attributes, and what is inline.
+pub fn limits_are_of_profile()
+    ensures { replies_to_operations (λ used. record (writable_disk_summary 4096 256 16 used) { profile = record default_profile { name_max = 3; file_max = 5; attr_max = 2 } }) (session_after_mount empty_tree)
+        (operations_each_paired_with_used_block_count 2
+        (ops.Mkdir (codes "/abc") ∷ ops.Mkdir (codes "/abcd") ∷ ops.Open (codes "/abcd") flags_to_open_new_file ∷ ops.Rename (codes "/abc") (codes "/abcd")
+        ∷ ops.Open (codes "/f") flags_to_open_new_file ∷ ops.Write 0 (codes "hello") ∷ ops.Write 0 (codes "!") ∷ ops.Truncate 0 6 ∷ ops.Seek 0 5 ∷ ops.Seek 0 6
+        ∷ ops.SetAttr (codes "/abc") 0x41 (codes "xy") ∷ ops.SetAttr (codes "/abc") 0x41 (codes "xyz") ∷ []))
+        ≡ ops.Done ∷ ops.Refused NameTooLong ∷ ops.Refused NameTooLong ∷ ops.Refused NameTooLong
+        ∷ ops.Opened 0 ∷ ops.Count 5 ∷ ops.Refused TooBig ∷ ops.Refused TooBig ∷ ops.Done ∷ ops.Refused Invalid
+        ∷ ops.Done ∷ ops.Refused TooBig ∷ [] }
 {}

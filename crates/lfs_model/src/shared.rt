@@ -22,6 +22,7 @@ ghost use Rattle.lfs_model.specs.Slots.{Slot, PairContent, IsContentFittingPair,
 ghost use Rattle.lfs_model.specs.Stops.{AreBlocksLeftByPowerLossInCall, LeavesNoNewLogIfSuccessfulErase};
 ghost use Rattle.lfs_model.specs.Thread.{Pair, gstate_of_pairs, starts_with_superblock};
 ghost use Rattle.lfs_model.specs.Tree.{Path, Tree};
+ghost use Rattle.lfs_model.specs.declared.limits.Profile.{Profile};
 ghost use Rattle.lfs_model.specs.Profile.{IsEntryWithinWritableLimits};
 ghost use Rattle.lfs_model.specs.View.{IsAcceptedImage, superblock_name_log_entry};
 ghost use Rattle.lfs_model.specs.Shown.{IsPathToDirectory};
@@ -34,10 +35,10 @@ pub fn full_pair_can_be_split()
         → CanSplitSlotsIntoTwoPairs block_size page (front ++ s ∷ back) }
 
     // an entry of the profile is added to a pair that fitted
-    ensures comes { (block_size page : ℕ) (raw : RawPairContent) (c old : PairContent) (id : ℕ) (s : Slot) → 1024 ≤ block_size → IsWellFormedRawPairContent raw → pair_content_if_slots_complete raw ≡ Some c
-        → c.slots ≡ insert old.slots id s → IsEntryWithinWritableLimits block_size page s → IsContentFittingPair block_size page old → CanSplitSlotsIntoTwoPairs block_size page raw.slots }
-    ensures changes { (block_size page : ℕ) (raw : RawPairContent) (c old : PairContent) (front : List Slot) (was s : Slot) (back : List Slot) → 1024 ≤ block_size → IsWellFormedRawPairContent raw
-        → pair_content_if_slots_complete raw ≡ Some c → old.slots ≡ front ++ was ∷ back → c.slots ≡ front ++ s ∷ back → IsEntryWithinWritableLimits block_size page s → IsContentFittingPair block_size page old
+    ensures comes { (profile : Profile) (block_size page : ℕ) (raw : RawPairContent) (c old : PairContent) (id : ℕ) (s : Slot) → 1024 ≤ block_size → IsWellFormedRawPairContent raw → pair_content_if_slots_complete raw ≡ Some c
+        → c.slots ≡ insert old.slots id s → IsEntryWithinWritableLimits profile block_size page s → IsContentFittingPair block_size page old → CanSplitSlotsIntoTwoPairs block_size page raw.slots }
+    ensures changes { (profile : Profile) (block_size page : ℕ) (raw : RawPairContent) (c old : PairContent) (front : List Slot) (was s : Slot) (back : List Slot) → 1024 ≤ block_size → IsWellFormedRawPairContent raw
+        → pair_content_if_slots_complete raw ≡ Some c → old.slots ≡ front ++ was ∷ back → c.slots ≡ front ++ s ∷ back → IsEntryWithinWritableLimits profile block_size page s → IsContentFittingPair block_size page old
         → CanSplitSlotsIntoTwoPairs block_size page raw.slots }
 
     // where the whole doesn't fit, no part is without slots

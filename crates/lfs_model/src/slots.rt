@@ -1,6 +1,7 @@
 // What operations make of slots, and of the pairs that have them.
 
 ghost use Rattle.std.specs.Prelude.{◌≡◌, true, false, List, [], ◌∷◌, ◌++◌, filter, replicate, Some, None, codes};
+ghost use Rattle.lfs_model.specs.Disk.{default_profile};
 ghost use Rattle.lfs_model.specs.Disk.{Disk};
 ghost use Rattle.lfs_model.specs.Slots.{Inline, Ctz};
 ghost use Rattle.lfs_model.specs.Thread.{Pair};
@@ -67,10 +68,12 @@ pub fn slots_and_attributes_are_replaced()
         (root_pair_with_file (codes "a") []) (root_pair_with_file (codes "a") []) → ⊥ }
 {}
 
-/// At most an eighth of a block is in the entry, and more isn't.
+/// At most an eighth of a block is in the entry, and no more than the profile has.
 pub fn inline_limit_is_eighth_of_block()
     ensures inline { IsStructStoringBytes small_fresh_image (replicate 128 7) (Inline (replicate 128 7)) }
     ensures too_long { IsStructStoringBytes small_fresh_image (replicate 129 7) (Inline (replicate 129 7)) → ⊥ }
+    ensures lower { IsStructStoringBytes (record small_fresh_image { profile = record default_profile { inline_max = 16 } }) (replicate 16 7) (Inline (replicate 16 7)) }
+    ensures past_lower { IsStructStoringBytes (record small_fresh_image { profile = record default_profile { inline_max = 16 } }) (replicate 17 7) (Inline (replicate 17 7)) → ⊥ }
     ensures too_short { IsStructStoringBytes small_fresh_image (replicate 128 7) (Ctz 1 128) → ⊥ }
     ensures list { IsStructStoringBytes (small_disk_with_first_block (replicate 1024 7)) (replicate 1024 7) (Ctz 0 1024) }
 {}

@@ -10,7 +10,8 @@ use Rattle.lfs_model.specs.Disk.{Disk, block_count}
 use Rattle.lfs_model.specs.SkipLists.{IsSkipList}
 use Rattle.lfs_model.specs.Slots.{Slot, Gstate}
 use Rattle.lfs_model.specs.Thread.{Pair, IsThreadOfMetadataPairs, blocks_of_pairs, gstate_of_pairs, slots_not_moved, entries_not_moved, id_of_moved_slot_in_pair}
-use Rattle.lfs_model.specs.View.{IsFileOrDirectoryEntry, IsSuperblockThenEntries, IsSuperblockThenEntriesIfAnySlot, HasInlineStruct, IsSkipListIfCtzStruct, HasValidMoveOrNone, IsAcceptedImage}
+use Rattle.lfs_model.specs.declared.limits.AcceptedVersions.{AcceptedVersions}
+use Rattle.lfs_model.specs.View.{IsFileOrDirectoryEntry, IsSuperblockThenEntries, IsSuperblockThenEntriesIfAnySlot, HasSuperblockStruct, IsSkipListIfCtzStruct, HasValidMoveOrNone, IsAcceptedImage}
 use Rattle.lfs_model.specs.Shown.{skip_list_blocks_of_struct, all_slots_not_moved, used_blocks, directories_in_thread}
 use Rattle.lfs_model.proofs.Counts.{Each, each_append, each_weaker, occurrence_count_of_number, count_append, once_from_distinct, distinct_from_once}
 use Rattle.lfs_model.proofs.Superblocks.{IsChain, pairs_behind, Mark, StructMark, HoldSlots, root_rule, superblock_rule, slots_rule}
@@ -29,52 +30,52 @@ use Rattle.lfs_mount.proofs.Rules.{behind, without, unmoved-without, IsMovedEntr
 use Rattle.lfs_mount.proofs.Accepts.{IsInline, Starting, starts_so, slots_right, no_blocks, no_lists, counted, listed}
 use Rattle.lfs_model.specs.Steps.{addresses_of_first_pairs_of_directories}
 
-bare_headed : (bytes : List ℕ) (chain : List Pair) → Each (HasAtMostSuperblockSlot bytes) chain → Each (λ q. IsSuperblockThenEntriesIfAnySlot (HasInlineStruct bytes) q.content.slots) chain
-bare_headed bytes [] h = tt
-bare_headed bytes (q ∷ chain) h = (go h.0, bare_headed bytes chain h.1)
+bare_headed : (v : AcceptedVersions) (bytes : List ℕ) (chain : List Pair) → Each (HasAtMostSuperblockSlot v bytes) chain → Each (λ q. IsSuperblockThenEntriesIfAnySlot (HasSuperblockStruct v bytes) q.content.slots) chain
+bare_headed v bytes [] h = tt
+bare_headed v bytes (q ∷ chain) h = (go h.0, bare_headed v bytes chain h.1)
   where
-    go : HasAtMostSuperblockSlot bytes q → IsSuperblockThenEntriesIfAnySlot (HasInlineStruct bytes) q.content.slots
-    go (inl none) = subst (IsSuperblockThenEntriesIfAnySlot (HasInlineStruct bytes)) (sym none) tt
-    go (inr alone) = subst (IsSuperblockThenEntriesIfAnySlot (HasInlineStruct bytes)) (sym alone.slots) (alone.superblock, alone.struct, (λ k d lt. absurd (omega arith)))
+    go : HasAtMostSuperblockSlot v bytes q → IsSuperblockThenEntriesIfAnySlot (HasSuperblockStruct v bytes) q.content.slots
+    go (inl none) = subst (IsSuperblockThenEntriesIfAnySlot (HasSuperblockStruct v bytes)) (sym none) tt
+    go (inr alone) = subst (IsSuperblockThenEntriesIfAnySlot (HasSuperblockStruct v bytes)) (sym alone.slots) (alone.superblock, alone.struct, (λ k d lt. absurd (omega arith)))
 
-inline_slot : (bytes : List ℕ) (s : Slot) → HasInlineStruct bytes s → IsInline s.struct
-inline_slot bytes s h = subst IsInline (sym h) tt
+inline_slot : (v : AcceptedVersions) (bytes : List ℕ) (s : Slot) → HasSuperblockStruct v bytes s → IsInline s.struct
+inline_slot v bytes s h = subst IsInline (sym h.1.0) tt
 
 -- whatever the global state names
-alone_inline : (g : Gstate) (bytes : List ℕ) (q : Pair) → HasSuperblockSlotAlone bytes q → Each (λ s. IsInline s.struct) (slots_not_moved g q)
-alone_inline g bytes q h = subst (Each (λ s. IsInline s.struct)) (sym (unmoved-without g q ∙ ap (without (id_of_moved_slot_in_pair g q)) h.slots)) (go (id_of_moved_slot_in_pair g q))
+alone_inline : (g : Gstate) (v : AcceptedVersions) (bytes : List ℕ) (q : Pair) → HasSuperblockSlotAlone v bytes q → Each (λ s. IsInline s.struct) (slots_not_moved g q)
+alone_inline g v bytes q h = subst (Each (λ s. IsInline s.struct)) (sym (unmoved-without g q ∙ ap (without (id_of_moved_slot_in_pair g q)) h.slots)) (go (id_of_moved_slot_in_pair g q))
   where
     go : (moved : Option ℕ) → Each (λ s. IsInline s.struct) (without moved (h.slot ∷ []))
-    go None = (inline_slot bytes h.slot h.struct, tt)
+    go None = (inline_slot v bytes h.slot h.struct, tt)
     go (Some zero) = tt
-    go (Some (suc zero)) = (inline_slot bytes h.slot h.struct, tt)
-    go (Some (suc (suc id))) = (inline_slot bytes h.slot h.struct, tt)
+    go (Some (suc zero)) = (inline_slot v bytes h.slot h.struct, tt)
+    go (Some (suc (suc id))) = (inline_slot v bytes h.slot h.struct, tt)
 
-bare_inline : (g : Gstate) (bytes : List ℕ) (q : Pair) → HasAtMostSuperblockSlot bytes q → Each (λ s. IsInline s.struct) (slots_not_moved g q)
-bare_inline g bytes q (inr alone) = alone_inline g bytes q alone
-bare_inline g bytes q (inl none) = subst (Each (λ s. IsInline s.struct)) (sym (unmoved-without g q ∙ ap (without (id_of_moved_slot_in_pair g q)) none)) (go (id_of_moved_slot_in_pair g q))
+bare_inline : (g : Gstate) (v : AcceptedVersions) (bytes : List ℕ) (q : Pair) → HasAtMostSuperblockSlot v bytes q → Each (λ s. IsInline s.struct) (slots_not_moved g q)
+bare_inline g v bytes q (inr alone) = alone_inline g v bytes q alone
+bare_inline g v bytes q (inl none) = subst (Each (λ s. IsInline s.struct)) (sym (unmoved-without g q ∙ ap (without (id_of_moved_slot_in_pair g q)) none)) (go (id_of_moved_slot_in_pair g q))
   where
     go : (moved : Option ℕ) → Each (λ s. IsInline s.struct) (without moved [])
     go None = tt
     go (Some zero) = tt
     go (Some (suc id)) = tt
 
-chain_inline : (g : Gstate) (bytes : List ℕ) (chain : List Pair) → Each (HasAtMostSuperblockSlot bytes) chain → Each (λ s. IsInline s.struct) (flat_map (slots_not_moved g) chain)
-chain_inline g bytes [] h = tt
-chain_inline g bytes (q ∷ chain) h = each_append (λ (s : Slot). IsInline s.struct) (slots_not_moved g q) (flat_map (slots_not_moved g) chain) (bare_inline g bytes q h.0) (chain_inline g bytes chain h.1)
+chain_inline : (g : Gstate) (v : AcceptedVersions) (bytes : List ℕ) (chain : List Pair) → Each (HasAtMostSuperblockSlot v bytes) chain → Each (λ s. IsInline s.struct) (flat_map (slots_not_moved g) chain)
+chain_inline g v bytes [] h = tt
+chain_inline g v bytes (q ∷ chain) h = each_append (λ (s : Slot). IsInline s.struct) (slots_not_moved g q) (flat_map (slots_not_moved g) chain) (bare_inline g v bytes q h.0) (chain_inline g v bytes chain h.1)
 
 -- pairs behind the first begin with none
-others_start : (bytes : List ℕ) (ps : List Pair) → Starting bytes false ps
-others_start bytes [] = tt
-others_start bytes (p ∷ ps) = ((λ e. absurd (cc)), others_start bytes ps)
+others_start : (v : AcceptedVersions) (bytes : List ℕ) (ps : List Pair) → Starting v bytes false ps
+others_start v bytes [] = tt
+others_start v bytes (p ∷ ps) = ((λ e. absurd (cc)), others_start v bytes ps)
 
 others_hold : (g : Gstate) (m : Mark) (ps : List Pair) → HaveEntries g false ps → Each (λ p. IsMovedEntry (id_of_moved_slot_in_pair g p) p.content.slots) ps → HoldSlots m false ps
 others_hold g m [] h k = tt
 others_hold g m (p ∷ ps) h k = (slots_right g false p k.0 (λ e. absurd (cc)) h.0, others_hold g m ps h.1 k.1)
 
-headed : (bytes : List ℕ) (slots : List Slot) → BeginsWithSuperblockSlot bytes slots → All IsFileOrDirectoryEntry (behind true slots) → IsSuperblockThenEntries (HasInlineStruct bytes) slots
-headed bytes [] h entries = absurd h
-headed bytes (s ∷ slots) h entries = (h.0, h.1, entries)
+headed : (v : AcceptedVersions) (bytes : List ℕ) (slots : List Slot) → BeginsWithSuperblockSlot v bytes slots → All IsFileOrDirectoryEntry (behind true slots) → IsSuperblockThenEntries (HasSuperblockStruct v bytes) slots
+headed v bytes [] h entries = absurd h
+headed v bytes (s ∷ slots) h entries = (h.0, h.1, entries)
 
 module _ (disk : Disk) (chain : List Pair) (p : Pair) (rest : List Pair) (bytes : List ℕ) (chain_is : IsChain chain (p ∷ rest)) (head : HasSuperblockChain disk chain p rest bytes) where
   abbrev ps : List Pair
@@ -86,8 +87,8 @@ module _ (disk : Disk) (chain : List Pair) (p : Pair) (rest : List Pair) (bytes 
   abbrev dirs : List Pair
   dirs = p ∷ rest
 
-  starting : Starting bytes true dirs
-  starting = ((λ e. head.start), others_start bytes rest)
+  starting : Starting disk.profile.versions bytes true dirs
+  starting = ((λ e. head.start), others_start disk.profile.versions bytes rest)
 
   slots_parted : all_slots_not_moved ps ≡ flat_map (slots_not_moved g) chain ++ flat_map (slots_not_moved g) dirs
   slots_parted = flat_map-append (slots_not_moved g) chain dirs
@@ -99,7 +100,7 @@ module _ (disk : Disk) (chain : List Pair) (p : Pair) (rest : List Pair) (bytes 
       let P : ℕ × ℕ → Type 0 = λ x. IsSkipList disk.blocks disk.block_size x.0 x.1 in
       let Q : Slot → Type 0 = λ x. IsSkipListIfCtzStruct disk x.struct in
       All-from_recursion Q (all_slots_not_moved ps) (subst (Each Q) (sym slots_parted)
-      (each_append Q (flat_map (slots_not_moved g) chain) (flat_map (slots_not_moved g) dirs) (no_lists disk (flat_map (slots_not_moved g) chain) (chain_inline g bytes chain head.bare))
+      (each_append Q (flat_map (slots_not_moved g) chain) (flat_map (slots_not_moved g) dirs) (no_lists disk (flat_map (slots_not_moved g) chain) (chain_inline g disk.profile.versions bytes chain head.bare))
       (listed disk g bytes true dirs starting entries moved (subst (Each P) e (recursion_from_All P lists all)))))
 
   -- the blocks that are marked are those of the files
@@ -112,7 +113,7 @@ module _ (disk : Disk) (chain : List Pair) (p : Pair) (rest : List Pair) (bytes 
       let after = count_append b (blocks_of_pairs ps) (blocks (all_slots_not_moved ps)) in
       let parts : blocks (all_slots_not_moved ps) ≡ blocks (flat_map (slots_not_moved g) dirs) =
       ap blocks slots_parted ∙ flat_map-append (λ (s : Slot). skip_list_blocks_of_struct disk s.struct) (flat_map (slots_not_moved g) chain) (flat_map (slots_not_moved g) dirs)
-      ∙ ap (λ bs. bs ++ blocks (flat_map (slots_not_moved g) dirs)) (no_blocks disk (flat_map (slots_not_moved g) chain) (chain_inline g bytes chain head.bare)) in
+      ∙ ap (λ bs. bs ++ blocks (flat_map (slots_not_moved g) dirs)) (no_blocks disk (flat_map (slots_not_moved g) chain) (chain_inline g disk.profile.versions bytes chain head.bare)) in
       let same : occurrence_count_of_number b (blocks (all_slots_not_moved ps)) ≡ occurrence_count_of_number b marked = ap (occurrence_count_of_number b) parts ∙ counted disk g bytes b true dirs starting entries moved in
       omega arith
 
@@ -139,15 +140,15 @@ module _ (disk : Disk) (chain : List Pair) (p : Pair) (rest : List Pair) (bytes 
       → AreDescriptionsOfPairsOnDisk disk g true dirs ms → ScansPairsIntoDirectoryGraph disk (addresses_of_first_pairs_of_directories (directories_in_thread ps)) empty_directory_scan sets ms graph end → IsTreeOfDirectories disk.order ps → IsAcceptedImage disk ps
   is_accepted ms sets end graph thread move owns members passes right =
       let h = passed_rules disk (addresses_of_first_pairs_of_directories (directories_in_thread ps)) g true dirs ms empty_directory_scan sets graph end members passes in
-      let hold : HoldSlots (StructMark bytes) true dirs =
-      (headed bytes p.content.slots head.start (slots_right g true p h.moved.0 (λ e. starts_so bytes p.content.slots head.start) h.kept.0), others_hold g (StructMark bytes) rest h.kept.1 h.moved.1) in
+      let hold : HoldSlots (StructMark disk.profile.versions bytes) true dirs =
+      (headed disk.profile.versions bytes p.content.slots head.start (slots_right g true p h.moved.0 (λ e. starts_so disk.profile.versions bytes p.content.slots head.start) h.kept.0), others_hold g (StructMark disk.profile.versions bytes) rest h.kept.1 h.moved.1) in
       record {
         thread = thread;
         first = head.first;
         named = head.named;
-        root = root_rule (StructMark bytes) chain p rest chain_is hold;
-        superblock = (bytes, (head.struct, superblock_rule (StructMark bytes) chain p rest chain_is (bare_headed bytes chain head.bare) hold));
-        slots = slots_rule (StructMark bytes) chain p rest chain_is hold;
+        root = root_rule (StructMark disk.profile.versions bytes) chain p rest chain_is hold;
+        superblock = (bytes, (head.struct, superblock_rule (StructMark disk.profile.versions bytes) chain p rest chain_is (bare_headed disk.profile.versions bytes chain head.bare) hold));
+        slots = slots_rule (StructMark disk.profile.versions bytes) chain p rest chain_is hold;
         order = right.tree.order;
         branches = right.tree.branches;
         once = right.tree.once;

@@ -4,6 +4,7 @@ use Rattle.std.proofs.lemmas.Bool.{and_from, and_parts, and_right, eqb-false}
 use Rattle.std.proofs.lemmas.List.{length-map}
 use Rattle.std.proofs.lemmas.List.Elements.{recursion_from_All}
 use Rattle.std.proofs.lemmas.Option.{same_Some, slice_get_read, slice_get_within}
+use Rattle.lfs_device.specs.declared.geometry.Geometry.{Geometry}
 use Rattle.lfs_model.specs.Blocks.{Blocks, block_bytes_by_number}
 use Rattle.lfs_model.specs.Content.{current_block_of_pair_at}
 use Rattle.lfs_model.specs.Disk.{Disk, block_bytes_on_disk, block_count}
@@ -11,117 +12,118 @@ use Rattle.lfs_model.specs.History.{DeviceCallEvent}
 use Rattle.lfs_model.specs.Slots.{Slot, Inline}
 use Rattle.lfs_model.specs.Thread as Thread
 use Rattle.lfs_model.specs.Thread.{Pair, first_pair_address, pairs_from_first_with_slots, has_slots, has_no_slot_or_only_superblock, is_hard_tail, has_superblock_in_first_nonempty_pair, starts_with_superblock, starts_with_superblock_or_default_without_slots, pair_count_before_root}
-use Rattle.lfs_model.specs.View.{BeginsWithLogEntry, HasSuperblockWithInlineBytesIfAnySlot, IsAcceptedImage, first_slot_name, superblock_name_log_entry, pairs_of_superblock_chain}
+use Rattle.lfs_model.specs.View.{BeginsWithLogEntry, HasSuperblockIfAnySlot, IsAcceptedImage, first_slot_name, IsSuperblockStruct, superblock_name_log_entry, pairs_of_superblock_chain}
+use Rattle.lfs_model.specs.declared.limits.AcceptedVersions.{AcceptedVersions}
 use Rattle.lfs_model.proofs.Counts.{Each}
 use Rattle.lfs_model.proofs.Superblocks.{meets_first, meets_from, meets_starting}
 use Rattle.lfs_tag.specs.ContentView.{tail_view}
 use Rattle.lfs_thread.specs.Kept.{ArePairHeadersOnDisk, PairHeader, pairs_of_headers}
 use Rattle.lfs_mount.specs.Checked.{BeginsWithSuperblockSlot, HasSuperblockSlotAlone, HasAtMostSuperblockSlot}
 use Rattle.lfs_mount.specs.SuperblockChain.{AreHeadersOfDiskThread, HasSuperblockChainOfLength, IsSuperblockStructInBlock, number_of_first_pair_with_nonzero_slot_count, superblock_chain_may_continue_after, first_slot_repeats_superblock, block_repeats_superblock, superblock_struct_in_first_slot}
-use Rattle.lfs_mount.proofs.FirstSlots.{IsFirst, describes_struct, first_found, first_is, repeats_false, repeats_none, repeats_true, struct_described}
+use Rattle.lfs_mount.proofs.FirstSlots.{IsFirst, describes_struct, first_begins, first_found, first_is, own_struct, repeats_false, repeats_none, repeats_true, struct_described}
 use Rattle.lfs_mount.proofs.Headers.{IsSeen, header_at, pair_at, pair_of, seen_from}
 
 -- ---- pairs of the superblock's chain
 
--- a pair in front of the root's first one
-abbrev pub IsLink : List ℕ → Pair → Type 0
-IsLink bytes p = HasAtMostSuperblockSlot bytes p × (is_hard_tail p.content.tail ≡ true)
+-- a pair in front of the root's first one; `v` are the versions that are accepted
+abbrev pub IsLink : AcceptedVersions → List ℕ → Pair → Type 0
+IsLink v bytes p = HasAtMostSuperblockSlot v bytes p × (is_hard_tail p.content.tail ≡ true)
 
 -- so many of them
-abbrev pub Linked : List ℕ → ℕ → List Pair → Type 0
-Linked bytes zero ps = Unit {0}
-Linked bytes (suc k) [] = ⊥
-Linked bytes (suc k) (p ∷ ps) = IsLink bytes p × Linked bytes k ps
+abbrev pub Linked : AcceptedVersions → List ℕ → ℕ → List Pair → Type 0
+Linked v bytes zero ps = Unit {0}
+Linked v bytes (suc k) [] = ⊥
+Linked v bytes (suc k) (p ∷ ps) = IsLink v bytes p × Linked v bytes k ps
 
 -- and behind them one that begins with the superblock
-abbrev pub Led : List ℕ → ℕ → List Pair → Type 0
-Led bytes k [] = ⊥
-Led bytes zero (p ∷ ps) = BeginsWithSuperblockSlot bytes p.content.slots
-Led bytes (suc k) (p ∷ ps) = IsLink bytes p × Led bytes k ps
+abbrev pub Led : AcceptedVersions → List ℕ → ℕ → List Pair → Type 0
+Led v bytes k [] = ⊥
+Led v bytes zero (p ∷ ps) = BeginsWithSuperblockSlot v bytes p.content.slots
+Led v bytes (suc k) (p ∷ ps) = IsLink v bytes p × Led v bytes k ps
 
-starts_so : (bytes : List ℕ) (slots : List Slot) → BeginsWithSuperblockSlot bytes slots → starts_with_superblock slots ≡ true
-starts_so bytes [] h = absurd h
-starts_so bytes (s ∷ slots) h = h.0
+starts_so : (v : AcceptedVersions) (bytes : List ℕ) (slots : List Slot) → BeginsWithSuperblockSlot v bytes slots → starts_with_superblock slots ≡ true
+starts_so v bytes [] h = absurd h
+starts_so v bytes (s ∷ slots) h = h.0
 
-alone_start : (bytes : List ℕ) (p : Pair) → HasSuperblockSlotAlone bytes p → BeginsWithSuperblockSlot bytes p.content.slots
-alone_start bytes p a = subst (BeginsWithSuperblockSlot bytes) (sym a.slots) (a.superblock, a.struct)
+alone_start : (v : AcceptedVersions) (bytes : List ℕ) (p : Pair) → HasSuperblockSlotAlone v bytes p → BeginsWithSuperblockSlot v bytes p.content.slots
+alone_start v bytes p a = subst (BeginsWithSuperblockSlot v bytes) (sym a.slots) (a.superblock, a.struct)
 
-link_bare : (bytes : List ℕ) (p : Pair) → HasAtMostSuperblockSlot bytes p → has_no_slot_or_only_superblock p.content.slots ≡ true
-link_bare bytes p (inl none) = ap has_no_slot_or_only_superblock none
-link_bare bytes p (inr alone) = ap has_no_slot_or_only_superblock alone.slots ∙ alone.superblock
+link_bare : (v : AcceptedVersions) (bytes : List ℕ) (p : Pair) → HasAtMostSuperblockSlot v bytes p → has_no_slot_or_only_superblock p.content.slots ≡ true
+link_bare v bytes p (inl none) = ap has_no_slot_or_only_superblock none
+link_bare v bytes p (inr alone) = ap has_no_slot_or_only_superblock alone.slots ∙ alone.superblock
 
-link_leads : (bytes : List ℕ) (p : Pair) → IsLink bytes p → Thread.may_superblock_chain_continue_after_pair p ≡ true
-link_leads bytes p h = and_from (has_no_slot_or_only_superblock p.content.slots) (is_hard_tail p.content.tail) (link_bare bytes p h.0) h.1
+link_leads : (v : AcceptedVersions) (bytes : List ℕ) (p : Pair) → IsLink v bytes p → Thread.may_superblock_chain_continue_after_pair p ≡ true
+link_leads v bytes p h = and_from (has_no_slot_or_only_superblock p.content.slots) (is_hard_tail p.content.tail) (link_bare v bytes p h.0) h.1
 
-link_meets : (bytes : List ℕ) (p : Pair) (ps : List Pair) → IsLink bytes p → has_superblock_in_first_nonempty_pair ps ≡ true → has_superblock_in_first_nonempty_pair (p ∷ ps) ≡ true
-link_meets bytes p ps (inl none, hard) e = ap (λ z. starts_with_superblock_or_default_without_slots z (is_hard_tail p.content.tail && has_superblock_in_first_nonempty_pair ps)) none ∙ and_from (is_hard_tail p.content.tail) (has_superblock_in_first_nonempty_pair ps) hard e
-link_meets bytes p ps (inr alone, hard) e = meets_starting p ps (starts_so bytes p.content.slots (alone_start bytes p alone))
+link_meets : (v : AcceptedVersions) (bytes : List ℕ) (p : Pair) (ps : List Pair) → IsLink v bytes p → has_superblock_in_first_nonempty_pair ps ≡ true → has_superblock_in_first_nonempty_pair (p ∷ ps) ≡ true
+link_meets v bytes p ps (inl none, hard) e = ap (λ z. starts_with_superblock_or_default_without_slots z (is_hard_tail p.content.tail && has_superblock_in_first_nonempty_pair ps)) none ∙ and_from (is_hard_tail p.content.tail) (has_superblock_in_first_nonempty_pair ps) hard e
+link_meets v bytes p ps (inr alone, hard) e = meets_starting p ps (starts_so v bytes p.content.slots (alone_start v bytes p alone))
 
-before_link : (bytes : List ℕ) (p : Pair) (ps : List Pair) → IsLink bytes p → has_superblock_in_first_nonempty_pair ps ≡ true → pair_count_before_root (p ∷ ps) ≡ suc (pair_count_before_root ps)
-before_link bytes p ps h e = ap (λ b. cond b (1 + pair_count_before_root ps) 0) (and_from (has_superblock_in_first_nonempty_pair ps) (Thread.may_superblock_chain_continue_after_pair p) e (link_leads bytes p h)) ∙ (let n = pair_count_before_root ps in omega arith)
+before_link : (v : AcceptedVersions) (bytes : List ℕ) (p : Pair) (ps : List Pair) → IsLink v bytes p → has_superblock_in_first_nonempty_pair ps ≡ true → pair_count_before_root (p ∷ ps) ≡ suc (pair_count_before_root ps)
+before_link v bytes p ps h e = ap (λ b. cond b (1 + pair_count_before_root ps) 0) (and_from (has_superblock_in_first_nonempty_pair ps) (Thread.may_superblock_chain_continue_after_pair p) e (link_leads v bytes p h)) ∙ (let n = pair_count_before_root ps in omega arith)
 
-linked_meets : (bytes : List ℕ) (k : ℕ) (ps : List Pair) → Linked bytes k ps → has_superblock_in_first_nonempty_pair (drop k ps) ≡ true → has_superblock_in_first_nonempty_pair ps ≡ true
-linked_meets bytes zero ps h e = e
-linked_meets bytes (suc k) [] h e = absurd h
-linked_meets bytes (suc k) (p ∷ ps) h e = link_meets bytes p ps h.0 (linked_meets bytes k ps h.1 e)
+linked_meets : (v : AcceptedVersions) (bytes : List ℕ) (k : ℕ) (ps : List Pair) → Linked v bytes k ps → has_superblock_in_first_nonempty_pair (drop k ps) ≡ true → has_superblock_in_first_nonempty_pair ps ≡ true
+linked_meets v bytes zero ps h e = e
+linked_meets v bytes (suc k) [] h e = absurd h
+linked_meets v bytes (suc k) (p ∷ ps) h e = link_meets v bytes p ps h.0 (linked_meets v bytes k ps h.1 e)
 
-linked_before : (bytes : List ℕ) (k : ℕ) (ps : List Pair) → Linked bytes k ps → has_superblock_in_first_nonempty_pair (drop k ps) ≡ true → pair_count_before_root ps ≡ k + pair_count_before_root (drop k ps)
-linked_before bytes zero ps h e = omega arith
-linked_before bytes (suc k) [] h e = absurd h
-linked_before bytes (suc k) (p ∷ ps) h e =
-    let one = before_link bytes p ps h.0 (linked_meets bytes k ps h.1 e) in
-    let more = linked_before bytes k ps h.1 e in
+linked_before : (v : AcceptedVersions) (bytes : List ℕ) (k : ℕ) (ps : List Pair) → Linked v bytes k ps → has_superblock_in_first_nonempty_pair (drop k ps) ≡ true → pair_count_before_root ps ≡ k + pair_count_before_root (drop k ps)
+linked_before v bytes zero ps h e = omega arith
+linked_before v bytes (suc k) [] h e = absurd h
+linked_before v bytes (suc k) (p ∷ ps) h e =
+    let one = before_link v bytes p ps h.0 (linked_meets v bytes k ps h.1 e) in
+    let more = linked_before v bytes k ps h.1 e in
     omega arith
 
-linked_more : (bytes : List ℕ) (k : ℕ) (ps : List Pair) (p : Pair) → Linked bytes k ps → slice_get ps k ≡ Some p → IsLink bytes p → Linked bytes (suc k) ps
-linked_more bytes k [] p h e link = absurd (cc)
-linked_more bytes zero (x ∷ ps) p h e link = (subst (IsLink bytes) (sym (same_Some x p e)) link, tt)
-linked_more bytes (suc k) (x ∷ ps) p h e link = (h.0, linked_more bytes k ps p h.1 e link)
+linked_more : (v : AcceptedVersions) (bytes : List ℕ) (k : ℕ) (ps : List Pair) (p : Pair) → Linked v bytes k ps → slice_get ps k ≡ Some p → IsLink v bytes p → Linked v bytes (suc k) ps
+linked_more v bytes k [] p h e link = absurd (cc)
+linked_more v bytes zero (x ∷ ps) p h e link = (subst (IsLink v bytes) (sym (same_Some x p e)) link, tt)
+linked_more v bytes (suc k) (x ∷ ps) p h e link = (h.0, linked_more v bytes k ps p h.1 e link)
 
-led_from : (bytes : List ℕ) (k : ℕ) (ps : List Pair) (p : Pair) → Linked bytes k ps → slice_get ps k ≡ Some p → BeginsWithSuperblockSlot bytes p.content.slots → Led bytes k ps
-led_from bytes k [] p h e start = absurd (cc)
-led_from bytes zero (x ∷ ps) p h e start = subst (λ (z : Pair). BeginsWithSuperblockSlot bytes z.content.slots) (sym (same_Some x p e)) start
-led_from bytes (suc k) (x ∷ ps) p h e start = (h.0, led_from bytes k ps p h.1 e start)
+led_from : (v : AcceptedVersions) (bytes : List ℕ) (k : ℕ) (ps : List Pair) (p : Pair) → Linked v bytes k ps → slice_get ps k ≡ Some p → BeginsWithSuperblockSlot v bytes p.content.slots → Led v bytes k ps
+led_from v bytes k [] p h e start = absurd (cc)
+led_from v bytes zero (x ∷ ps) p h e start = subst (λ (z : Pair). BeginsWithSuperblockSlot v bytes z.content.slots) (sym (same_Some x p e)) start
+led_from v bytes (suc k) (x ∷ ps) p h e start = (h.0, led_from v bytes k ps p h.1 e start)
 
-led_linked : (bytes : List ℕ) (k : ℕ) (ps : List Pair) → Led bytes k ps → Linked bytes k ps
-led_linked bytes k [] l = absurd l
-led_linked bytes zero (p ∷ ps) l = tt
-led_linked bytes (suc k) (p ∷ ps) l = (l.0, led_linked bytes k ps l.1)
+led_linked : (v : AcceptedVersions) (bytes : List ℕ) (k : ℕ) (ps : List Pair) → Led v bytes k ps → Linked v bytes k ps
+led_linked v bytes k [] l = absurd l
+led_linked v bytes zero (p ∷ ps) l = tt
+led_linked v bytes (suc k) (p ∷ ps) l = (l.0, led_linked v bytes k ps l.1)
 
-led_start : (bytes : List ℕ) (k : ℕ) (ps : List Pair) (p : Pair) → Led bytes k ps → slice_get ps k ≡ Some p → BeginsWithSuperblockSlot bytes p.content.slots
-led_start bytes k [] p l e = absurd l
-led_start bytes zero (x ∷ ps) p l e = subst (λ (z : Pair). BeginsWithSuperblockSlot bytes z.content.slots) (same_Some x p e) l
-led_start bytes (suc k) (x ∷ ps) p l e = led_start bytes k ps p l.1 e
+led_start : (v : AcceptedVersions) (bytes : List ℕ) (k : ℕ) (ps : List Pair) (p : Pair) → Led v bytes k ps → slice_get ps k ≡ Some p → BeginsWithSuperblockSlot v bytes p.content.slots
+led_start v bytes k [] p l e = absurd l
+led_start v bytes zero (x ∷ ps) p l e = subst (λ (z : Pair). BeginsWithSuperblockSlot v bytes z.content.slots) (same_Some x p e) l
+led_start v bytes (suc k) (x ∷ ps) p l e = led_start v bytes k ps p l.1 e
 
 dropped : (ps : List Pair) (k : ℕ) (p : Pair) → slice_get ps k ≡ Some p → drop k ps ≡ p ∷ drop (suc k) ps
 dropped [] k p e = absurd (cc)
 dropped (x ∷ ps) zero p e = ap (λ (z : Pair). z ∷ ps) (same_Some x p e)
 dropped (x ∷ ps) (suc k) p e = dropped ps k p e
 
-led_meets : (bytes : List ℕ) (k : ℕ) (ps : List Pair) → Led bytes k ps → has_superblock_in_first_nonempty_pair (drop k ps) ≡ true
-led_meets bytes k [] l = absurd l
-led_meets bytes zero (p ∷ ps) l = meets_starting p ps (starts_so bytes p.content.slots l)
-led_meets bytes (suc k) (p ∷ ps) l = led_meets bytes k ps l.1
+led_meets : (v : AcceptedVersions) (bytes : List ℕ) (k : ℕ) (ps : List Pair) → Led v bytes k ps → has_superblock_in_first_nonempty_pair (drop k ps) ≡ true
+led_meets v bytes k [] l = absurd l
+led_meets v bytes zero (p ∷ ps) l = meets_starting p ps (starts_so v bytes p.content.slots l)
+led_meets v bytes (suc k) (p ∷ ps) l = led_meets v bytes k ps l.1
 
 -- ---- from one superblock on, by pairs without slots
 
 -- where the chain doesn't go on behind the pair at an index, the root begins at the last superblock
-pub record IsWalked (bytes : List ℕ) (ps : List Pair) (root index : ℕ) : Type 0 where
-  pub led : Led bytes root ps
-  pub linked : Linked bytes index ps
+pub record IsWalked (v : AcceptedVersions) (bytes : List ℕ) (ps : List Pair) (root index : ℕ) : Type 0 where
+  pub led : Led v bytes root ps
+  pub linked : Linked v bytes index ps
   pub below : root ≤ index
-  pub bare : (p : Pair) → slice_get ps index ≡ Some p → (p.content.slots ≡ []) ⊎ BeginsWithSuperblockSlot bytes p.content.slots
+  pub bare : (p : Pair) → slice_get ps index ≡ Some p → (p.content.slots ≡ []) ⊎ BeginsWithSuperblockSlot v bytes p.content.slots
   pub ends : (p : Pair) → slice_get ps index ≡ Some p → (has_superblock_in_first_nonempty_pair (drop (suc index) ps) && Thread.may_superblock_chain_continue_after_pair p) ≡ false → pair_count_before_root ps ≡ root
 
-walked_at : (bytes : List ℕ) (k : ℕ) (ps : List Pair) → Led bytes k ps → IsWalked bytes ps k k
-walked_at bytes k ps l = record {
+walked_at : (v : AcceptedVersions) (bytes : List ℕ) (k : ℕ) (ps : List Pair) → Led v bytes k ps → IsWalked v bytes ps k k
+walked_at v bytes k ps l = record {
   led = l;
-  linked = led_linked bytes k ps l;
+  linked = led_linked v bytes k ps l;
   below = omega arith;
-  bare = λ p e. inr (led_start bytes k ps p l e);
+  bare = λ p e. inr (led_start v bytes k ps p l e);
   ends = λ p e halts.
       let none = ap pair_count_before_root (dropped ps k p e) ∙ ap (λ b. cond b (1 + pair_count_before_root (drop (suc k) ps)) 0) halts in
-      let all = linked_before bytes k ps (led_linked bytes k ps l) (led_meets bytes k ps l) in
+      let all = linked_before v bytes k ps (led_linked v bytes k ps l) (led_meets v bytes k ps l) in
       omega arith;
 }
 
@@ -133,11 +135,11 @@ few_le n f = go (n == 0) refl (n == 1) refl f
     go false e true g h = let z = eqb-true n 1 g in omega arith
     go false e false g h = absurd (cc)
 
-bare_from : (bytes : List ℕ) (p : Pair) → (p.content.slots ≡ []) ⊎ BeginsWithSuperblockSlot bytes p.content.slots → (length p.content.slots == 0 || length p.content.slots == 1) ≡ true → HasAtMostSuperblockSlot bytes p
-bare_from bytes p (inl none) few = inl none
-bare_from bytes p (inr start) few = go p.content.slots refl start (few_le (length p.content.slots) few)
+bare_from : (v : AcceptedVersions) (bytes : List ℕ) (p : Pair) → (p.content.slots ≡ []) ⊎ BeginsWithSuperblockSlot v bytes p.content.slots → (length p.content.slots == 0 || length p.content.slots == 1) ≡ true → HasAtMostSuperblockSlot v bytes p
+bare_from v bytes p (inl none) few = inl none
+bare_from v bytes p (inr start) few = go p.content.slots refl start (few_le (length p.content.slots) few)
   where
-    go : (slots : List Slot) → p.content.slots ≡ slots → BeginsWithSuperblockSlot bytes slots → length p.content.slots ≤ 1 → HasAtMostSuperblockSlot bytes p
+    go : (slots : List Slot) → p.content.slots ≡ slots → BeginsWithSuperblockSlot v bytes slots → length p.content.slots ≤ 1 → HasAtMostSuperblockSlot v bytes p
     go [] is k f = absurd k
     go (s ∷ []) is k f = inr (record { slot = s; slots = is; superblock = k.0; struct = k.1 })
     go (s ∷ t ∷ slots) is k f = absurd (let l = ap length is in omega arith)
@@ -161,20 +163,20 @@ meets_slots (s ∷ slots) later some = refl
 
 -- ---- the pairs come apart so
 
-record IsSplit (bytes : List ℕ) (k : ℕ) (ps : List Pair) : Type 0 where
+record IsSplit (v : AcceptedVersions) (bytes : List ℕ) (k : ℕ) (ps : List Pair) : Type 0 where
   chain : List Pair
   p : Pair
   rest : List Pair
   parts : ps ≡ chain ++ p ∷ rest
   chain_is : length chain ≡ k
-  bare : Each (HasAtMostSuperblockSlot bytes) chain
-  start : BeginsWithSuperblockSlot bytes p.content.slots
+  bare : Each (HasAtMostSuperblockSlot v bytes) chain
+  start : BeginsWithSuperblockSlot v bytes p.content.slots
 
-split : (bytes : List ℕ) (k : ℕ) (ps : List Pair) → Led bytes k ps → IsSplit bytes k ps
-split bytes k [] l = absurd l
-split bytes zero (p ∷ ps) l = record { chain = []; p = p; rest = ps; parts = refl; chain_is = refl; bare = tt; start = l }
-split bytes (suc k) (p ∷ ps) l =
-    let s = split bytes k ps l.1 in
+split : (v : AcceptedVersions) (bytes : List ℕ) (k : ℕ) (ps : List Pair) → Led v bytes k ps → IsSplit v bytes k ps
+split v bytes k [] l = absurd l
+split v bytes zero (p ∷ ps) l = record { chain = []; p = p; rest = ps; parts = refl; chain_is = refl; bare = tt; start = l }
+split v bytes (suc k) (p ∷ ps) l =
+    let s = split v bytes k ps l.1 in
     record { chain = p ∷ s.chain; p = s.p; rest = s.rest; parts = ap (λ (qs : List Pair). p ∷ qs) s.parts; chain_is = ap suc s.chain_is; bare = (l.0.0, s.bare); start = s.start }
 
 -- ---- an accepted image's superblocks
@@ -185,43 +187,60 @@ each_at P zero (x ∷ ps) k p low e h = absurd (omega arith)
 each_at P (suc n) (x ∷ ps) zero p low e h = subst P (same_Some x p e) h.0
 each_at P (suc n) (x ∷ ps) (suc k) p low e h = each_at P n ps k p (omega arith) e h.1
 
-start_of : (bytes : List ℕ) (slots : List Slot) → (slots ≡ [] → ⊥) → HasSuperblockWithInlineBytesIfAnySlot bytes slots → BeginsWithSuperblockSlot bytes slots
-start_of bytes [] some h = absurd (some refl)
-start_of bytes (s ∷ slots) some h = (h.0, h.1)
+start_of : (v : AcceptedVersions) (bytes : List ℕ) (slots : List Slot) → (slots ≡ [] → ⊥) → HasSuperblockIfAnySlot v bytes slots → BeginsWithSuperblockSlot v bytes slots
+start_of v bytes [] some h = absurd (some refl)
+start_of v bytes (s ∷ slots) some h = (h.0, h.1)
 
-same_bytes : (a b : List ℕ) (slots : List Slot) → BeginsWithSuperblockSlot a slots → BeginsWithSuperblockSlot b slots → a ≡ b
-same_bytes a b [] h k = absurd h
-same_bytes a b (s ∷ slots) h k = let e : Inline a ≡ Inline b = sym h.1 ∙ k.1 in cc
+-- two structs that one slot repeats are the same but for their versions, so what repeats one repeats the other
+other_start : (v : AcceptedVersions) (a b : List ℕ) (slots more : List Slot) → BeginsWithSuperblockSlot v a slots → BeginsWithSuperblockSlot v b slots → BeginsWithSuperblockSlot v a more → BeginsWithSuperblockSlot v b more
+other_start v a b [] more h k l = absurd h
+other_start v a b (s ∷ slots) [] h k l = absurd l
+other_start v a b (s ∷ slots) (t ∷ more) (named, (x, (x_is, x_same))) (again, (y, (y_is, y_same))) (starts, (z, (z_is, z_same))) =
+    let e : x ≡ y = let f : Inline x ≡ Inline y = sym x_is ∙ y_is in cc in (
+      starts,
+      (
+        z,
+        (
+          z_is,
+          record {
+            len = z_same.len ∙ sym x_same.len ∙ ap length e ∙ y_same.len;
+            version = z_same.version;
+            rest = z_same.rest ∙ sym x_same.rest ∙ ap (drop 4) e ∙ y_same.rest;
+          },
+        ),
+      ),
+    )
 
-has_some : (bytes : List ℕ) (slots : List Slot) → BeginsWithSuperblockSlot bytes slots → slots ≡ [] → ⊥
-has_some bytes [] h e = h
-has_some bytes (s ∷ slots) h e = cc
+has_some : (v : AcceptedVersions) (bytes : List ℕ) (slots : List Slot) → BeginsWithSuperblockSlot v bytes slots → slots ≡ [] → ⊥
+has_some v bytes [] h e = h
+has_some v bytes (s ∷ slots) h e = cc
 
 starting_some : (slots : List Slot) → starts_with_superblock slots ≡ true → slots ≡ [] → ⊥
 starting_some [] h e = cc
 starting_some (s ∷ slots) h e = cc
 
 -- a pair of the chain that has a slot has the struct
-held : (disk : Disk) (ps : List Pair) (a : IsAcceptedImage disk ps) (k : ℕ) (p : Pair) → k ≤ pair_count_before_root ps → slice_get ps k ≡ Some p → (p.content.slots ≡ [] → ⊥) → BeginsWithSuperblockSlot a.superblock.0 p.content.slots
-held disk ps a k p low e some = start_of a.superblock.0 p.content.slots some
-    (each_at (λ (q : Pair). HasSuperblockWithInlineBytesIfAnySlot a.superblock.0 q.content.slots) (pair_count_before_root ps + 1) ps k p (omega arith) e
-    (recursion_from_All (λ (q : Pair). HasSuperblockWithInlineBytesIfAnySlot a.superblock.0 q.content.slots) (pairs_of_superblock_chain ps) a.superblock.1.1))
+held : (disk : Disk) (ps : List Pair) (a : IsAcceptedImage disk ps) (k : ℕ) (p : Pair) → k ≤ pair_count_before_root ps → slice_get ps k ≡ Some p → (p.content.slots ≡ [] → ⊥) → BeginsWithSuperblockSlot disk.profile.versions a.superblock.0 p.content.slots
+held disk ps a k p low e some = start_of disk.profile.versions a.superblock.0 p.content.slots some
+    (each_at (λ (q : Pair). HasSuperblockIfAnySlot disk.profile.versions a.superblock.0 q.content.slots) (pair_count_before_root ps + 1) ps k p (omega arith) e
+    (recursion_from_All (λ (q : Pair). HasSuperblockIfAnySlot disk.profile.versions a.superblock.0 q.content.slots) (pairs_of_superblock_chain ps) a.superblock.1.1))
 
-get_some : (ps : List Pair) (k : ℕ) (bytes : List ℕ) → Led bytes k ps → (p : Pair) × (slice_get ps k ≡ Some p)
-get_some [] k bytes l = absurd l
-get_some (x ∷ ps) zero bytes l = (x, refl)
-get_some (x ∷ ps) (suc k) bytes l = get_some ps k bytes l.1
+get_some : (ps : List Pair) (k : ℕ) (v : AcceptedVersions) (bytes : List ℕ) → Led v bytes k ps → (p : Pair) × (slice_get ps k ≡ Some p)
+get_some [] k v bytes l = absurd l
+get_some (x ∷ ps) zero v bytes l = (x, refl)
+get_some (x ∷ ps) (suc k) v bytes l = get_some ps k v bytes l.1
 
 -- the next pair has a superblock with another struct
-refused : (disk : Disk) (bytes : List ℕ) (root n : ℕ) (ps : List Pair) (q : Pair) → Led bytes root ps → root ≤ n → Linked bytes n ps → slice_get ps n ≡ Some q → starts_with_superblock q.content.slots ≡ true
-    → (BeginsWithSuperblockSlot bytes q.content.slots → ⊥) → IsAcceptedImage disk ps → ⊥
+refused : (disk : Disk) (bytes : List ℕ) (root n : ℕ) (ps : List Pair) (q : Pair) → Led disk.profile.versions bytes root ps → root ≤ n → Linked disk.profile.versions bytes n ps → slice_get ps n ≡ Some q → starts_with_superblock q.content.slots ≡ true
+    → (BeginsWithSuperblockSlot disk.profile.versions bytes q.content.slots → ⊥) → IsAcceptedImage disk ps → ⊥
 refused disk bytes root n ps q led low linked e starts other a =
-    let first = get_some ps root bytes led in
-    let start = led_start bytes root ps first.0 led first.1 in
+    let v = disk.profile.versions in
+    let first = get_some ps root v bytes led in
+    let start = led_start v bytes root ps first.0 led first.1 in
     let meets = ap has_superblock_in_first_nonempty_pair (dropped ps n q e) ∙ meets_starting q (drop (suc n) ps) starts in
-    let all = linked_before bytes n ps linked meets in
-    let is : a.superblock.0 ≡ bytes = same_bytes a.superblock.0 bytes first.0.content.slots (held disk ps a root first.0 (omega arith) first.1 (has_some bytes first.0.content.slots start)) start in
-    other (subst (λ (z : List ℕ). BeginsWithSuperblockSlot z q.content.slots) is (held disk ps a n q (omega arith) e (starting_some q.content.slots starts)))
+    let all = linked_before v bytes n ps linked meets in
+    other (other_start v a.superblock.0 bytes first.0.content.slots q.content.slots (held disk ps a root first.0 (omega arith) first.1 (has_some v bytes first.0.content.slots start)) start
+    (held disk ps a n q (omega arith) e (starting_some q.content.slots starts)))
 
 -- ---- headers
 
@@ -242,16 +261,20 @@ step_at hs index h next low high e f =
       there = subst (λ i. slice_get hs i ≡ Some next) is (slice_get_read hs (length hs) index next refl high f);
     }
 
--- the same of other blocks, bytes and headers that are the same
-pub same_block : (blocks then : Blocks) (bytes read : List ℕ) (h k : PairHeader) (o : Option Bool) → then ≡ blocks → read ≡ bytes → h ≡ k → block_repeats_superblock read (block_bytes_by_number then k.active) ≡ o → block_repeats_superblock bytes (block_bytes_by_number blocks h.active) ≡ o
-same_block blocks then bytes read h k o b r e f = ap (λ (x : PairHeader). block_repeats_superblock bytes (block_bytes_by_number blocks x.active)) e ∙ ap₂ (λ (x : Blocks) (y : List ℕ). block_repeats_superblock y (block_bytes_by_number x k.active)) (sym b) (sym r) ∙ f
+-- the same of another geometry, and of blocks, bytes and headers, that are the same
+pub same_block : (was now : Geometry) (blocks then : Blocks) (bytes read : List ℕ) (h k : PairHeader) (o : Option Bool) → now ≡ was → then ≡ blocks → read ≡ bytes → h ≡ k
+    → block_repeats_superblock now.profile.versions read (block_bytes_by_number then k.active) ≡ o → block_repeats_superblock was.profile.versions bytes (block_bytes_by_number blocks h.active) ≡ o
+same_block was now blocks then bytes read h k o g b r e f =
+    ap (λ (x : PairHeader). block_repeats_superblock was.profile.versions bytes (block_bytes_by_number blocks x.active)) e
+    ∙ ap₂ (λ (x : Blocks) (y : List ℕ). block_repeats_superblock was.profile.versions y (block_bytes_by_number x k.active)) (sym b) (sym r)
+    ∙ ap (λ (x : Geometry). block_repeats_superblock x.profile.versions read (block_bytes_by_number then k.active)) (sym g) ∙ f
 
 -- the first one of a pair that has a slot, with pairs of the chain in front of it
 record IsFilled (disk : Disk) (hs : List PairHeader) (k : ℕ) (bytes : List ℕ) : Type 0 where
   header : PairHeader
   here : slice_get hs k ≡ Some header
   some : (pair_of disk header).content.slots ≡ [] → ⊥
-  linked : Linked bytes k (pairs_of_headers disk hs)
+  linked : Linked disk.profile.versions bytes k (pairs_of_headers disk hs)
   rest : List Pair
   from : pairs_from_first_with_slots (pairs_of_headers disk hs) ≡ pair_of disk header ∷ rest
 
@@ -332,25 +355,28 @@ module _ (disk : Disk) (history : List DeviceCallEvent) (hs : List PairHeader) (
   abbrev ps : List Pair
   ps = pairs_of_headers disk hs
 
+  abbrev v : AcceptedVersions
+  v = disk.profile.versions
+
   -- ---- one step
 
   leads_seen : (h : PairHeader) → IsSeen disk h → superblock_chain_may_continue_after h ≡ ((length (pair_of disk h).content.slots == 0 || length (pair_of disk h).content.slots == 1) && is_hard_tail (pair_of disk h).content.tail)
   leads_seen h seen = ap₂ (λ n b. (n == 0 || n == 1) && b) seen.count seen.hard
 
   -- the chain stops at a pair that doesn't lead on
-  pub halts : (bytes : List ℕ) (root index : ℕ) (h : PairHeader) → slice_get hs index ≡ Some h → IsWalked bytes ps root index → superblock_chain_may_continue_after h ≡ false → pair_count_before_root ps ≡ root
+  pub halts : (bytes : List ℕ) (root index : ℕ) (h : PairHeader) → slice_get hs index ≡ Some h → IsWalked v bytes ps root index → superblock_chain_may_continue_after h ≡ false → pair_count_before_root ps ≡ root
   halts bytes root index h here w e = w.ends (pair_of disk h) (pair_at disk hs index h here)
       (and_right (has_superblock_in_first_nonempty_pair (drop (suc index) ps)) (Thread.may_superblock_chain_continue_after_pair (pair_of disk h)) (stops (pair_of disk h) (sym (leads_seen h (header_at disk history hs index h has.each here)) ∙ e)))
 
-  module _ (bytes : List ℕ) (root index : ℕ) (h next : PairHeader) (s : IsStep hs index h next) (walked : IsWalked bytes ps root (index - 1)) where
+  module _ (bytes : List ℕ) (root index : ℕ) (h next : PairHeader) (s : IsStep hs index h next) (walked : IsWalked v bytes ps root (index - 1)) where
     abbrev p : Pair
     p = pair_of disk h
 
     abbrev q : Pair
     q = pair_of disk next
 
-    w : IsWalked bytes ps root s.k
-    w = subst (IsWalked bytes ps root) (let is = s.is in omega arith) walked
+    w : IsWalked v bytes ps root s.k
+    w = subst (IsWalked v bytes ps root) (let is = s.is in omega arith) walked
 
     p_at : slice_get ps s.k ≡ Some p
     p_at = pair_at disk hs s.k h s.here
@@ -364,8 +390,8 @@ module _ (disk : Disk) (history : List DeviceCallEvent) (hs : List PairHeader) (
     abbrev seen_next : IsSeen disk next
     seen_next = header_at disk history hs (suc s.k) next has.each s.there
 
-    repeats : block_repeats_superblock bytes (block_bytes_on_disk disk next.active) ≡ first_slot_repeats_superblock bytes seen_next.held.slots
-    repeats = ap (option_and_then (λ c. first_slot_repeats_superblock bytes c.slots)) seen_next.log
+    repeats : block_repeats_superblock v bytes (block_bytes_on_disk disk next.active) ≡ first_slot_repeats_superblock v bytes seen_next.held.slots
+    repeats = ap (option_and_then (λ c. first_slot_repeats_superblock v bytes c.slots)) seen_next.log
 
     pub within : next.active < block_count disk
     within = seen_next.active
@@ -374,23 +400,23 @@ module _ (disk : Disk) (history : List DeviceCallEvent) (hs : List PairHeader) (
     leads_is = leads_seen h seen
 
     module _ (leads : superblock_chain_may_continue_after h ≡ true) where
-      link : IsLink bytes p
+      link : IsLink v bytes p
       link =
           let both = and_parts (length p.content.slots == 0 || length p.content.slots == 1) (is_hard_tail p.content.tail) (sym leads_is ∙ leads) in
-          (bare_from bytes p (w.bare p p_at) both.0, both.1)
+          (bare_from v bytes p (w.bare p p_at) both.0, both.1)
 
-      linked : Linked bytes (suc s.k) ps
-      linked = linked_more bytes s.k ps p w.linked p_at link
+      linked : Linked v bytes (suc s.k) ps
+      linked = linked_more v bytes s.k ps p w.linked p_at link
 
       goes : (has_superblock_in_first_nonempty_pair (drop (suc s.k) ps) && Thread.may_superblock_chain_continue_after_pair p) ≡ has_superblock_in_first_nonempty_pair (drop (suc s.k) ps)
-      goes = ap (λ b. has_superblock_in_first_nonempty_pair (drop (suc s.k) ps) && b) (link_leads bytes p link) ∙ with_true (has_superblock_in_first_nonempty_pair (drop (suc s.k) ps))
+      goes = ap (λ b. has_superblock_in_first_nonempty_pair (drop (suc s.k) ps) && b) (link_leads v bytes p link) ∙ with_true (has_superblock_in_first_nonempty_pair (drop (suc s.k) ps))
 
       meets : has_superblock_in_first_nonempty_pair (drop (suc s.k) ps) ≡ starts_with_superblock_or_default_without_slots q.content.slots (is_hard_tail q.content.tail && has_superblock_in_first_nonempty_pair (drop (suc (suc s.k)) ps))
       meets = ap has_superblock_in_first_nonempty_pair (dropped ps (suc s.k) q q_at)
 
       -- no slot
-      pub passes : next.slot_count ≡ 0 → IsWalked bytes ps root (index + 1 - 1)
-      passes none = subst (IsWalked bytes ps root) (let is = s.is in omega arith) (record {
+      pub passes : next.slot_count ≡ 0 → IsWalked v bytes ps root (index + 1 - 1)
+      passes none = subst (IsWalked v bytes ps root) (let is = s.is in omega arith) (record {
         led = w.led;
         linked = linked;
         below = (let b = w.below in omega arith);
@@ -407,18 +433,18 @@ module _ (disk : Disk) (history : List DeviceCallEvent) (hs : List PairHeader) (
       some filled e = filled (seen_next.count ∙ ap length e)
 
       -- the superblock again
-      pub more : block_repeats_superblock bytes (block_bytes_on_disk disk next.active) ≡ Some true → IsWalked bytes ps index (index + 1 - 1)
-      more is = subst (IsWalked bytes ps index) (omega arith) (subst (λ n. IsWalked bytes ps n n) (sym s.is) (walked_at bytes (suc s.k) ps
-          (led_from bytes (suc s.k) ps q linked q_at (repeats_true bytes seen_next.held.slots q.content.slots seen_next.slots (sym repeats ∙ is)))))
+      pub more : block_repeats_superblock v bytes (block_bytes_on_disk disk next.active) ≡ Some true → IsWalked v bytes ps index (index + 1 - 1)
+      more is = subst (IsWalked v bytes ps index) (omega arith) (subst (λ n. IsWalked v bytes ps n n) (sym s.is) (walked_at v bytes (suc s.k) ps
+          (led_from v bytes (suc s.k) ps q linked q_at (repeats_true v bytes seen_next.held.slots q.content.slots seen_next.slots (sym repeats ∙ is)))))
 
       -- other slots
-      pub ends : (next.slot_count ≡ 0 → ⊥) → block_repeats_superblock bytes (block_bytes_on_disk disk next.active) ≡ Some false → pair_count_before_root ps ≡ root
+      pub ends : (next.slot_count ≡ 0 → ⊥) → block_repeats_superblock v bytes (block_bytes_on_disk disk next.active) ≡ Some false → pair_count_before_root ps ≡ root
       ends filled is = w.ends p p_at (goes ∙ meets ∙ meets_slots q.content.slots (is_hard_tail q.content.tail && has_superblock_in_first_nonempty_pair (drop (suc (suc s.k)) ps)) (some filled)
-          ∙ repeats_false bytes seen_next.held.slots q.content.slots seen_next.slots (sym repeats ∙ is))
+          ∙ repeats_false v bytes seen_next.held.slots q.content.slots seen_next.slots (sym repeats ∙ is))
 
-      pub fails : block_repeats_superblock bytes (block_bytes_on_disk disk next.active) ≡ None → IsAcceptedImage disk ps → ⊥
+      pub fails : block_repeats_superblock v bytes (block_bytes_on_disk disk next.active) ≡ None → IsAcceptedImage disk ps → ⊥
       fails is a =
-          let other = repeats_none bytes seen_next.held.slots q.content.slots seen_next.slots (sym repeats ∙ is) in
+          let other = repeats_none v bytes seen_next.held.slots q.content.slots seen_next.slots (sym repeats ∙ is) in
           refused disk bytes root (suc s.k) ps q w.led (let b = w.below in omega arith) linked q_at other.0 other.1 a
 
   -- ---- the first header of a pair that has a slot, as it is read
@@ -452,7 +478,7 @@ module _ (disk : Disk) (history : List DeviceCallEvent) (hs : List PairHeader) (
       same_header : (bytes : List ℕ) → (f bytes).header ≡ h
       same_header bytes = same_Some (f bytes).header h (sym (f bytes).here ∙ here)
 
-      linked_first : (bytes : List ℕ) → Linked bytes k ps
+      linked_first : (bytes : List ℕ) → Linked v bytes k ps
       linked_first bytes = (f bytes).linked
 
       from : pairs_from_first_with_slots ps ≡ pair_of disk h ∷ (f []).rest
@@ -471,38 +497,41 @@ module _ (disk : Disk) (history : List DeviceCallEvent) (hs : List PairHeader) (
       there : (bytes : List ℕ) → HasFound bytes → IsSuperblockStructInBlock disk h.active bytes
       there bytes s = subst (λ (z : PairHeader). IsSuperblockStructInBlock disk z.active bytes) (sym is) s
 
-      is_first : (bytes : List ℕ) → HasFound bytes → IsFirst disk.block_size (block_count disk) bytes (pair_of disk h).content.slots
+      is_first : (bytes : List ℕ) → HasFound bytes → IsFirst v disk.block_size (block_count disk) bytes (pair_of disk h).content.slots
       is_first bytes s =
-          first_found disk.block_size (block_count disk) first_seen.held.slots (pair_of disk h).content.slots bytes first_seen.slots
-          (sym (ap (option_and_then (λ c. superblock_struct_in_first_slot disk.block_size (block_count disk) c.slots)) first_seen.log) ∙ (there bytes s).struct)
+          first_found v disk.block_size (block_count disk) first_seen.held.slots (pair_of disk h).content.slots bytes first_seen.slots
+          (sym (ap (option_and_then (λ c. superblock_struct_in_first_slot v disk.block_size (block_count disk) c.slots)) first_seen.log) ∙ (there bytes s).struct)
 
-      pub begun : (bytes : List ℕ) → HasFound bytes → IsWalked bytes ps k (k + 1 - 1)
-      begun bytes s = subst (λ n. IsWalked bytes ps k n) (omega arith)
-          (walked_at bytes k ps (led_from bytes k ps (pair_of disk h) (linked_first bytes) first_pair (is_first bytes s).start))
+      struct_read : (bytes : List ℕ) → HasFound bytes → IsSuperblockStruct disk bytes
+      struct_read bytes s = struct_described disk bytes (is_first bytes s).describes
+
+      pub found_length : (bytes : List ℕ) → HasFound bytes → length bytes ≡ 24
+      found_length bytes s = (struct_read bytes s).len
+
+      pub begun : (bytes : List ℕ) → HasFound bytes → IsWalked v bytes ps k (k + 1 - 1)
+      begun bytes s = subst (λ n. IsWalked v bytes ps k n) (omega arith)
+          (walked_at v bytes k ps (led_from v bytes k ps (pair_of disk h) (linked_first bytes) first_pair (first_begins disk bytes (pair_of disk h).content.slots (struct_read bytes s) (is_first bytes s).start)))
 
       pub refused_first : ((bytes : List ℕ) → HasFound bytes → ⊥) → IsAcceptedImage disk ps → ⊥
       refused_first never a =
           let bytes = a.superblock.0 in
           let starts = meets_first ps (pair_of disk h) (f []).rest from (meets_from ps a.root) in
           let meets = ap has_superblock_in_first_nonempty_pair (dropped ps k (pair_of disk h) first_pair) ∙ meets_starting (pair_of disk h) (drop (suc k) ps) starts in
-          let all = linked_before bytes k ps (linked_first bytes) meets in
-          let first_is_so : IsFirst disk.block_size (block_count disk) bytes (pair_of disk h).content.slots =
-          record {
-            start = held disk ps a k (pair_of disk h) (omega arith) first_pair some_slot;
-            named = ap first_slot_name (sym from) ∙ a.named;
-            describes = describes_struct disk bytes a.superblock.1.0;
-          } in
-          never bytes (subst (λ (z : PairHeader). IsSuperblockStructInBlock disk z.active bytes) is (record {
+          let all = linked_before v bytes k ps (linked_first bytes) meets in
+          let (own, (start, struct)) = own_struct disk bytes (pair_of disk h).content.slots a.superblock.1.0 (held disk ps a k (pair_of disk h) (omega arith) first_pair some_slot) in
+          let first_is_so : IsFirst v disk.block_size (block_count disk) own (pair_of disk h).content.slots =
+          record { start = start; named = ap first_slot_name (sym from) ∙ a.named; describes = describes_struct disk own struct } in
+          never own (subst (λ (z : PairHeader). IsSuperblockStructInBlock disk z.active own) is (record {
             begins = subst (λ o. BeginsWithLogEntry o superblock_name_log_entry) held_first a.first;
-            struct = ap (option_and_then (λ c. superblock_struct_in_first_slot disk.block_size (block_count disk) c.slots)) first_seen.log
-                ∙ first_is disk.block_size (block_count disk) first_seen.held.slots (pair_of disk h).content.slots bytes first_seen.slots first_is_so;
+            struct = ap (option_and_then (λ c. superblock_struct_in_first_slot v disk.block_size (block_count disk) c.slots)) first_seen.log
+                ∙ first_is v disk.block_size (block_count disk) first_seen.held.slots (pair_of disk h).content.slots own first_seen.slots first_is_so;
           }))
 
       -- ---- the head
 
-      pub head_is : (bytes : List ℕ) (root index : ℕ) → HasFound bytes → IsWalked bytes ps root index → pair_count_before_root ps ≡ root → HasSuperblockChainOfLength disk ps root
+      pub head_is : (bytes : List ℕ) (root index : ℕ) → HasFound bytes → IsWalked v bytes ps root index → pair_count_before_root ps ≡ root → HasSuperblockChainOfLength disk ps root
       head_is bytes root index s w before =
-          let apart = split bytes root ps w.led in
+          let apart = split v bytes root ps w.led in
           let d = is_first bytes s in
           record {
             chain = apart.chain;
@@ -516,14 +545,14 @@ module _ (disk : Disk) (history : List DeviceCallEvent) (hs : List PairHeader) (
               first = subst (λ (qs : List Pair). BeginsWithLogEntry (current_block_of_pair_at disk (first_pair_address (pairs_from_first_with_slots qs))) superblock_name_log_entry) apart.parts
                   (subst (λ o. BeginsWithLogEntry o superblock_name_log_entry) (sym held_first) (there bytes s).begins);
               named = ap (λ (qs : List Pair). first_slot_name (pairs_from_first_with_slots qs)) (sym apart.parts) ∙ ap first_slot_name from ∙ d.named;
-              struct = struct_described disk bytes d.describes;
+              struct = struct_read bytes s;
               bare = apart.bare;
               start = apart.start;
             };
           }
 
       -- behind the last pair there is none
-      pub last_is : (bytes : List ℕ) (root index : ℕ) → HasFound bytes → IsWalked bytes ps root index → suc index ≡ length hs → HasSuperblockChainOfLength disk ps root
+      pub last_is : (bytes : List ℕ) (root index : ℕ) → HasFound bytes → IsWalked v bytes ps root index → suc index ≡ length hs → HasSuperblockChainOfLength disk ps root
       last_is bytes root index s w last = head_is bytes root index s w (go (slice_get ps index) refl)
         where
           none_behind : (qs : List Pair) → length qs ≤ suc index → drop (suc index) qs ≡ []

@@ -107,7 +107,7 @@ module _ (disk : Disk) (history : List DeviceCallEvent) (hs : List PairHeader) (
   are = headers_drop disk history count hs r.kept.each
 
   starts : Starts (pairs_of_headers disk dirs)
-  starts = subst Starts behind (starts_so head.bytes head.p.content.slots head.head.start)
+  starts = subst Starts behind (starts_so disk.profile.versions head.bytes head.p.content.slots head.head.start)
 
   chain_behind : pair_count_before_root (head.chain ++ head.p ∷ head.rest) ≡ length head.chain
   chain_behind = ap pair_count_before_root (sym head.parts) ∙ head.before ∙ sym head.chain_is

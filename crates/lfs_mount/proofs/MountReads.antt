@@ -1,5 +1,5 @@
 -- How many reads the check of an image takes, by what its thread shows.
-use Rattle.std.proofs.Common.{ℕ, ◌≡◌, ◌≤◌, ◌<◌, ◌+◌, ◌*◌, not, Bool, true, false, cond, List, [], ◌∷◌, ◌++◌, length, drop, filter, Some, sym, ap, subst, ◌∙◌, arith, refl, length-append}
+use Rattle.std.proofs.Common.{ℕ, ◌≡◌, ◌≤◌, ◌<◌, ◌+◌, not, Bool, true, false, cond, List, [], ◌∷◌, ◌++◌, length, drop, filter, Some, sym, ap, subst, ◌∙◌, arith, refl, length-append}
 use Rattle.std.specs.Prelude.{All, sum_by}
 use Rattle.std.specs.List.{cons_option, flat_map}
 use Rattle.std.proofs.lemmas.List.Concat.{flat_map-append}

@@ -11,7 +11,8 @@ use Rattle.lfs_model.specs.Disk.{Disk, block_count}
 use Rattle.lfs_model.specs.SkipLists.{IsSkipList, list_blocks_from_head, list_block_count_for_size}
 use Rattle.lfs_model.specs.Slots.{Slot, Struct, Inline, Ctz, Branch, Gstate, is_superblock, same_pair}
 use Rattle.lfs_model.specs.Thread.{Pair, blocks_of_pairs, gstate_of_pairs, slots_not_moved, entries_not_moved, id_of_moved_slot_in_pair}
-use Rattle.lfs_model.specs.View.{IsFileOrDirectoryEntry, IsSuperblockThenEntries, HasInlineStruct, IsSkipListIfCtzStruct, HasValidMoveOrNone, IsSomeSlotButNotSuperblock, IsAcceptedImage}
+use Rattle.lfs_model.specs.declared.limits.AcceptedVersions.{AcceptedVersions}
+use Rattle.lfs_model.specs.View.{IsFileOrDirectoryEntry, IsSuperblockThenEntries, HasSuperblockStruct, IsSkipListIfCtzStruct, HasValidMoveOrNone, IsSomeSlotButNotSuperblock, IsAcceptedImage}
 use Rattle.lfs_model.specs.Shown.{skip_list_blocks_of_struct, all_slots_not_moved, used_blocks}
 use Rattle.lfs_model.proofs.Counts.{Each, each_append, each_left, each_right, occurrence_count_of_number, count_append, each_counted, each_from_counted, once_from_distinct, distinct_from_once}
 use Rattle.lfs_model.proofs.Listings.{blocks_avoid}
@@ -61,25 +62,25 @@ entry_there [] id (Some t) e k h = absurd (cc)
 entry_there (s ∷ slots) zero (Some t) e k h = (s, (refl, h.0))
 entry_there (s ∷ slots) (suc id) (Some t) e k h = entry_there slots id (Some t) e k h.1
 
-entry_behind : (first : Bool) (bytes : List ℕ) (slots : List Slot) (id : ℕ) → SlotsAs (StructMark bytes) first slots → IsSomeSlotButNotSuperblock (slice_get slots id)
+entry_behind : (first : Bool) (v : AcceptedVersions) (bytes : List ℕ) (slots : List Slot) (id : ℕ) → SlotsAs (StructMark v bytes) first slots → IsSomeSlotButNotSuperblock (slice_get slots id)
     → (t : Slot) × ((slice_get slots id ≡ Some t) × IsFileOrDirectoryEntry t)
-entry_behind false bytes slots id h k = entry_there slots id (slice_get slots id) refl k (recursion_from_All IsFileOrDirectoryEntry slots h)
-entry_behind true bytes [] id h k = absurd h
-entry_behind true bytes (s ∷ slots) zero h k = absurd (let clash : true ≡ false = sym h.0 ∙ k in cc)
-entry_behind true bytes (s ∷ slots) (suc id) h k = entry_there slots id (slice_get slots id) refl k (recursion_from_All IsFileOrDirectoryEntry slots h.2)
+entry_behind false v bytes slots id h k = entry_there slots id (slice_get slots id) refl k (recursion_from_All IsFileOrDirectoryEntry slots h)
+entry_behind true v bytes [] id h k = absurd h
+entry_behind true v bytes (s ∷ slots) zero h k = absurd (let clash : true ≡ false = sym h.0 ∙ k in cc)
+entry_behind true v bytes (s ∷ slots) (suc id) h k = entry_there slots id (slice_get slots id) refl k (recursion_from_All IsFileOrDirectoryEntry slots h.2)
 
-moved_entry : (g : Gstate) (first : Bool) (bytes : List ℕ) (q : Pair) → SlotsAs (StructMark bytes) first q.content.slots
+moved_entry : (g : Gstate) (first : Bool) (v : AcceptedVersions) (bytes : List ℕ) (q : Pair) → SlotsAs (StructMark v bytes) first q.content.slots
     → (g.kind ≡ 0x4ff → same_pair g.pair q.at ≡ true → IsSomeSlotButNotSuperblock (slice_get q.content.slots g.id)) → IsMovedEntry (id_of_moved_slot_in_pair g q) q.content.slots
-moved_entry g first bytes q h k = go (g.kind == 0x4ff && same_pair g.pair q.at) refl
+moved_entry g first v bytes q h k = go (g.kind == 0x4ff && same_pair g.pair q.at) refl
   where
     go : (b : Bool) → (g.kind == 0x4ff && same_pair g.pair q.at) ≡ b → IsMovedEntry (cond b (Some g.id) None) q.content.slots
-    go true e = let w = and_parts (g.kind == 0x4ff) (same_pair g.pair q.at) e in entry_behind first bytes q.content.slots g.id h (k (eqb-true g.kind 0x4ff w.0) w.1)
+    go true e = let w = and_parts (g.kind == 0x4ff) (same_pair g.pair q.at) e in entry_behind first v bytes q.content.slots g.id h (k (eqb-true g.kind 0x4ff w.0) w.1)
     go false e = tt
 
-pub moved_entries : (g : Gstate) (first : Bool) (bytes : List ℕ) (qs : List Pair) → HoldSlots (StructMark bytes) first qs
+pub moved_entries : (g : Gstate) (first : Bool) (v : AcceptedVersions) (bytes : List ℕ) (qs : List Pair) → HoldSlots (StructMark v bytes) first qs
     → Each (λ q. g.kind ≡ 0x4ff → same_pair g.pair q.at ≡ true → IsSomeSlotButNotSuperblock (slice_get q.content.slots g.id)) qs → Each (λ q. IsMovedEntry (id_of_moved_slot_in_pair g q) q.content.slots) qs
-moved_entries g first bytes [] h k = tt
-moved_entries g first bytes (q ∷ qs) h k = (moved_entry g first bytes q h.0 k.0, moved_entries g false bytes qs h.1 k.1)
+moved_entries g first v bytes [] h k = tt
+moved_entries g first v bytes (q ∷ qs) h k = (moved_entry g first v bytes q h.0 k.0, moved_entries g false v bytes qs h.1 k.1)
 
 if_set : (g : Gstate) (qs : List Pair) → (g.kind ≡ 0x4ff → Each (λ r. same_pair g.pair r.at ≡ true → IsSomeSlotButNotSuperblock (slice_get r.content.slots g.id)) qs)
     → Each (λ q. g.kind ≡ 0x4ff → same_pair g.pair q.at ≡ true → IsSomeSlotButNotSuperblock (slice_get q.content.slots g.id)) qs
@@ -100,21 +101,21 @@ entries_without [] (suc id) h = tt
 entries_without (s ∷ slots) zero h = h.1
 entries_without (s ∷ slots) (suc id) h = (h.0, entries_without slots id h.1)
 
-entries_left : (first : Bool) (bytes : List ℕ) (moved : Option ℕ) (slots : List Slot) → SlotsAs (StructMark bytes) first slots → IsMovedEntry moved slots → Each IsFileOrDirectoryEntry (behind first (without moved slots))
-entries_left false bytes None slots h m = recursion_from_All IsFileOrDirectoryEntry slots h
-entries_left false bytes (Some id) slots h m = entries_without slots id (recursion_from_All IsFileOrDirectoryEntry slots h)
-entries_left true bytes moved [] h m = absurd h
-entries_left true bytes None (s ∷ slots) h m = recursion_from_All IsFileOrDirectoryEntry slots h.2
-entries_left true bytes (Some zero) (s ∷ slots) h (t, (e, entry)) =
+entries_left : (first : Bool) (v : AcceptedVersions) (bytes : List ℕ) (moved : Option ℕ) (slots : List Slot) → SlotsAs (StructMark v bytes) first slots → IsMovedEntry moved slots → Each IsFileOrDirectoryEntry (behind first (without moved slots))
+entries_left false v bytes None slots h m = recursion_from_All IsFileOrDirectoryEntry slots h
+entries_left false v bytes (Some id) slots h m = entries_without slots id (recursion_from_All IsFileOrDirectoryEntry slots h)
+entries_left true v bytes moved [] h m = absurd h
+entries_left true v bytes None (s ∷ slots) h m = recursion_from_All IsFileOrDirectoryEntry slots h.2
+entries_left true v bytes (Some zero) (s ∷ slots) h (t, (e, entry)) =
     absurd (let other = entry_is_other t entry in let same = ap is_superblock (same_Some s t e) in let clash : true ≡ false = sym h.0 ∙ same ∙ other in cc)
-entries_left true bytes (Some (suc id)) (s ∷ slots) h m = entries_without slots id (recursion_from_All IsFileOrDirectoryEntry slots h.2)
+entries_left true v bytes (Some (suc id)) (s ∷ slots) h m = entries_without slots id (recursion_from_All IsFileOrDirectoryEntry slots h.2)
 
-pub have_entries : (g : Gstate) (first : Bool) (bytes : List ℕ) (qs : List Pair) → HoldSlots (StructMark bytes) first qs → Each (λ q. IsMovedEntry (id_of_moved_slot_in_pair g q) q.content.slots) qs → HaveEntries g first qs
-have_entries g first bytes [] h m = tt
-have_entries g first bytes (q ∷ qs) h m = (
+pub have_entries : (g : Gstate) (first : Bool) (v : AcceptedVersions) (bytes : List ℕ) (qs : List Pair) → HoldSlots (StructMark v bytes) first qs → Each (λ q. IsMovedEntry (id_of_moved_slot_in_pair g q) q.content.slots) qs → HaveEntries g first qs
+have_entries g first v bytes [] h m = tt
+have_entries g first v bytes (q ∷ qs) h m = (
   subst (λ ss. All IsFileOrDirectoryEntry (behind first ss)) (sym (unmoved-without g q))
-      (All-from_recursion IsFileOrDirectoryEntry (behind first (without (id_of_moved_slot_in_pair g q) q.content.slots)) (entries_left first bytes (id_of_moved_slot_in_pair g q) q.content.slots h.0 m.0)),
-  have_entries g false bytes qs h.1 m.1,
+      (All-from_recursion IsFileOrDirectoryEntry (behind first (without (id_of_moved_slot_in_pair g q) q.content.slots)) (entries_left first v bytes (id_of_moved_slot_in_pair g q) q.content.slots h.0 m.0)),
+  have_entries g false v bytes qs h.1 m.1,
 )
 
 -- ---- lists that can be marked
@@ -129,11 +130,11 @@ are_lists : (disk : Disk) (slots : List Slot) → Each (λ s. IsSkipListIfCtzStr
 are_lists disk [] h = tt
 are_lists disk (s ∷ slots) h = one_listed disk s slots s.struct refl h.0 (are_lists disk slots h.1)
 
-pairs_lists : (disk : Disk) (g : Gstate) (bytes : List ℕ) (first : Bool) (qs : List Pair) → Starting bytes first qs → HaveEntries g first qs → Each (λ q. IsMovedEntry (id_of_moved_slot_in_pair g q) q.content.slots) qs
+pairs_lists : (disk : Disk) (g : Gstate) (bytes : List ℕ) (first : Bool) (qs : List Pair) → Starting disk.profile.versions bytes first qs → HaveEntries g first qs → Each (λ q. IsMovedEntry (id_of_moved_slot_in_pair g q) q.content.slots) qs
     → Each (λ s. IsSkipListIfCtzStruct disk s.struct) (flat_map (slots_not_moved g) qs) → Each (λ l. IsSkipList disk.blocks disk.block_size l.0 l.1) (flat_map (λ q. lists_of (entries_not_moved g q)) qs)
 pairs_lists disk g bytes first [] s h m k = tt
 pairs_lists disk g bytes first (q ∷ qs) s h m k =
-    let f = fronted_pair g bytes first q s.0 m.0 h.0 in
+    let f = fronted_pair g disk.profile.versions bytes first q s.0 m.0 h.0 in
     let P : ℕ × ℕ → Type 0 = λ x. IsSkipList disk.blocks disk.block_size x.0 x.1 in
     let Q : Slot → Type 0 = λ x. IsSkipListIfCtzStruct disk x.struct in
     each_append P (lists_of (entries_not_moved g q)) (flat_map (λ r. lists_of (entries_not_moved g r)) qs)
@@ -150,13 +151,13 @@ in_range disk n (l ∷ ls) e h =
     (each_from_counted P (reverse back) (λ b le. each_counted P back there b (let same = occurrence_count_of_number-reverse b back in omega arith)))
     (in_range disk n ls e h.1)
 
-others_start : (bytes : List ℕ) (qs : List Pair) → Starting bytes false qs
-others_start bytes [] = tt
-others_start bytes (q ∷ qs) = ((λ e. absurd (cc)), others_start bytes qs)
+others_start : (v : AcceptedVersions) (bytes : List ℕ) (qs : List Pair) → Starting v bytes false qs
+others_start v bytes [] = tt
+others_start v bytes (q ∷ qs) = ((λ e. absurd (cc)), others_start v bytes qs)
 
-begins : (bytes : List ℕ) (slots : List Slot) → IsSuperblockThenEntries (HasInlineStruct bytes) slots → BeginsWithSuperblockSlot bytes slots
-begins bytes [] h = absurd h
-begins bytes (s ∷ slots) h = (h.0, h.1)
+begins : (v : AcceptedVersions) (bytes : List ℕ) (slots : List Slot) → IsSuperblockThenEntries (HasSuperblockStruct v bytes) slots → BeginsWithSuperblockSlot v bytes slots
+begins v bytes [] h = absurd h
+begins v bytes (s ∷ slots) h = (h.0, h.1)
 
 -- ---- the pass
 
@@ -168,11 +169,11 @@ accepted_passes disk chain p rest ms firsts sets chain_is has_bytes len owns mem
     let dirs : List Pair = p ∷ rest in
     let g : Gstate = gstate_of_pairs ps in
     let bytes : List ℕ = a.superblock.0 in
-    let hold = (hold_from_rules (StructMark bytes) chain p rest chain_is a.superblock.1.1 a.root a.slots).1 in
-    let starting : Starting bytes true dirs = ((λ e. begins bytes p.content.slots hold.0), others_start bytes rest) in
+    let hold = (hold_from_rules (StructMark disk.profile.versions bytes) chain p rest chain_is a.superblock.1.1 a.root a.slots).1 in
+    let starting : Starting disk.profile.versions bytes true dirs = ((λ e. begins disk.profile.versions bytes p.content.slots hold.0), others_start disk.profile.versions bytes rest) in
     let moved : Each (λ q. IsMovedEntry (id_of_moved_slot_in_pair g q) q.content.slots) dirs =
-    moved_entries g true bytes dirs hold (each_right (λ q. g.kind ≡ 0x4ff → same_pair g.pair q.at ≡ true → IsSomeSlotButNotSuperblock (slice_get q.content.slots g.id)) chain dirs (move_named g ps a.thread.distinct a.move)) in
-    let entries : HaveEntries g true dirs = have_entries g true bytes dirs hold moved in
+    moved_entries g true disk.profile.versions bytes dirs hold (each_right (λ q. g.kind ≡ 0x4ff → same_pair g.pair q.at ≡ true → IsSomeSlotButNotSuperblock (slice_get q.content.slots g.id)) chain dirs (move_named g ps a.thread.distinct a.move)) in
+    let entries : HaveEntries g true dirs = have_entries g true disk.profile.versions bytes dirs hold moved in
     let Q : Slot → Type 0 = λ x. IsSkipListIfCtzStruct disk x.struct in
     let P : ℕ × ℕ → Type 0 = λ x. IsSkipList disk.blocks disk.block_size x.0 x.1 in
     let all : List (ℕ × ℕ) = flat_map (λ q. lists_of (entries_not_moved g q)) dirs in

@@ -1,5 +1,5 @@
 -- What the code knows of the directories' pairs before it reads their slots.
-use Rattle.std.specs.Prelude.{ℕ, ◌≡◌, ◌<◌, Bool, true, false, ◌==◌, ◌&&◌, if◌then◌else◌, List, [], ◌∷◌, Some}
+use Rattle.std.specs.Prelude.{◌≡◌, ◌<◌, Bool, true, false, List, [], ◌∷◌, Some}
 use Rattle.lfs_model.specs.Disk.{Disk, block_bytes_on_disk, block_count}
 use Rattle.lfs_model.specs.Content.{current_block_of_pair_at, content_of_pair_at}
 use Rattle.lfs_model.specs.Slots.{Gstate}

@@ -1,5 +1,5 @@
 -- The superblock's pairs, as they are read.
-use Rattle.std.specs.Prelude.{ℕ, suc, ◌≡◌, ◌==◌, ◌&&◌, ◌||◌, Bool, true, false, if◌then◌else◌, List, [], ◌∷◌, ◌++◌, length, Option, Some, None, codes}
+use Rattle.std.specs.Prelude.{ℕ, suc, ◌≡◌, ◌==◌, ◌&&◌, ◌||◌, Bool, true, false, if◌then◌else◌, List, [], ◌∷◌, ◌++◌, length, drop, Option, Some, None, codes}
 use Rattle.std.specs.Option.{option_and_then, option_map}
 use Rattle.std.specs.Str.{bytes_eq}
 use Rattle.lfs_model.specs.Content.{RawSlot, content_after_log_entries, content_of_pair_at, empty_raw_pair_content}
@@ -8,7 +8,8 @@ use Rattle.lfs_model.specs.Disk.{Disk, block_bytes_on_disk, block_count}
 use Rattle.lfs_model.specs.History.{DeviceCallEvent}
 use Rattle.lfs_model.specs.Log.{log_entries_of_block}
 use Rattle.lfs_model.specs.Thread.{Pair, IsThreadOfMetadataPairs, is_hard_tail, pair_count_before_root}
-use Rattle.lfs_model.specs.View.{BeginsWithLogEntry, superblock_name_log_entry}
+use Rattle.lfs_model.specs.declared.limits.AcceptedVersions.{AcceptedVersions}
+use Rattle.lfs_model.specs.View.{BeginsWithLogEntry, is_accepted_version, superblock_name_log_entry}
 use Rattle.lfs_tag.specs.ContentView.{tail_view}
 use Rattle.lfs_tag.specs.KindView.{is_superblock_name}
 use Rattle.lfs_thread.specs.Kept.{PairHeader, ArePairHeadersOnDisk, pairs_of_headers}
@@ -26,43 +27,48 @@ abbrev pub has_name_bytes : List ℕ → Option (ℕ × List ℕ) → Bool
 has_name_bytes bytes None = false
 has_name_bytes bytes (Some name) = bytes_eq name.1 bytes
 
--- whether these bytes are a superblock's struct of version 2.0, for `count` blocks of this size
-abbrev pub is_superblock_struct_of_geometry : ℕ → ℕ → List ℕ → Bool
-is_superblock_struct_of_geometry block_size count bytes =
-    length bytes == 24 && ((superblock_fields_of_struct_bytes bytes).version == 0x00020000 && ((superblock_fields_of_struct_bytes bytes).block_size == block_size && (superblock_fields_of_struct_bytes bytes).block_count == count))
+-- whether these bytes are a superblock's struct of an accepted version, for `count` blocks of this size
+abbrev pub is_superblock_struct_of_geometry : AcceptedVersions → ℕ → ℕ → List ℕ → Bool
+is_superblock_struct_of_geometry versions block_size count bytes =
+    length bytes == 24 && (is_accepted_version versions (superblock_fields_of_struct_bytes bytes).version && ((superblock_fields_of_struct_bytes bytes).block_size == block_size && (superblock_fields_of_struct_bytes bytes).block_count == count))
 
-abbrev pub superblock_struct_if_of_geometry : ℕ → ℕ → Option (List ℕ) → Option (List ℕ)
-superblock_struct_if_of_geometry block_size count None = None
-superblock_struct_if_of_geometry block_size count (Some bytes) = if is_superblock_struct_of_geometry block_size count bytes then Some bytes else None
+abbrev pub superblock_struct_if_of_geometry : AcceptedVersions → ℕ → ℕ → Option (List ℕ) → Option (List ℕ)
+superblock_struct_if_of_geometry versions block_size count None = None
+superblock_struct_if_of_geometry versions block_size count (Some bytes) = if is_superblock_struct_of_geometry versions block_size count bytes then Some bytes else None
 
 -- the struct in the first slot, where that is the superblock of a device of `count` blocks of this size
-abbrev pub superblock_struct_in_first_slot : ℕ → ℕ → List RawSlot → Option (List ℕ)
-superblock_struct_in_first_slot block_size count [] = None
-superblock_struct_in_first_slot block_size count (s ∷ slots) =
-    if is_superblock_name s.name && has_name_bytes (codes "littlefs") s.name then superblock_struct_if_of_geometry block_size count (inline_struct_bytes s.struct) else None
+abbrev pub superblock_struct_in_first_slot : AcceptedVersions → ℕ → ℕ → List RawSlot → Option (List ℕ)
+superblock_struct_in_first_slot versions block_size count [] = None
+superblock_struct_in_first_slot versions block_size count (s ∷ slots) =
+    if is_superblock_name s.name && has_name_bytes (codes "littlefs") s.name then superblock_struct_if_of_geometry versions block_size count (inline_struct_bytes s.struct) else None
 
-abbrev pub some_true_if_same_bytes_else_none : List ℕ → Option (List ℕ) → Option Bool
-some_true_if_same_bytes_else_none bytes None = None
-some_true_if_same_bytes_else_none bytes (Some other) = if bytes_eq other bytes then Some true else None
+-- whether a struct has an accepted version, and after it the same bytes as the superblock's
+abbrev pub repeats_superblock_struct : AcceptedVersions → List ℕ → List ℕ → Bool
+repeats_superblock_struct versions bytes own =
+    length own == length bytes && (is_accepted_version versions (superblock_fields_of_struct_bytes own).version && bytes_eq (drop 4 own) (drop 4 bytes))
+
+abbrev pub true_if_repeated_struct : AcceptedVersions → List ℕ → Option (List ℕ) → Option Bool
+true_if_repeated_struct versions bytes None = None
+true_if_repeated_struct versions bytes (Some own) = if repeats_superblock_struct versions bytes own then Some true else None
 
 -- whether the first slot is a superblock's; none where it is one with another struct
-abbrev pub first_slot_repeats_superblock : List ℕ → List RawSlot → Option Bool
-first_slot_repeats_superblock bytes [] = Some false
-first_slot_repeats_superblock bytes (s ∷ slots) = if is_superblock_name s.name then some_true_if_same_bytes_else_none bytes (inline_struct_bytes s.struct) else Some false
+abbrev pub first_slot_repeats_superblock : AcceptedVersions → List ℕ → List RawSlot → Option Bool
+first_slot_repeats_superblock versions bytes [] = Some false
+first_slot_repeats_superblock versions bytes (s ∷ slots) = if is_superblock_name s.name then true_if_repeated_struct versions bytes (inline_struct_bytes s.struct) else Some false
 
 -- ---- blocks
 
 -- the superblock's struct in the slots that a block's log comes to, and whether they repeat one
-abbrev pub superblock_struct_in_block_log : ℕ → ℕ → List ℕ → Option (List ℕ)
-superblock_struct_in_block_log block_size count block = option_and_then (λ c. superblock_struct_in_first_slot block_size count c.slots) (content_after_log_entries empty_raw_pair_content (log_entries_of_block block))
+abbrev pub superblock_struct_in_block_log : AcceptedVersions → ℕ → ℕ → List ℕ → Option (List ℕ)
+superblock_struct_in_block_log versions block_size count block = option_and_then (λ c. superblock_struct_in_first_slot versions block_size count c.slots) (content_after_log_entries empty_raw_pair_content (log_entries_of_block block))
 
-abbrev pub block_repeats_superblock : List ℕ → List ℕ → Option Bool
-block_repeats_superblock bytes block = option_and_then (λ c. first_slot_repeats_superblock bytes c.slots) (content_after_log_entries empty_raw_pair_content (log_entries_of_block block))
+abbrev pub block_repeats_superblock : AcceptedVersions → List ℕ → List ℕ → Option Bool
+block_repeats_superblock versions bytes block = option_and_then (λ c. first_slot_repeats_superblock versions bytes c.slots) (content_after_log_entries empty_raw_pair_content (log_entries_of_block block))
 
 -- the block's log begins with the superblock's entry, and this is its struct
 pub record IsSuperblockStructInBlock (disk : Disk) (block : ℕ) (bytes : List ℕ) : Type 0 where
   pub begins : BeginsWithLogEntry (Some (block_bytes_on_disk disk block)) superblock_name_log_entry
-  pub struct : superblock_struct_in_block_log disk.block_size (block_count disk) (block_bytes_on_disk disk block) ≡ Some bytes
+  pub struct : superblock_struct_in_block_log disk.profile.versions disk.block_size (block_count disk) (block_bytes_on_disk disk block) ≡ Some bytes
 
 -- ---- pairs
 

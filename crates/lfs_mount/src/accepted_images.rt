@@ -35,7 +35,7 @@ use std::alloc::Global;
 /// Reads the image of a device, and keeps its thread where the image is accepted: what littlefs
 /// 2.0 allows (SPEC.md of littlefs), with every file's list well formed, no block owned twice, and
 /// each directory reached once, or not at all where the sync bit is set. Its names are in the order
-/// of the device's geometry. Only reads are made. The map's used blocks are then those of the image's pairs and files, and none is in flight.
+/// of the device's geometry, and its version is one of those there. Only reads are made. The map's used blocks are then those of the image's pairs and files, and none is in flight.
 ///
 /// `Corrupt` exactly where no image is accepted there. `Io` where a read failed, and `NoMemory` where
 /// memory isn't granted. The device comes back with an error.

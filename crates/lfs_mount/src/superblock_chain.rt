@@ -10,12 +10,12 @@ ghost use Rattle.lfs_model.specs.View.{BeginsWithLogEntry, IsAcceptedImage, supe
 ghost use Rattle.lfs_model.specs.declared.order.NameOrder.{NameOrder};
 ghost use Rattle.lfs_tag.specs.ContentView.{slot_view};
 ghost use Rattle.lfs_thread.specs.Kept.{disk_of_device, pairs_of_headers};
-ghost use Rattle.lfs_mount.specs.SuperblockChain.{AreHeadersOfDiskThread, HasSuperblockChainOfLength, IsSuperblockStructInBlock, is_superblock_struct_of_geometry, number_of_first_pair_with_nonzero_slot_count, inline_struct_bytes, has_name_bytes, superblock_chain_may_continue_after, first_slot_repeats_superblock, block_repeats_superblock, superblock_struct_in_first_slot, superblock_struct_in_block_log};
+ghost use Rattle.lfs_mount.specs.SuperblockChain.{AreHeadersOfDiskThread, HasSuperblockChainOfLength, IsSuperblockStructInBlock, is_superblock_struct_of_geometry, number_of_first_pair_with_nonzero_slot_count, inline_struct_bytes, has_name_bytes, superblock_chain_may_continue_after, repeats_superblock_struct, first_slot_repeats_superblock, block_repeats_superblock, superblock_struct_in_first_slot, superblock_struct_in_block_log};
 
-use lfs_device::{BlockDevice, Error, Geometry, read_block};
+use lfs_device::{AcceptedVersions, BlockDevice, Error, Geometry, read_block};
 use lfs_pair::Pair;
 use lfs_tag::kinds::{INLINE_STRUCT, SUPERBLOCK_NAME};
-use lfs_tag::{Content, Log, Slot, Superblock, Tag, has_hard_tail, superblock_of};
+use lfs_tag::{Content, Log, Slot, Tag, has_hard_tail, superblock_of};
 use std::alloc::Global;
 
 const MAGIC: &[u8] = b"littlefs";
@@ -30,14 +30,14 @@ fn log_begins_with_superblock(log: &Log<'_>) -> bool
     }
 }
 
-// Returns whether a superblock's struct has this version and the device's geometry.
+// Returns whether a superblock's struct has an accepted version and the device's geometry.
 fn is_superblock_of_geometry(geometry: &Geometry, bytes: &[u8]) -> bool
-    ensures { result ≡ is_superblock_struct_of_geometry geometry.now.block_size geometry.now.block_count bytes.now }
+    ensures { result ≡ is_superblock_struct_of_geometry geometry.now.profile.versions geometry.now.block_size geometry.now.block_count bytes.now }
 {
     match <&[u8; 24]>::try_from(bytes) {
         Ok(bytes) => {
             let fields = superblock_of(bytes);
-            fields.version == Superblock::VERSION
+            fields.has_accepted_version(geometry.profile.versions)
                 && fields.block_size == geometry.block_size
                 && fields.block_count == geometry.block_count
         }
@@ -67,7 +67,7 @@ fn inline_bytes_in_slot<'a>(slot: &Slot<'a>) -> Option<&'a [u8]>
 // Returns the superblock's struct in the first slot. Returns None where that slot is no superblock
 // of this geometry.
 fn superblock_struct_in_slots<'a>(geometry: &Geometry, slots: &[Slot<'a>]) -> Option<&'a [u8]>
-    ensures { option_map (λ b. b.now) result ≡ superblock_struct_in_first_slot geometry.now.block_size geometry.now.block_count (map slot_view slots.now) }
+    ensures { option_map (λ b. b.now) result ≡ superblock_struct_in_first_slot geometry.now.profile.versions geometry.now.block_size geometry.now.block_count (map slot_view slots.now) }
 {
     let [first, ..] = slots else {
         return None;
@@ -81,11 +81,29 @@ fn superblock_struct_in_slots<'a>(geometry: &Geometry, slots: &[Slot<'a>]) -> Op
     }
 }
 
-// Returns whether the first slot is a superblock's. Corrupt exactly where it is one with another
-// struct than `bytes`.
-fn is_superblock_repeated_in_slots(slots: &[Slot<'_>], bytes: &[u8]) -> Result<bool, Error>
-    ensures ok { IfOk result (λ repeats. first_slot_repeats_superblock bytes.now (map slot_view slots.now) ≡ Some repeats) }
-    ensures corrupt { IfErr result (λ e. (e ≡ Error.Corrupt) × (first_slot_repeats_superblock bytes.now (map slot_view slots.now) ≡ None)) }
+// Returns whether a struct has an accepted version, and after it the same bytes as the superblock's.
+fn repeats_superblock_struct(versions: AcceptedVersions, bytes: &[u8], own: &[u8]) -> bool
+    requires { length bytes.now ≡ 24 }
+    ensures { result ≡ repeats_superblock_struct versions bytes.now own.now }
+{
+    match <&[u8; 24]>::try_from(own) {
+        Ok(fields) => {
+            superblock_of(fields).has_accepted_version(versions) && own[4..] == bytes[4..]
+        }
+        Err(_) => false,
+    }
+}
+
+// Returns whether the first slot is a superblock's. Corrupt exactly where it is one whose struct
+// differs from `bytes` in more than an accepted version.
+fn is_superblock_repeated_in_slots(
+    versions: AcceptedVersions,
+    slots: &[Slot<'_>],
+    bytes: &[u8],
+) -> Result<bool, Error>
+    requires { length bytes.now ≡ 24 }
+    ensures ok { IfOk result (λ repeats. first_slot_repeats_superblock versions bytes.now (map slot_view slots.now) ≡ Some repeats) }
+    ensures corrupt { IfErr result (λ e. (e ≡ Error.Corrupt) × (first_slot_repeats_superblock versions bytes.now (map slot_view slots.now) ≡ None)) }
 {
     let [first, ..] = slots else {
         return Ok(false);
@@ -94,7 +112,7 @@ fn is_superblock_repeated_in_slots(slots: &[Slot<'_>], bytes: &[u8]) -> Result<b
         return Ok(false);
     }
     match inline_bytes_in_slot(first) {
-        Some(other) if other == bytes => Ok(true),
+        Some(own) if repeats_superblock_struct(versions, bytes, own) => Ok(true),
         _ => Err(Error::Corrupt),
     }
 }
@@ -107,8 +125,8 @@ fn superblock_struct_from_block(
     block: &[u8],
 ) -> Result<Vec<u8>, Error>
     ensures begins { OnOk result (BeginsWithLogEntry (Some block.now) superblock_name_log_entry) }
-    ensures holds { IfOk result (λ bytes. superblock_struct_in_block_log geometry.now.block_size geometry.now.block_count block.now ≡ Some bytes.items) }
-    ensures corrupt { IsErrOf result Error.Corrupt → BeginsWithLogEntry (Some block.now) superblock_name_log_entry → superblock_struct_in_block_log geometry.now.block_size geometry.now.block_count block.now ≡ None }
+    ensures holds { IfOk result (λ bytes. superblock_struct_in_block_log geometry.now.profile.versions geometry.now.block_size geometry.now.block_count block.now ≡ Some bytes.items) }
+    ensures corrupt { IsErrOf result Error.Corrupt → BeginsWithLogEntry (Some block.now) superblock_name_log_entry → superblock_struct_in_block_log geometry.now.profile.versions geometry.now.block_size geometry.now.block_count block.now ≡ None }
     ensures errors { IfErr result (λ e. (e ≡ Error.Corrupt) ⊎ (e ≡ Error.NoMemory)) }
 {
     let log = Log::read(block);
@@ -123,15 +141,22 @@ fn superblock_struct_from_block(
 }
 
 // Returns whether the first slot that a block's log comes to is a superblock's. Corrupt exactly
-// where it is one with another struct than `bytes`, or where the log is malformed.
-fn is_superblock_repeated_in_block(alloc: Global, block: &[u8], bytes: &[u8]) -> Result<bool, Error>
-    ensures ok { IfOk result (λ repeats. block_repeats_superblock bytes.now block.now ≡ Some repeats) }
-    ensures corrupt { IsErrOf result Error.Corrupt → block_repeats_superblock bytes.now block.now ≡ None }
+// where it is one whose struct differs from `bytes` in more than an accepted version, or where the
+// log is malformed.
+fn is_superblock_repeated_in_block(
+    alloc: Global,
+    versions: AcceptedVersions,
+    block: &[u8],
+    bytes: &[u8],
+) -> Result<bool, Error>
+    requires { length bytes.now ≡ 24 }
+    ensures ok { IfOk result (λ repeats. block_repeats_superblock versions bytes.now block.now ≡ Some repeats) }
+    ensures corrupt { IsErrOf result Error.Corrupt → block_repeats_superblock versions bytes.now block.now ≡ None }
     ensures errors { IfErr result (λ e. (e ≡ Error.Corrupt) ⊎ (e ≡ Error.NoMemory)) }
 {
     let log = Log::read(block);
     let content = Content::read(alloc, &log)?;
-    is_superblock_repeated_in_slots(&content.slots, bytes)
+    is_superblock_repeated_in_slots(versions, &content.slots, bytes)
 }
 
 // Reads a block of the device, and returns the superblock's struct in it. Corrupt exactly where the
@@ -155,23 +180,26 @@ fn read_superblock_struct_from_block<D: BlockDevice>(
 }
 
 // Reads a block of the device, and returns whether its first slot is a superblock's. Corrupt
-// exactly where it is one with another struct than `bytes`, or where the log has no content.
+// exactly where it is one whose struct differs from `bytes` in more than an accepted version, or
+// where the log has no content.
 fn read_whether_block_repeats_superblock<D: BlockDevice>(
     alloc: Global,
     dev: &mut D,
     block: u32,
     bytes: &[u8],
 ) -> Result<bool, Error>
-    requires { block < (D.geometry dev.old).block_count }
-    ensures ok { IfOk result (λ repeats. block_repeats_superblock bytes.now (block_bytes_by_number (D.blocks dev.old) block) ≡ Some repeats) }
-    ensures corrupt { IsErrOf result Error.Corrupt → block_repeats_superblock bytes.now (block_bytes_by_number (D.blocks dev.old) block) ≡ None }
+    requires block { block < (D.geometry dev.old).block_count }
+    requires bytes { length bytes.now ≡ 24 }
+    ensures ok { IfOk result (λ repeats. block_repeats_superblock (D.geometry dev.old).profile.versions bytes.now (block_bytes_by_number (D.blocks dev.old) block) ≡ Some repeats) }
+    ensures corrupt { IsErrOf result Error.Corrupt → block_repeats_superblock (D.geometry dev.old).profile.versions bytes.now (block_bytes_by_number (D.blocks dev.old) block) ≡ None }
     ensures device { ReadsOnly D.BlockDevice dev.old dev.new }
     ensures errors { IfErr result (λ e. (e ≡ Error.Corrupt) ⊎ ((e ≡ Error.Io) ⊎ (e ≡ Error.NoMemory))) }
     ensures faults { ReportsFaults D.BlockDevice dev.old dev.new result }
     ensures reads { read_count_of_history (D.history dev.new) ≤ read_count_of_history (D.history dev.old) + 1 }
 {
+    let versions = dev.geometry().profile.versions;
     let block = read_block(alloc, dev, block)?;
-    is_superblock_repeated_in_block(alloc, &block, bytes)
+    is_superblock_repeated_in_block(alloc, versions, &block, bytes)
 }
 
 // Returns whether a pair has at most one slot, and a hard tail.
@@ -204,10 +232,10 @@ fn first_pair_with_slots(pairs: &[Pair]) -> Result<usize, Error>
 // LFS_TYPE_SUPERBLOCK").
 //
 // In the first pair that has a slot, the log begins with the superblock's entry. Slot 0 there has
-// the superblock's name, with a struct of version 2.0 and of the device's geometry. The chain
+// the superblock's name, with a struct of an accepted version and of the device's geometry. The chain
 // continues after a pair with a hard tail that has no slot, or the superblock alone. It does so
 // only where the next pair that has a slot begins with a superblock. All superblocks have the same
-// struct, and the root begins at the last one.
+// struct but for an accepted version, and the root begins at the last one.
 //
 // Errors: `Corrupt` where the superblock isn't so; no such image is accepted, in either order of
 // names. `Io` where a read failed, and `NoMemory` where memory for a block and its slots isn't

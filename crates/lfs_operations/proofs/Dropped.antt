@@ -8,6 +8,7 @@ use Rattle.std.proofs.lemmas.Option.{same_Some}
 use Rattle.lfs_model.specs.BlockSets.{AreExactlyTheUsedBlocks, BlockStateList, BlockState, IsBlockInFlight, IsBlockMarkedUsedInMap}
 use Rattle.lfs_model.specs.BlockSets.BlockState.{Free, InFlight, Used}
 use Rattle.lfs_model.specs.Content.{content_of_pair_at, current_block_of_pair_at}
+use Rattle.lfs_model.specs.declared.limits.Profile.{Profile}
 use Rattle.lfs_model.specs.Disk.{Disk}
 use Rattle.lfs_model.specs.Slots.{PairContent, IsContentFittingPair, Slot}
 use Rattle.lfs_model.specs.Thread.{Pair, blocks_of_pairs, gstate_of_pairs, blocks_of_pair_address}
@@ -31,10 +32,11 @@ use Rattle.lfs_operations.proofs.Taking.{within}
 
 -- ---- the profile
 
-pub profile_same : (disk new : Disk) (ps : List Pair) → new.block_size ≡ disk.block_size → new.page ≡ disk.page → IsWritableImage disk ps → IsWritableImage new ps
-profile_same disk new ps e f h = record {
+pub profile_same : (disk new : Disk) (ps : List Pair) → new.block_size ≡ disk.block_size → new.page ≡ disk.page → new.profile ≡ disk.profile → IsWritableImage disk ps → IsWritableImage new ps
+profile_same disk new ps e f g h = record {
   pairs = subst (λ (n : ℕ). All (λ p. IsContentFittingPair n new.page p.content) ps) (sym e) (subst (λ (n : ℕ). All (λ p. IsContentFittingPair disk.block_size n p.content) ps) (sym f) h.pairs);
-  slots = subst (λ (n : ℕ). All (λ p. All (IsSlotWithinWritableLimits n new.page) p.content.slots) ps) (sym e) (subst (λ (n : ℕ). All (λ p. All (IsSlotWithinWritableLimits disk.block_size n) p.content.slots) ps) (sym f) h.slots);
+  slots = subst (λ (x : Profile). All (λ p. All (IsSlotWithinWritableLimits x new.block_size new.page) p.content.slots) ps) (sym g)
+      (subst (λ (n : ℕ). All (λ p. All (IsSlotWithinWritableLimits disk.profile n new.page) p.content.slots) ps) (sym e) (subst (λ (n : ℕ). All (λ p. All (IsSlotWithinWritableLimits disk.profile disk.block_size n) p.content.slots) ps) (sym f) h.slots));
   no_empty_pair = h.no_empty_pair;
 }
 
@@ -65,7 +67,7 @@ module _ (t : KeptThread) (n : ℕ) (ahead : List Pair) (p o : Pair) (back : Lis
   -- the pair holds a content with its slots
   placed : (disk : Disk) (c : PairContent) → c.slots ≡ p.content.slots → IsPairWrittenOnDisk t n c disk → IsPlaced t.disk disk p (record { at = p.at; content = c }) [] []
   placed disk c same w = record {
-    geometry = record { block_size = w.shape.block_size; page = w.shape.page; order = w.shape.order; count = w.shape.count };
+    geometry = record { block_size = w.shape.block_size; page = w.shape.page; order = w.shape.order; profile = w.shape.profile; count = w.shape.count };
     same = λ b none. (subst (λ at. KeepsBlocksOutsidePair at t.disk.blocks disk.blocks) at_is w.others).others b (all_apart (p.at.0 ∷ p.at.1 ∷ []) b none);
     contents = (ap (content_of_pair_at disk) (sym at_is) ∙ w.holds, tt);
     first = λ h b. subst (λ at. BeginsWithLogEntry (current_block_of_pair_at disk at) superblock_name_log_entry) at_is

@@ -46,7 +46,7 @@ abbrev pub ChangesAttributes : PairContentChange → ℕ → (Attributes → Att
 ChangesAttributes change id f = Makes change id (λ s. record s { attributes = f s.attributes })
 
 module _ (t : KeptThread) (index id : ℕ) (can : CanEditEntryOfPair t index id) (f : Attributes → Attributes) (change : PairContentChange) (does : ChangesAttributes change id f)
-    (fits : IsEntryWithinWritableLimits t.disk.block_size t.disk.page (record (slot_of_editable_entry can) { attributes = f (slot_of_editable_entry can).attributes })) where
+    (fits : IsEntryWithinWritableLimits t.disk.profile t.disk.block_size t.disk.page (record (slot_of_editable_entry can) { attributes = f (slot_of_editable_entry can).attributes })) where
   abbrev g : RawSlot → RawSlot
   g z = record z { attributes = f z.attributes }
 
@@ -170,13 +170,13 @@ module _ (t : KeptThread) (index id kind : ℕ) (low : kind < 2 ^ 8) (can : CanE
   remove_does c small named = removes_attribute c id kind small (omega arith) named
 
   -- the entry takes no more than it did
-  still_fits : IsEntryWithinWritableLimits t.disk.block_size t.disk.page (record (slot_of_editable_entry can) { attributes = attributes_without_attribute kind (slot_of_editable_entry can).attributes })
+  still_fits : IsEntryWithinWritableLimits t.disk.profile t.disk.block_size t.disk.page (record (slot_of_editable_entry can) { attributes = attributes_without_attribute kind (slot_of_editable_entry can).attributes })
   still_fits =
       let s = can.stands in
-      let here = each_pair t can.ready can.first index s.pair s.rest s.place (λ x. All (IsSlotWithinWritableLimits t.disk.block_size t.disk.page) x.content.slots)
-      (recursion_from_All (λ (x : Pair). All (IsSlotWithinWritableLimits t.disk.block_size t.disk.page) x.content.slots) t.pairs can.ready.writable.slots) in
-      let slots = subst (Each (IsSlotWithinWritableLimits t.disk.block_size t.disk.page)) s.stands.held (recursion_from_All (IsSlotWithinWritableLimits t.disk.block_size t.disk.page) s.pair.content.slots here) in
-      let was = (each_right (IsSlotWithinWritableLimits t.disk.block_size t.disk.page) s.stands.left (s.stands.slot ∷ s.stands.right) slots).0.1 s.stands.entry in
+      let here = each_pair t can.ready can.first index s.pair s.rest s.place (λ x. All (IsSlotWithinWritableLimits t.disk.profile t.disk.block_size t.disk.page) x.content.slots)
+      (recursion_from_All (λ (x : Pair). All (IsSlotWithinWritableLimits t.disk.profile t.disk.block_size t.disk.page) x.content.slots) t.pairs can.ready.writable.slots) in
+      let slots = subst (Each (IsSlotWithinWritableLimits t.disk.profile t.disk.block_size t.disk.page)) s.stands.held (recursion_from_All (IsSlotWithinWritableLimits t.disk.profile t.disk.block_size t.disk.page) s.pair.content.slots here) in
+      let was = (each_right (IsSlotWithinWritableLimits t.disk.profile t.disk.block_size t.disk.page) s.stands.left (s.stands.slot ∷ s.stands.right) slots).0.1 s.stands.entry in
       record {
         charge = (let e = was.charge in let n = fewer_attributes kind (slot_of_editable_entry can).attributes in omega arith);
         inline = was.inline;

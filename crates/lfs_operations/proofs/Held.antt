@@ -2,6 +2,7 @@
 use Rattle.std.proofs.Common.{ℕ, ◌≡◌, ◌+◌, ◌<◌, false, take, drop, List, [], ◌∷◌, ◌++◌, length, Option, Some, None, refl, sym, ap, subst, ◌∙◌, arith, append_assoc, length-append, get_or}
 use Rattle.std.specs.Option.{option_and_then}
 use Rattle.std.specs.Prelude.{slice_index}
+use Rattle.lfs_model.specs.declared.limits.AcceptedVersions.{AcceptedVersions}
 use Rattle.lfs_model.specs.Log.{log_entries_of_block}
 use Rattle.lfs_model.proofs.Logged.{logged}
 use Rattle.std.proofs.lemmas.List.Elements.{recursion_from_All}
@@ -9,7 +10,7 @@ use Rattle.lfs_model.specs.Content.{RawPairContent, raw_content_of_pair_at, cont
 use Rattle.lfs_model.specs.Disk.{Disk}
 use Rattle.lfs_model.specs.InDirectory.{IsPairOfDirectory}
 use Rattle.lfs_model.specs.Slots.{PairContent, IsContentFittingPair, Slot, is_superblock}
-use Rattle.lfs_model.specs.View.{HasSuperblockWithInlineBytesIfAnySlot, IsAcceptedImage, IsFileOrDirectoryEntry}
+use Rattle.lfs_model.specs.View.{HasSuperblockIfAnySlot, IsAcceptedImage, IsFileOrDirectoryEntry}
 use Rattle.std.specs.Prelude.{All}
 use Rattle.std.proofs.lemmas.List.{take-append-drop}
 use Rattle.lfs_model.specs.Thread.{Pair, pair_count_before_root}
@@ -38,15 +39,15 @@ get_behind (x ∷ xs) p zs n d e = ap (λ (k : ℕ). get_or (x ∷ (xs ++ p ∷ 
 abbrev pub IsEntryIfOther : Slot → Type 0
 IsEntryIfOther s = is_superblock s ≡ false → IsFileOrDirectoryEntry s
 
-headed_entries : (bytes : List ℕ) (slots : List Slot) → HasSuperblockWithInlineBytesIfAnySlot bytes slots → Each IsEntryIfOther slots
-headed_entries bytes [] h = tt
-headed_entries bytes (s ∷ slots) h = ((λ e. absurd (let z = sym e ∙ h.0 in cc)), each_weaker IsFileOrDirectoryEntry IsEntryIfOther (λ x k e. k) slots (recursion_from_All IsFileOrDirectoryEntry slots h.2))
+headed_entries : (versions : AcceptedVersions) (bytes : List ℕ) (slots : List Slot) → HasSuperblockIfAnySlot versions bytes slots → Each IsEntryIfOther slots
+headed_entries versions bytes [] h = tt
+headed_entries versions bytes (s ∷ slots) h = ((λ e. absurd (let z = sym e ∙ h.0 in cc)), each_weaker IsFileOrDirectoryEntry IsEntryIfOther (λ x k e. k) slots (recursion_from_All IsFileOrDirectoryEntry slots h.2))
 
 pub other_entries : (disk : Disk) (ps : List Pair) → IsAcceptedImage disk ps → Each (λ p. Each IsEntryIfOther p.content.slots) ps
 other_entries disk ps ok = subst (Each (λ p. Each IsEntryIfOther p.content.slots)) (take-append-drop (pair_count_before_root ps + 1) ps)
     (each_append (λ p. Each IsEntryIfOther p.content.slots) (take (pair_count_before_root ps + 1) ps) (drop (pair_count_before_root ps + 1) ps)
-    (each_weaker (λ (p : Pair). HasSuperblockWithInlineBytesIfAnySlot ok.superblock.0 p.content.slots) (λ (p : Pair). Each IsEntryIfOther p.content.slots) (λ p h. headed_entries ok.superblock.0 p.content.slots h)
-    (take (pair_count_before_root ps + 1) ps) (recursion_from_All (λ (p : Pair). HasSuperblockWithInlineBytesIfAnySlot ok.superblock.0 p.content.slots) (take (pair_count_before_root ps + 1) ps) ok.superblock.1.1))
+    (each_weaker (λ (p : Pair). HasSuperblockIfAnySlot disk.profile.versions ok.superblock.0 p.content.slots) (λ (p : Pair). Each IsEntryIfOther p.content.slots) (λ p h. headed_entries disk.profile.versions ok.superblock.0 p.content.slots h)
+    (take (pair_count_before_root ps + 1) ps) (recursion_from_All (λ (p : Pair). HasSuperblockIfAnySlot disk.profile.versions ok.superblock.0 p.content.slots) (take (pair_count_before_root ps + 1) ps) ok.superblock.1.1))
     (each_weaker (λ (p : Pair). All IsFileOrDirectoryEntry p.content.slots) (λ (p : Pair). Each IsEntryIfOther p.content.slots)
     (λ p h. each_weaker IsFileOrDirectoryEntry IsEntryIfOther (λ x k e. k) p.content.slots (recursion_from_All IsFileOrDirectoryEntry p.content.slots h)) (drop (pair_count_before_root ps + 1) ps)
     (recursion_from_All (λ (p : Pair). All IsFileOrDirectoryEntry p.content.slots) (drop (pair_count_before_root ps + 1) ps) ok.slots)))

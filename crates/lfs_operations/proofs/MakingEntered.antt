@@ -57,7 +57,7 @@ pub record IsEntering (t : KeptThread) (index : ℕ) (changes : List PairContent
   pub now : content.slots ≡ l ++ new_directory_slot name to ∷ r
   pub front : l ≡ [] → starts_with_superblock r ≡ false
   pub entry : IsFileOrDirectoryEntry (new_directory_slot name to)
-  pub fit : IsSlotWithinWritableLimits t.disk.block_size t.disk.page (new_directory_slot name to)
+  pub fit : IsSlotWithinWritableLimits t.disk.profile t.disk.block_size t.disk.page (new_directory_slot name to)
 
 -- the pair became that on the disk, or that and a new one behind it
 pub record Enters (t : KeptThread) (w : Site) (p : Pair) (l : List Slot) (name : Name) (to : ℕ × ℕ) (r : List Slot) (disk : Disk) (q : Pair) (more : List Pair) : Type 0 where
@@ -265,7 +265,7 @@ module _ (t : KeptThread) (index : ℕ) (changes : List PairContentChange) (w : 
   Stays disk = IsDevice t.disk disk (thread_at w (p ∷ [])) (thread_at w (p ∷ []))
 
   shape_of : (left : Blocks) → length left ≡ length t.disk.blocks → HasSameGeometry t.disk (disk_with_blocks left t.disk)
-  shape_of left e = record { block_size = refl; page = refl; order = refl; count = e }
+  shape_of left e = record { block_size = refl; page = refl; order = refl; profile = refl; count = e }
 
   left_one : (left : Blocks) → PowerLossLeavesPairOldOrChanged t index changes left → Stays (disk_with_blocks left t.disk) ⊎ HasEntry t w p l name to r (disk_with_blocks left t.disk)
   left_one left is = go is.is

@@ -72,7 +72,7 @@ module _ (t : KeptThread) (index : ℕ) (w : Site) (p : Pair) (there : t.pairs �
   -- ---- on another disk
 
   pub shape_same : {disk : Disk} → HasSameGeometry t.disk disk → SameGeometry t.disk disk
-  shape_same s = record { block_size = s.block_size; page = s.page; order = s.order; count = s.count }
+  shape_same s = record { block_size = s.block_size; page = s.page; order = s.order; profile = s.profile; count = s.count }
 
   pub same_two : (disk : Disk) → KeepsBlocksOutsidePair (thread_pair_at_index t index).at t.disk.blocks disk.blocks → (b : ℕ) → occurrence_count_of_number b (blocks_of_pairs (p ∷ [])) ≡ 0 → block_bytes_on_disk disk b ≡ block_bytes_on_disk t.disk b
   same_two disk others b none = (subst (λ at. KeepsBlocksOutsidePair at t.disk.blocks disk.blocks) at_is others).others b (all_apart (p.at.0 ∷ p.at.1 ∷ []) b none)

@@ -197,7 +197,7 @@ module _ (t : KeptThread) (ready : IsImageReadyForChange t) (last : ℕ) (chain 
 
       placed : IsPlaced t.disk (disk_with_blocks blocks t.disk) x x [] (fresh.0 ∷ fresh.1 ∷ [])
       placed = record {
-        geometry = record { block_size = refl; page = refl; order = refl; count = others.count };
+        geometry = record { block_size = refl; page = refl; order = refl; profile = refl; count = others.count };
         same = λ b none. others.others b (all_apart (fresh.0 ∷ fresh.1 ∷ []) b (omega arith));
         contents = (content_same t.disk (disk_with_blocks blocks t.disk) x.at first_same second_same ∙ held_there, tt);
         first = λ h b. subst (λ o. BeginsWithLogEntry o superblock_name_log_entry) (sym (ap₂ current_block_of_two first_same second_same)) b;
@@ -218,7 +218,7 @@ module _ (t : KeptThread) (ready : IsImageReadyForChange t) (last : ℕ) (chain 
       (subst (All (λ (z : Pair). content_of_pair_at new.disk z.at ≡ Some z.content)) pairs is.thread.contents) in
       let here = each_right (λ (z : Pair). content_of_pair_at new.disk z.at ≡ Some z.content) (before ++ left) (y ∷ f ∷ after)
       (each_right (λ (z : Pair). content_of_pair_at new.disk z.at ≡ Some z.content) chain ((before ++ left) ++ (y ∷ f ∷ after)) contents) in
-      let shape : HasSameGeometry t.disk new.disk = record { block_size = writes.shape.block_size; page = writes.shape.page; order = writes.shape.order; count = writes.shape.count } in
+      let shape : HasSameGeometry t.disk new.disk = record { block_size = writes.shape.block_size; page = writes.shape.page; order = writes.shape.order; profile = writes.shape.profile; count = writes.shape.count } in
       let step = step_from new.disk (placed_from new.disk shape writes.others here.0 here.1.0 (subst (λ (c : PairContent). KeepsSuperblockEntryFirstInLog t.disk (thread_pair_at_index t last).at c new.disk) same is.first)) in
       record {
         step = step;
@@ -260,7 +260,7 @@ module _ (t : KeptThread) (ready : IsImageReadyForChange t) (last : ℕ) (chain 
         disk = disk_with_blocks blocks t.disk
 
         shape : HasSameGeometry t.disk (disk_with_blocks blocks t.disk)
-        shape = record { block_size = refl; page = refl; order = refl; count = is.others.count }
+        shape = record { block_size = refl; page = refl; order = refl; profile = refl; count = is.others.count }
 
         go : HasPairOldContentOnDisk held last (disk_with_blocks blocks t.disk) ⊎ IsFreshPairThreadedInOnDisk held last fresh (changes_threading_new_pair t last fresh) (disk_with_blocks blocks t.disk) → HasTreeBeforeOrAfterOperation (disk_with_blocks blocks t.disk) (tree_on_disk t.disk t.pairs) tree
         go (inl b) =

@@ -42,7 +42,7 @@ writes_then : {bs : List ℕ} {old mid new : KeptThread} → ThreadChangesOnlyTh
 writes_then f s = record {
   others = same_then f.others s.others;
   elsewhere = AreBytesStillUnprogrammed-trans f.elsewhere s.elsewhere;
-  shape = record { block_size = s.shape.block_size ∙ f.shape.block_size; page = s.shape.page ∙ f.shape.page; order = s.shape.order ∙ f.shape.order; count = s.shape.count ∙ f.shape.count };
+  shape = record { block_size = s.shape.block_size ∙ f.shape.block_size; page = s.shape.page ∙ f.shape.page; order = s.shape.order ∙ f.shape.order; profile = s.shape.profile ∙ f.shape.profile; count = s.shape.count ∙ f.shape.count };
   at_worst = IsTrueAfterAnyPowerLossSince-trans f.at_worst (IsTrueAfterAnyPowerLossSince-weaker (λ blocks k. same_then f.others k) s.at_worst);
 }
 
@@ -63,7 +63,7 @@ module _ (t : KeptThread) (index last : ℕ) (is_last : IsLastPairOfHardTailRun 
   first_wider : (new : KeptThread) (more : List ℕ) → ThreadChangesOnlyTheseBlocks (blocks_of_two_pair_addresses (thread_pair_at_index t last).at fresh) (with_map t (map_with_two_blocks_in_flight t.map fresh)) new → ThreadChangesOnlyTheseBlocks (own more) t new
   first_wider new more w =
       let k = writes_wider {bs = blocks_of_two_pair_addresses (thread_pair_at_index t last).at fresh} {cs = own more} {old = with_map t (map_with_two_blocks_in_flight t.map fresh)} {new = new} (covers_first more) w in
-      record { others = k.others; elsewhere = k.elsewhere; shape = record { block_size = k.shape.block_size; page = k.shape.page; order = k.shape.order; count = k.shape.count }; at_worst = k.at_worst }
+      record { others = k.others; elsewhere = k.elsewhere; shape = record { block_size = k.shape.block_size; page = k.shape.page; order = k.shape.order; profile = k.shape.profile; count = k.shape.count }; at_worst = k.at_worst }
 
   pub writes_first : (new : KeptThread) → ThreadChangesOnlyTheseBlocks (blocks_of_two_pair_addresses (thread_pair_at_index t last).at fresh) (with_map t (map_with_two_blocks_in_flight t.map fresh)) new → WritesPairLastPairAndFourFreeBlocks t index new
   writes_first new w = record {

@@ -9,6 +9,7 @@ use Rattle.lfs_model.specs.Blocks.{Blocks, AreBlocksEqualExceptThese}
 use Rattle.lfs_model.specs.BlockSets.{IsBlockFree, IsBlockInFlight}
 use Rattle.lfs_model.specs.BlockSets.BlockState.{Free}
 use Rattle.lfs_model.specs.Content.{content_of_pair_at}
+use Rattle.lfs_model.specs.declared.limits.Profile.{Profile}
 use Rattle.lfs_model.specs.Disk.{Disk, block_count, charged_entry_size_limit_in_pair}
 use Rattle.lfs_model.specs.InDirectory.{IsPlaceWhereNameBelongs}
 use Rattle.lfs_model.specs.LoggedContent.{Are32BitPairAddresses}
@@ -145,7 +146,7 @@ module _ (t : KeptThread) (index id : ℕ) (name : Name) (can : CanMakeDirectory
       (left_beside t can.ready last w.chain w.before way.left w.after x way.end fresh two made new.disk.blocks (tree_with_new_directory t can.path name) others)
     where
       same_disk : disk_with_blocks new.disk.blocks t.disk ≡ new.disk
-      same_disk = λ j. record { block_size = sym writes.shape.block_size j; page = sym writes.shape.page j; order = sym writes.shape.order j; blocks = new.disk.blocks }
+      same_disk = λ j. record { block_size = sym writes.shape.block_size j; page = sym writes.shape.page j; order = sym writes.shape.order j; profile = sym writes.shape.profile j; blocks = new.disk.blocks }
 
   -- ---- the entry comes
 
@@ -206,10 +207,11 @@ module _ (t : KeptThread) (index id : ℕ) (name : Name) (can : CanMakeDirectory
     pair_now : thread_pair_at_index m index ≡ way.p2
     pair_now = pair_is m index v way.p2 there_now placed
 
-    entry_fits : IsEntryWithinWritableLimits m.disk.block_size m.disk.page u
+    entry_fits : IsEntryWithinWritableLimits m.disk.profile m.disk.block_size m.disk.page u
     entry_fits = record {
-      charge = subst (λ (z : ℕ). entry_charge_with_longest_inline_contents z name [] ≤ charged_entry_size_limit_in_pair z m.disk.page) (sym h.step.device.geometry.block_size)
-          (subst (λ (z : ℕ). entry_charge_with_longest_inline_contents t.disk.block_size name [] ≤ charged_entry_size_limit_in_pair t.disk.block_size z) (sym h.step.device.geometry.page) can.fits);
+      charge = subst (λ (x : Profile). entry_charge_with_longest_inline_contents x m.disk.block_size name [] ≤ charged_entry_size_limit_in_pair m.disk.block_size m.disk.page) (sym h.step.device.geometry.profile)
+          (subst (λ (z : ℕ). entry_charge_with_longest_inline_contents t.disk.profile z name [] ≤ charged_entry_size_limit_in_pair z m.disk.page) (sym h.step.device.geometry.block_size)
+          (subst (λ (z : ℕ). entry_charge_with_longest_inline_contents t.disk.profile t.disk.block_size name [] ≤ charged_entry_size_limit_in_pair t.disk.block_size z) (sym h.step.device.geometry.page) can.fits));
       inline = tt;
     }
 
@@ -228,7 +230,7 @@ module _ (t : KeptThread) (index id : ℕ) (name : Name) (can : CanMakeDirectory
 
     pub can_enter : CanChangeOrSplitPair m index (changes_adding_entry_for_directory_pair m index id name fresh)
     can_enter = can_name m index way.p2 pair_now (holds_at m index v way.p2 there_now placed accepted_now) (logged_there m.disk (thread_pair_at_index m index).at bytes_now)
-        id name fresh (name_length name can.is_name) address id_within fits_there (below m index v way.p2 there_now placed) (entry_small m.disk.block_size m.disk.page u large_now entry_fits)
+        id name fresh (name_length name can.is_name) address id_within fits_there (below m index v way.p2 there_now placed) (entry_small m.disk.profile m.disk.block_size m.disk.page u large_now entry_fits)
 
     -- the sync bit goes
     turned_back : gstate_of_pairs (one ∷ []) ≡ gstate_xor sync_bit_delta (gstate_of_pairs (way.p2 ∷ []))
@@ -391,7 +393,7 @@ module _ (t : KeptThread) (index id : ℕ) (name : Name) (can : CanMakeDirectory
         (go (left_entered m index (changes_adding_entry_for_directory_pair m index id name fresh) v way.p2 b.left name fresh b.right entering left is))
       where
         same_disk : disk_with_blocks left m.disk ≡ disk_with_blocks left t.disk
-        same_disk = λ j. record { block_size = h.step.device.geometry.block_size j; page = h.step.device.geometry.page j; order = h.step.device.geometry.order j; blocks = left }
+        same_disk = λ j. record { block_size = h.step.device.geometry.block_size j; page = h.step.device.geometry.page j; order = h.step.device.geometry.order j; profile = h.step.device.geometry.profile j; blocks = left }
 
         go : Stays m index (changes_adding_entry_for_directory_pair m index id name fresh) v way.p2 b.left name fresh b.right entering (disk_with_blocks left m.disk) ⊎ HasEntry m v way.p2 b.left name fresh b.right (disk_with_blocks left m.disk)
             → IsLeftOf (disk_with_blocks left m.disk) (tree_on_disk t.disk t.pairs) (tree_with_new_directory t can.path name)

@@ -239,7 +239,7 @@ module _ (t : KeptThread) (index id : ℕ) (can : CanEndMoveAt t index id true) 
           record {
             pairs = thread_at v (o ∷ []);
             accepted = f.accepted;
-            writable = profile_same t.disk (disk_with_blocks left t.disk) (thread_at v (o ∷ [])) refl refl (subst (IsWritableImage t.disk) h.is can.writable);
+            writable = profile_same t.disk (disk_with_blocks left t.disk) (thread_at v (o ∷ [])) refl refl refl (subst (IsWritableImage t.disk) h.is can.writable);
             tree = inl (f.shows ∙ ap (tree_on_disk t.disk) (sym h.is));
           }
       go (inr e) =

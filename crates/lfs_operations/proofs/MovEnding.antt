@@ -9,6 +9,7 @@ use Rattle.std.proofs.lemmas.List.Sums.{sum_by-append, sum_by-cons}
 use Rattle.lfs_model.specs.Blocks.{Blocks}
 use Rattle.lfs_model.specs.Changes.{Delete, PutMove, raw_pair_content_after_changes}
 use Rattle.lfs_model.specs.Content.{RawPairContent, content_of_pair_at, raw_content_of_pair_at, pair_content_if_slots_complete}
+use Rattle.lfs_model.specs.declared.limits.Profile.{Profile}
 use Rattle.lfs_model.specs.Disk.{Disk}
 use Rattle.lfs_model.specs.History.{DeviceCallEvent}
 use Rattle.lfs_model.specs.LoggedContent.{Are32BitPairAddresses, AreMoveStateFieldsWithinBitWidths}
@@ -41,10 +42,11 @@ use Rattle.lfs_operations.proofs.MovTurned.{ChangedOne, IsTurn, Stays, changed_o
 use Rattle.lfs_operations.proofs.Placing.{nothing_came}
 use Rattle.lfs_operations.specs.EndingMove.{gstate_without_move}
 
-pub writable_same : (disk new : Disk) (ps : List Pair) → new.block_size ≡ disk.block_size → new.page ≡ disk.page → IsWritableImage disk ps → IsWritableImage new ps
-writable_same disk new ps e f h = record {
+pub writable_same : (disk new : Disk) (ps : List Pair) → new.block_size ≡ disk.block_size → new.page ≡ disk.page → new.profile ≡ disk.profile → IsWritableImage disk ps → IsWritableImage new ps
+writable_same disk new ps e f g h = record {
   pairs = subst (λ (n : ℕ). All (λ p. IsContentFittingPair n new.page p.content) ps) (sym e) (subst (λ (n : ℕ). All (λ p. IsContentFittingPair disk.block_size n p.content) ps) (sym f) h.pairs);
-  slots = subst (λ (n : ℕ). All (λ p. All (IsSlotWithinWritableLimits n new.page) p.content.slots) ps) (sym e) (subst (λ (n : ℕ). All (λ p. All (IsSlotWithinWritableLimits disk.block_size n) p.content.slots) ps) (sym f) h.slots);
+  slots = subst (λ (x : Profile). All (λ p. All (IsSlotWithinWritableLimits x new.block_size new.page) p.content.slots) ps) (sym g)
+      (subst (λ (n : ℕ). All (λ p. All (IsSlotWithinWritableLimits disk.profile n new.page) p.content.slots) ps) (sym e) (subst (λ (n : ℕ). All (λ p. All (IsSlotWithinWritableLimits disk.profile disk.block_size n) p.content.slots) ps) (sym f) h.slots));
   no_empty_pair = h.no_empty_pair;
 }
 
@@ -275,7 +277,7 @@ module _ (t : KeptThread) (pair id : ℕ) (can : CanEndMoveAt t pair id false) (
           record {
             pairs = thread_at w (p ∷ []);
             accepted = f.accepted;
-            writable = writable_same t.disk (disk_with_blocks left t.disk) (thread_at w (p ∷ [])) refl refl (subst (IsWritableImage t.disk) h.is can.writable);
+            writable = writable_same t.disk (disk_with_blocks left t.disk) (thread_at w (p ∷ [])) refl refl refl (subst (IsWritableImage t.disk) h.is can.writable);
             tree = inl (f.shows ∙ ap (tree_on_disk t.disk) (sym h.is));
           }
       go (inr x) =

@@ -13,7 +13,7 @@ use Rattle.lfs_model.specs.LoggedContent.{Are32BitPairAddresses}
 use Rattle.lfs_model.proofs.AfterStops.{survives_then}
 use Rattle.lfs_model.proofs.Histories.{ArePossibleBlocksAfterPowerLossInCall-read, IsTrueAfterAnyPowerLossSince-read_count_of_history, IsTrueAfterAnyPowerLossSince-trans, AreCallsSinceOnlyReads-trans, AreBytesStillUnprogrammed-read_count_of_history, AreBytesStillUnprogrammed-trans}
 use Rattle.lfs_thread.specs.Kept.{KeptThread, ThreadView}
-use Rattle.lfs_thread.specs.Steps.{IsThreadOnlyRead, thread_pair_at_index}
+use Rattle.lfs_thread.specs.Steps.{IoMeantFaultNoMemoryWroteNothing, IsThreadOnlyRead, thread_pair_at_index}
 use Rattle.lfs_operations.specs.Changing.{CanChangeOrSplitPair, IsPairChangedOrSplit, IsChangedContentTooLarge, HasTwoFreeBlocks, has_thread_failed_after_result}
 use Rattle.lfs_operations.specs.Editing.{CanEditEntryOfPair}
 use Rattle.lfs_operations.specs.MovingSteps.{CanEndMoveAfterFirstCommit, IsSlotPutAndMoveEnded, SurvivesBothMoveCommits, ReportsErrorsOfCommitsTakingBlocks, WritesTwoPairsAndTwoFreeBlocks}
@@ -26,7 +26,7 @@ use Rattle.lfs_operations.proofs.MovRename.{can_put_across, ends_across, renamed
 use Rattle.lfs_operations.proofs.MovReplace.{can_put_onto, ends_onto, replaced_across, shows_onto, survives_onto}
 use Rattle.lfs_operations.proofs.MovReporting.{writes_first}
 use Rattle.lfs_operations.proofs.Putting.{read_is, with_history}
-use Rattle.lfs_operations.proofs.RenameRead.{read_survives, read_writes}
+use Rattle.lfs_operations.proofs.RenameRead.{moves_unread, read_survives, read_writes}
 
 -- ---- what is known before
 
@@ -199,6 +199,21 @@ reports_after_read old mid new index changes r only same h = record {
     go : (new.failed ≡ has_thread_failed_after_result r) ⊎ ((new.failed ≡ false) × IsThreadOnlyRead mid.kept new.kept) → (new.failed ≡ has_thread_failed_after_result r) ⊎ ((new.failed ≡ false) × IsThreadOnlyRead old.kept new.kept)
     go (inl e) = inl e
     go (inr (e, o)) = inr (e, only_then old.kept mid.kept new.kept only o)
+
+-- the slot wasn't read
+pub reports_unread : {X Y : Type 0} (old new : ThreadView) (index : ℕ) (changes : List PairContentChange) (e : Error) (result : Result X Error) (given : Result Y Error) → result ≡ Err e → given ≡ Err e
+    → new.failed ≡ false → IsThreadOnlyRead old.kept new.kept → IoMeantFaultNoMemoryWroteNothing old.kept new.kept result → ReportsErrorsOfCommitsTakingBlocks old new index changes given
+reports_unread old new index changes e result given is same works only reported =
+    let unread = moves_unread old new index changes e result given is same works only reported in
+    record {
+      failed = inr (works, only);
+      errors = unread.reports.errors;
+      fault = unread.reports.fault;
+      no_fault = unread.reports.no_fault;
+      unchanged = λ none. only;
+      no_space = unread.reports.no_space;
+      too_large = unread.too_large;
+    }
 
 -- no room for the changes
 pub reports_unmade : {Y : Type 0} (old new : ThreadView) (index : ℕ) (changes : List PairContentChange) (given : Result Y Error) → given ≡ Err NoMemory → new.failed ≡ false → IsThreadOnlyRead old.kept new.kept

@@ -120,7 +120,7 @@ module _ (sync : Bool) (t : KeptThread) (old_pair old_id new_pair : ℕ) (can : 
   raw_mid = record c.raw { move = move }
 
   module _ (front : List PairContentChange) (a b : List Slot) (left : Leaves raw_mid front (a ++ b)) (fits_left : IsContentFittingPair t.disk.block_size t.disk.page (record p.content { slots = a ++ b }))
-      (at : ℕ) (number : length a ≡ at) (name : Name) (named : is_valid_name name ≡ true) (fits : IsEntryWithinWritableLimits t.disk.block_size t.disk.page (record u { name = name })) where
+      (at : ℕ) (number : length a ≡ at) (name : Name) (named : is_valid_name name ≡ true) (fits : IsEntryWithinWritableLimits t.disk.profile t.disk.block_size t.disk.page (record u { name = name })) where
     abbrev pub changes : List PairContentChange
     changes = PutMove move ∷ (front ++ slot_creation_changes at name (nameless_slot_at t old_pair old_id))
 
@@ -159,7 +159,7 @@ module _ (sync : Bool) (t : KeptThread) (old_pair old_id new_pair : ℕ) (can : 
 
     cut : CanSplitSlotsIntoTwoPairs t.disk.block_size t.disk.page raw_now.slots
     cut = content_cut t.disk.block_size t.disk.page raw_now (content_with p (a ++ moved ∷ b) delta) a moved b (logged_changed c.raw changes raw_now (logged c.raw c.is) changed_now) now_complete refl
-        (entry_small t.disk.block_size t.disk.page moved can.ready.large fits)
+        (entry_small t.disk.profile t.disk.block_size t.disk.page moved can.ready.large fits)
         (let f = fits_left.size in let k = sum_by-append slot_size a b in omega arith)
         (let n = fits_left.count in let k = length-append a b in omega arith)
 

@@ -70,7 +70,7 @@ writes_then : (bs : List ℕ) (old mid new : KeptThread) → ThreadChangesOnlyTh
 writes_then bs old mid new v w = record {
   others = AreBlocksEqualExceptThese-trans v.others w.others;
   elsewhere = AreBytesStillUnprogrammed-trans v.elsewhere w.elsewhere;
-  shape = record { block_size = w.shape.block_size ∙ v.shape.block_size; page = w.shape.page ∙ v.shape.page; order = w.shape.order ∙ v.shape.order; count = w.shape.count ∙ v.shape.count };
+  shape = record { block_size = w.shape.block_size ∙ v.shape.block_size; page = w.shape.page ∙ v.shape.page; order = w.shape.order ∙ v.shape.order; profile = w.shape.profile ∙ v.shape.profile; count = w.shape.count ∙ v.shape.count };
   at_worst = IsTrueAfterAnyPowerLossSince-trans v.at_worst (IsTrueAfterAnyPowerLossSince-weaker (λ blocks k. AreBlocksEqualExceptThese-trans v.others k) w.at_worst);
 }
 
@@ -258,7 +258,7 @@ writes_at_end old mid new old_pair old_id true new_pair changes put below ends f
 -- ---- at a stop
 
 same_disk : (old new : Disk) (blocks : Blocks) → HasSameGeometry old new → disk_with_blocks blocks new ≡ disk_with_blocks blocks old
-same_disk old new blocks h = λ j. record { block_size = h.block_size j; page = h.page j; order = h.order j; blocks = blocks }
+same_disk old new blocks h = λ j. record { block_size = h.block_size j; page = h.page j; order = h.order j; profile = h.profile j; blocks = blocks }
 
 pub survives_both : (old mid new : KeptThread) (index : ℕ) (changes : List PairContentChange) {P : DeviceCallEvent → Type 0} → IsPairChangedOrSplit old index changes mid → PowerLossLeavesSuchBlocksAfterCleanErases old.history mid.history (IsLeftByStoppedChangeOrSplit old index changes)
     → WritesPairAndTwoFreeBlocks old index mid → IsTrueOfEachCallSince P mid.history new.history → SurvivesPowerLossInCallsSince mid.disk mid.history new.history (tree_on_disk mid.disk mid.pairs) (tree_on_disk mid.disk mid.pairs) → SurvivesBothMoveCommits old index changes new

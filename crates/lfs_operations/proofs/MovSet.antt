@@ -62,7 +62,7 @@ pub record IsSetting (disk : Disk) (wo : Site) (o : Pair) (lo : List Slot) (u : 
   pub front : l ≡ [] → starts_with_superblock (olds ++ r) ≡ false
   pub entry : IsFileOrDirectoryEntry v
   pub struct : v.struct ≡ u.struct
-  pub fit : IsSlotWithinWritableLimits disk.block_size disk.page v
+  pub fit : IsSlotWithinWritableLimits disk.profile disk.block_size disk.page v
 
 module _ (disk : Disk) (wo : Site) (o : Pair) (lo : List Slot) (u : Slot) (ro : List Slot) (w : Site) (p : Pair) (l olds : List Slot) (v : Slot) (r : List Slot)
     (k : IsSetting disk wo o lo u ro w p l olds v r) where

@@ -145,7 +145,7 @@ module _ (t : KeptThread) (sync : Bool) (old_pair : ℕ) (goes : Bool) (new_pair
           record {
             pairs = thread_at w (p ∷ []);
             accepted = f.accepted;
-            writable = writable_same t.disk (disk_with_blocks left t.disk) (thread_at w (p ∷ [])) refl refl k.setting.writable;
+            writable = writable_same t.disk (disk_with_blocks left t.disk) (thread_at w (p ∷ [])) refl refl refl k.setting.writable;
             tree = inl (f.shows ∙ ap (tree_on_disk t.disk) (sym k.turn.there));
           }
       go (inr x) =
@@ -395,7 +395,7 @@ module _ (t : KeptThread) (sync : Bool) (old_pair : ℕ) (goes : Bool) (new_pair
           past (inr h) = within (among_parts (λ y. y ≡ z) (w.before ++ w.left) (p ∷ (w.right ++ w.after)) h)
 
       pub last_shape : HasSameGeometry t.disk last.disk
-      last_shape = record { block_size = e.shape.block_size ∙ x.shape.block_size; page = e.shape.page ∙ x.shape.page; order = e.shape.order ∙ x.shape.order; count = e.shape.count ∙ x.shape.count }
+      last_shape = record { block_size = e.shape.block_size ∙ x.shape.block_size; page = e.shape.page ∙ x.shape.page; order = e.shape.order ∙ x.shape.order; profile = e.shape.profile ∙ x.shape.profile; count = e.shape.count ∙ x.shape.count }
 
       pub rename_completed : sync ≡ false → (s : Session) (old_bytes new_bytes : List ℕ) → s.tree ≡ tree_on_disk t.disk t.pairs → path_of_bytes_or_root old_bytes ≡ old_path → path_of_bytes_or_root new_bytes ≡ new_path
           → IsImageAfterCompletedOperation t.disk t.pairs s (ops.Rename old_bytes new_bytes) last.disk last.pairs

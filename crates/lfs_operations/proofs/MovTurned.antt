@@ -158,7 +158,7 @@ module _ (t : KeptThread) (index : ℕ) (changes : List PairContentChange) (w : 
   -- ---- on the disk
 
   shape_same : {disk : Disk} → HasSameGeometry t.disk disk → SameGeometry t.disk disk
-  shape_same s = record { block_size = s.block_size; page = s.page; order = s.order; count = s.count }
+  shape_same s = record { block_size = s.block_size; page = s.page; order = s.order; profile = s.profile; count = s.count }
 
   same_two : (disk : Disk) → KeepsBlocksOutsidePair p.at t.disk.blocks disk.blocks → (b : ℕ) → occurrence_count_of_number b (blocks_of_pairs (p ∷ [])) ≡ 0 → block_bytes_on_disk disk b ≡ block_bytes_on_disk t.disk b
   same_two disk others b none = others.others b (all_apart (p.at.0 ∷ p.at.1 ∷ []) b none)
@@ -310,7 +310,7 @@ module _ (t : KeptThread) (index : ℕ) (changes : List PairContentChange) (w : 
   Stays disk = IsDevice t.disk disk (thread_at w (p ∷ [])) (thread_at w (p ∷ []))
 
   shape_of : (left : Blocks) → length left ≡ length t.disk.blocks → HasSameGeometry t.disk (disk_with_blocks left t.disk)
-  shape_of left e = record { block_size = refl; page = refl; order = refl; count = e }
+  shape_of left e = record { block_size = refl; page = refl; order = refl; profile = refl; count = e }
 
   pub left_alone : (left : Blocks) → PowerLossLeavesPairOldOrChanged t index changes left
       → Stays (disk_with_blocks left t.disk) ⊎ HasTurned t.disk w p slots move (disk_with_blocks left t.disk) (record { at = p.at; content = content_with p slots move }) []

@@ -236,7 +236,7 @@ module _ (t m : KeptThread) (from to : Path) (d : ℕ × ℕ) (o : Pair) (n : �
   -- ---- at a stop
 
   same_shape : (left : Blocks) → disk_with_blocks left m.disk ≡ disk_with_blocks left t.disk
-  same_shape left = λ j. record { block_size = k.shape.block_size j; page = k.shape.page j; order = k.shape.order j; blocks = left }
+  same_shape left = λ j. record { block_size = k.shape.block_size j; page = k.shape.page j; order = k.shape.order j; profile = k.shape.profile j; blocks = left }
 
   h : HasSite m.pairs (n - 1)
   h = site_of_number m.disk m.pairs (n - 1) k.taken.follows.accepted
@@ -255,7 +255,7 @@ module _ (t m : KeptThread) (from to : Path) (d : ℕ × ℕ) (o : Pair) (n : �
           record {
             pairs = thread_at h.site (h.pair ∷ []);
             accepted = f.accepted;
-            writable = profile_same m.disk (disk_with_blocks left m.disk) (thread_at h.site (h.pair ∷ [])) refl refl (subst (IsWritableImage m.disk) h.is k.taken.writable);
+            writable = profile_same m.disk (disk_with_blocks left m.disk) (thread_at h.site (h.pair ∷ [])) refl refl refl (subst (IsWritableImage m.disk) h.is k.taken.writable);
             tree = inr (f.shows ∙ ap (tree_on_disk m.disk) (sym h.is) ∙ k.taken.follows.shows);
           }
       go (inr e) =

@@ -126,7 +126,7 @@ writes_none t index = record {
   writes = record {
     others = record { count = refl; sizes = λ b. refl; others = λ b apart. refl };
     elsewhere = AreBytesStillUnprogrammed-refl ((thread_pair_at_index t index).at.0 ∷ (thread_pair_at_index t index).at.1 ∷ []) t.history;
-    shape = record { block_size = refl; page = refl; order = refl; count = refl };
+    shape = record { block_size = refl; page = refl; order = refl; profile = refl; count = refl };
     at_worst = began;
   };
 }

@@ -182,7 +182,7 @@ module _ (old now : KeptThread) (dropped : ℕ) (u : IsUnderWay old now dropped 
       still = subst HasNoMove (sym c.settled) (record { kind = refl; id = refl; pair = refl })
 
       geometry : SameGeometry now.disk new.disk
-      geometry = record { block_size = on.shape.block_size; page = on.shape.page; order = on.shape.order; count = on.shape.count }
+      geometry = record { block_size = on.shape.block_size; page = on.shape.page; order = on.shape.order; profile = on.shape.profile; count = on.shape.count }
 
       files : SameFiles now.disk new.disk (all_slots_not_moved now.pairs)
       files = recursion_from_All (λ (s : Slot). HasSameFileBlocksOfStructOnDisks now.disk new.disk s.struct) (all_slots_not_moved now.pairs) c.files
@@ -198,7 +198,7 @@ module _ (old now : KeptThread) (dropped : ℕ) (u : IsUnderWay old now dropped 
       (subst (λ z. IsLeftOf (disk_with_blocks left now.disk) z z) shows_now x)) (last clean))
     where
       disk_is : (left : Blocks) → disk_with_blocks left now.disk ≡ disk_with_blocks left old.disk
-      disk_is left = λ j. record { block_size = u.device.shape.block_size j; page = u.device.shape.page j; order = u.device.shape.order j; blocks = left }
+      disk_is left = λ j. record { block_size = u.device.shape.block_size j; page = u.device.shape.page j; order = u.device.shape.order j; profile = u.device.shape.profile j; blocks = left }
 
 -- ---- what the steps tell
 

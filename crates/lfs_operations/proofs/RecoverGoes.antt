@@ -13,7 +13,7 @@ use Rattle.lfs_model.specs.PowerLoss.{HasTreeBeforeOrAfterOperation as IsLeftOf,
 use Rattle.lfs_model.specs.Slots.{IsContentFittingPair, Gstate, Slot, Tail, same_pair}
 use Rattle.lfs_model.specs.SlotEdits.{pair_with_slots, pairs_without_moved_slot}
 use Rattle.lfs_model.specs.Thread.{Pair, blocks_of_pairs, gstate_of_pairs, is_hard_tail, pair_count_before_root, slots_not_moved}
-use Rattle.lfs_model.specs.View.{HasSuperblockWithInlineBytesIfAnySlot, IsAcceptedImage}
+use Rattle.lfs_model.specs.View.{HasSuperblockIfAnySlot, IsAcceptedImage}
 use Rattle.lfs_model.specs.Profile.{IsWritableImage}
 use Rattle.lfs_model.specs.Shown.{all_slots_not_moved, skip_list_blocks_of_struct, tree_on_disk, used_blocks}
 use Rattle.lfs_model.proofs.Changes.{SameFiles, chain_now, slots_files}
@@ -102,9 +102,9 @@ module _ (t : KeptThread) (can : CanEndMove t) (behind : ℕ) (m : HasMovedSlotI
     where
       go : (pair_count_before_root t.pairs < behind) ⊎ (behind ≤ pair_count_before_root t.pairs) → pair_count_before_root t.pairs < behind
       go (inl l) = l
-      go (inr l) = absurd (let k = (subst (HasSuperblockWithInlineBytesIfAnySlot can.accepted.superblock.0) slots_are
-          (heads (λ p. HasSuperblockWithInlineBytesIfAnySlot can.accepted.superblock.0 p.content.slots) (pair_count_before_root t.pairs + 1) t.pairs behind (omega arith) m.below
-          (recursion_from_All (λ (p : Pair). HasSuperblockWithInlineBytesIfAnySlot can.accepted.superblock.0 p.content.slots) (take (pair_count_before_root t.pairs + 1) t.pairs) can.accepted.superblock.1.1))).0 in
+      go (inr l) = absurd (let k = (subst (HasSuperblockIfAnySlot t.disk.profile.versions can.accepted.superblock.0) slots_are
+          (heads (λ p. HasSuperblockIfAnySlot t.disk.profile.versions can.accepted.superblock.0 p.content.slots) (pair_count_before_root t.pairs + 1) t.pairs behind (omega arith) m.below
+          (recursion_from_All (λ (p : Pair). HasSuperblockIfAnySlot t.disk.profile.versions can.accepted.superblock.0 p.content.slots) (take (pair_count_before_root t.pairs + 1) t.pairs) can.accepted.superblock.1.1))).0 in
           let z = sym k ∙ m.other in cc)
 
   pub h : HasSite t.pairs (behind - 1)

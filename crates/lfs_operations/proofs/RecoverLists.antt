@@ -82,4 +82,4 @@ lists_kept t u chain seen x todo are ok none w = slots_files t.disk u.disk x.con
     Q p = SameFiles t.disk u.disk p.content.slots
 
     geometry : SameGeometry t.disk u.disk
-    geometry = record { block_size = w.shape.block_size; page = w.shape.page; order = w.shape.order; count = w.shape.count }
+    geometry = record { block_size = w.shape.block_size; page = w.shape.page; order = w.shape.order; profile = w.shape.profile; count = w.shape.count }

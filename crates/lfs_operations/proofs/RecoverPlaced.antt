@@ -2,6 +2,7 @@
 use Rattle.std.proofs.Common.{ℕ, suc, ◌≡◌, ◌+◌, ◌<◌, List, [], ◌∷◌, ◌++◌, length, Some, refl, sym, ap, ap₂, subst, ◌∙◌, arith, append_assoc, length-append, get_or, set, remove}
 use Rattle.std.specs.Prelude.{All}
 use Rattle.std.proofs.lemmas.List.Elements.{All-from_recursion, recursion_from_All}
+use Rattle.lfs_model.specs.declared.limits.Profile.{Profile}
 use Rattle.lfs_model.specs.Disk.{Disk}
 use Rattle.lfs_model.specs.Content.{content_of_pair_at, current_block_of_pair_at}
 use Rattle.lfs_model.specs.Slots.{PairContent, IsContentFittingPair, Gstate, gstate_xor}
@@ -71,7 +72,7 @@ module _ (t : KeptThread) (chain front : List Pair) (p : Pair) (back : List Pair
   pub placed_by : (disk : Disk) (c : PairContent) → (HasFirst p.content.slots → SlotsBeginWithSuperblock c.slots) → IsAcceptedImage t.disk (chain ++ (front ++ p ∷ back)) → IsPairWrittenOnDisk t index c disk
       → IsDevice t.disk disk (chain ++ (front ++ p ∷ back)) (chain ++ (front ++ record { at = p.at; content = c } ∷ back))
   placed_by disk c keeps ok is = device t.disk disk site p (record { at = p.at; content = c }) [] [] ok ok.owned_once (record {
-    geometry = record { block_size = is.shape.block_size; page = is.shape.page; order = is.shape.order; count = is.shape.count };
+    geometry = record { block_size = is.shape.block_size; page = is.shape.page; order = is.shape.order; profile = is.shape.profile; count = is.shape.count };
     same = λ b none. (subst (λ at. KeepsBlocksOutsidePair at t.disk.blocks disk.blocks) at_is is.others).others b (all_apart (p.at.0 ∷ p.at.1 ∷ []) b none);
     contents = (ap (content_of_pair_at disk) (sym at_is) ∙ is.holds, tt);
     first = λ h b. subst (λ at. BeginsWithLogEntry (current_block_of_pair_at disk at) superblock_name_log_entry) at_is
@@ -87,10 +88,11 @@ module _ (t : KeptThread) (chain front : List Pair) (p : Pair) (back : List Pair
 
 -- ---- nothing came of it
 
-writable_still : (disk new : Disk) (ps : List Pair) → new.block_size ≡ disk.block_size → new.page ≡ disk.page → IsWritableImage disk ps → IsWritableImage new ps
-writable_still disk new ps e f h = record {
+writable_still : (disk new : Disk) (ps : List Pair) → new.block_size ≡ disk.block_size → new.page ≡ disk.page → new.profile ≡ disk.profile → IsWritableImage disk ps → IsWritableImage new ps
+writable_still disk new ps e f g h = record {
   pairs = subst (λ (n : ℕ). All (λ p. IsContentFittingPair n new.page p.content) ps) (sym e) (subst (λ (n : ℕ). All (λ p. IsContentFittingPair disk.block_size n p.content) ps) (sym f) h.pairs);
-  slots = subst (λ (n : ℕ). All (λ p. All (IsSlotWithinWritableLimits n new.page) p.content.slots) ps) (sym e) (subst (λ (n : ℕ). All (λ p. All (IsSlotWithinWritableLimits disk.block_size n) p.content.slots) ps) (sym f) h.slots);
+  slots = subst (λ (x : Profile). All (λ p. All (IsSlotWithinWritableLimits x new.block_size new.page) p.content.slots) ps) (sym g)
+      (subst (λ (n : ℕ). All (λ p. All (IsSlotWithinWritableLimits disk.profile n new.page) p.content.slots) ps) (sym e) (subst (λ (n : ℕ). All (λ p. All (IsSlotWithinWritableLimits disk.profile disk.block_size n) p.content.slots) ps) (sym f) h.slots));
   no_empty_pair = h.no_empty_pair;
 }
 
@@ -98,7 +100,7 @@ pub nothing_taken : (disk new : Disk) (chain front : List Pair) (p : Pair) (back
     → IsDevice disk new (chain ++ (front ++ p ∷ back)) (chain ++ (front ++ p ∷ back)) → IsWritableImageAfterTreeChange disk (chain ++ (front ++ p ∷ back)) new (chain ++ (front ++ p ∷ back)) (λ t. t) (λ d. d)
 nothing_taken disk new chain front p back is_chain ok fits on = record {
   follows = go (front ++ p ∷ back) refl;
-  writable = writable_still disk new (chain ++ (front ++ p ∷ back)) on.geometry.block_size on.geometry.page fits;
+  writable = writable_still disk new (chain ++ (front ++ p ∷ back)) on.geometry.block_size on.geometry.page on.geometry.profile fits;
 }
   where
     go : (behind : List Pair) → front ++ p ∷ back ≡ behind → IsImageAfterTreeChange disk (chain ++ (front ++ p ∷ back)) new (chain ++ (front ++ p ∷ back)) (λ t. t) (λ d. d)

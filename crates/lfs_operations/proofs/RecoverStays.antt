@@ -194,7 +194,7 @@ module _ (t : KeptThread) (can : CanEndMove t) (index : ℕ) (m : HasMovedSlotIn
     writable = end_writable t.disk disk h.site h.pair [] y [] m.left m.slot m.right (step disk is) writable (
       record {
         pair = subst (IsContentFittingPair t.disk.block_size t.disk.page) content_is (take_fits t index G.id (gstate_without_move (gstate_of_pairs t.pairs)) take);
-        slots = All-from_recursion (IsSlotWithinWritableLimits t.disk.block_size t.disk.page) (m.left ++ m.right) (fit_spliced t.disk h.pair m.left (m.slot ∷ []) [] m.right (within_at t.disk h.site h.pair [] writable) held tt);
+        slots = All-from_recursion (IsSlotWithinWritableLimits t.disk.profile t.disk.block_size t.disk.page) (m.left ++ m.right) (fit_spliced t.disk h.pair m.left (m.slot ∷ []) [] m.right (within_at t.disk h.site h.pair [] writable) held tt);
       },
       tt,
     ) (λ z. ((λ e. filled alone e), z.1));

@@ -52,11 +52,11 @@ pub record StaysOn (old new : KeptThread) : Type 0 where
   pub calls : IsTrueOfEachCallSince (λ e. Unit {0}) old.history new.history
 
 pub stays_itself : (t : KeptThread) → StaysOn t t
-stays_itself t = record { shape = record { block_size = refl; page = refl; order = refl; count = refl }; calls = record { events = []; extends = refl; each = tt } }
+stays_itself t = record { shape = record { block_size = refl; page = refl; order = refl; profile = refl; count = refl }; calls = record { events = []; extends = refl; each = tt } }
 
 pub stays_then : (a b c : KeptThread) → StaysOn a b → StaysOn b c → StaysOn a c
 stays_then a b c h k = record {
-  shape = record { block_size = k.shape.block_size ∙ h.shape.block_size; page = k.shape.page ∙ h.shape.page; order = k.shape.order ∙ h.shape.order; count = k.shape.count ∙ h.shape.count };
+  shape = record { block_size = k.shape.block_size ∙ h.shape.block_size; page = k.shape.page ∙ h.shape.page; order = k.shape.order ∙ h.shape.order; profile = k.shape.profile ∙ h.shape.profile; count = k.shape.count ∙ h.shape.count };
   calls = goes_on_by h.calls k.calls;
 }
 
@@ -309,7 +309,7 @@ module _ (old now : KeptThread) (dropped number : ℕ) (rest : List ℕ) (n : Is
     shows = ap (tree_on_disk now.disk) (n.way.there ∙ ap (λ z. C ++ (n.kept ++ z)) (sym (joined_singles (n.x ∷ n.todo)))) ∙ n.way.is.taken.follows.shows
 
     disk_is : StaysOn old now → (left : Blocks) → disk_with_blocks left now.disk ≡ disk_with_blocks left old.disk
-    disk_is d left = λ j. record { block_size = d.shape.block_size j; page = d.shape.page j; order = d.shape.order j; blocks = left }
+    disk_is d left = λ j. record { block_size = d.shape.block_size j; page = d.shape.page j; order = d.shape.order j; profile = d.shape.profile j; blocks = left }
 
     number_there : slice_index_or old.pairs number empty_pair_at_anchor ≡ n.x
     number_there = numbered old.pairs C n.seen n.x n.todo number n.way.is.are

@@ -35,7 +35,7 @@ pub writes_none : (bs : List ℕ) (t : KeptThread) → ThreadChangesOnlyTheseBlo
 writes_none bs t = record {
   others = AreBlocksEqualExceptThese-refl bs t.disk.blocks;
   elsewhere = AreBytesStillUnprogrammed-refl bs t.history;
-  shape = record { block_size = refl; page = refl; order = refl; count = refl };
+  shape = record { block_size = refl; page = refl; order = refl; profile = refl; count = refl };
   at_worst = record { events = []; extends = refl; each = tt };
 }
 

@@ -350,7 +350,7 @@ module _ (t : KeptThread) (index id first : ℕ) (can : CanEditEntryOfPair t ind
             record {
               pairs = thread_at v (o ∷ []);
               accepted = f.accepted;
-              writable = profile_same t.disk (disk_with_blocks left t.disk) (thread_at v (o ∷ [])) refl refl (subst (IsWritableImage t.disk) there_before can.ready.writable);
+              writable = profile_same t.disk (disk_with_blocks left t.disk) (thread_at v (o ∷ [])) refl refl refl (subst (IsWritableImage t.disk) there_before can.ready.writable);
               tree = inl (f.shows ∙ ap (tree_on_disk t.disk) (sym there_before));
             }
         go (inr e) =

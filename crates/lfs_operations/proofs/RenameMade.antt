@@ -137,7 +137,7 @@ module _ (t : KeptThread) (index id : ℕ) (ready : IsImageReadyForChange t) (fi
 
   -- the slots that are left are cut where it comes
   module _ (front : List PairContentChange) (a b : List Slot) (left : Leaves c.raw front (a ++ b)) (fits_left : IsContentFittingPair t.disk.block_size t.disk.page (record p.content { slots = a ++ b }))
-      (at : ℕ) (number : length a ≡ at) (name : Name) (named : is_valid_name name ≡ true) (fits : IsEntryWithinWritableLimits t.disk.block_size t.disk.page (record s.slot { name = name })) where
+      (at : ℕ) (number : length a ≡ at) (name : Name) (named : is_valid_name name ≡ true) (fits : IsEntryWithinWritableLimits t.disk.profile t.disk.block_size t.disk.page (record s.slot { name = name })) where
     abbrev pub changes : List PairContentChange
     changes = front ++ slot_creation_changes at name (nameless_slot_at t index id)
 
@@ -182,7 +182,7 @@ module _ (t : KeptThread) (index id : ℕ) (ready : IsImageReadyForChange t) (fi
 
     cut : CanSplitSlotsIntoTwoPairs t.disk.block_size t.disk.page raw_now.slots
     cut = content_cut t.disk.block_size t.disk.page raw_now now a moved b (logged_changed c.raw changes raw_now (logged c.raw c.is) changed_now) now_complete refl
-        (entry_small t.disk.block_size t.disk.page moved ready.large fits)
+        (entry_small t.disk.profile t.disk.block_size t.disk.page moved ready.large fits)
         (let f = fits_left.size in let k = sum_by-append slot_size a b in omega arith)
         (let n = fits_left.count in let k = length-append a b in omega arith)
 

@@ -363,7 +363,7 @@ module _ (t : KeptThread) (index id place : ℕ) (name : Name) (rename : CanRepl
 
     placed_on : (disk : Disk) (d : PairContent) → (HasFirst p.content.slots → SlotsBeginWithSuperblock d.slots) → IsPairWrittenOnDisk t index d disk → IsPlacedOn t.disk disk p (record { at = p.at; content = d }) [] []
     placed_on disk d first is = record {
-      geometry = record { block_size = is.shape.block_size; page = is.shape.page; order = is.shape.order; count = is.shape.count };
+      geometry = record { block_size = is.shape.block_size; page = is.shape.page; order = is.shape.order; profile = is.shape.profile; count = is.shape.count };
       same = λ b none. (subst (λ at. KeepsBlocksOutsidePair at t.disk.blocks disk.blocks) at_is is.others).others b (all_apart (p.at.0 ∷ p.at.1 ∷ []) b none);
       contents = (ap (content_of_pair_at disk) (sym at_is) ∙ is.holds, tt);
       first = λ z b. subst (λ at. BeginsWithLogEntry (current_block_of_pair_at disk at) superblock_name_log_entry) at_is (is.first (subst (λ at. BeginsWithLogEntry (current_block_of_pair_at t.disk at) superblock_name_log_entry) (sym at_is) b) (first z));

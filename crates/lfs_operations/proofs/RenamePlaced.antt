@@ -3,12 +3,13 @@ use Rattle.std.proofs.Common.{ℕ, ◌≡◌, ◌+◌, false, List, [], ◌∷�
 use Rattle.std.specs.Prelude.{All}
 use Rattle.std.proofs.lemmas.List.{take-append-drop}
 use Rattle.std.proofs.lemmas.List.Elements.{recursion_from_All}
+use Rattle.lfs_model.specs.declared.limits.AcceptedVersions.{AcceptedVersions}
 use Rattle.lfs_model.specs.Changes.{PairContentChange}
 use Rattle.lfs_model.specs.Disk.{Disk, SameGeometry}
 use Rattle.lfs_model.specs.Slots.{PairContent, Slot, is_superblock}
 use Rattle.lfs_model.specs.Thread.{Pair, gstate_of_pairs, starts_with_superblock, pair_count_before_root}
 use Rattle.lfs_model.specs.Profile.{IsEntryWithinWritableLimits, IsSlotWithinWritableLimits}
-use Rattle.lfs_model.specs.View.{HasSuperblockWithInlineBytesIfAnySlot, IsAcceptedImage, IsFileOrDirectoryEntry, IsSkipListIfCtzStruct}
+use Rattle.lfs_model.specs.View.{HasSuperblockIfAnySlot, IsAcceptedImage, IsFileOrDirectoryEntry, IsSkipListIfCtzStruct}
 use Rattle.lfs_model.specs.Shown.{all_slots_not_moved, skip_list_blocks_of_struct}
 use Rattle.lfs_model.proofs.Changes.{SameFiles, slots_files}
 use Rattle.lfs_model.proofs.Committed.{no_move_from}
@@ -63,11 +64,11 @@ carries_ahead u name gone passed = record {
 abbrev HasRests : List Slot → Type 0
 HasRests slots = (l xs : List Slot) → slots ≡ l ++ xs → starts_with_superblock xs ≡ false → Each IsFileOrDirectoryEntry xs
 
-headed_rests : (bytes : List ℕ) (slots : List Slot) → HasSuperblockWithInlineBytesIfAnySlot bytes slots → HasRests slots
-headed_rests bytes [] h [] xs e f = subst (Each IsFileOrDirectoryEntry) e tt
-headed_rests bytes [] h (x ∷ l) xs e f = absurd (cc)
-headed_rests bytes (s ∷ slots) h [] xs e f = absurd (let z = sym f ∙ ap starts_with_superblock (sym e) ∙ h.0 in cc)
-headed_rests bytes (s ∷ slots) h (x ∷ l) xs e f = each_right IsFileOrDirectoryEntry l xs (subst (Each IsFileOrDirectoryEntry) (rest e) (recursion_from_All IsFileOrDirectoryEntry slots h.2))
+headed_rests : (versions : AcceptedVersions) (bytes : List ℕ) (slots : List Slot) → HasSuperblockIfAnySlot versions bytes slots → HasRests slots
+headed_rests versions bytes [] h [] xs e f = subst (Each IsFileOrDirectoryEntry) e tt
+headed_rests versions bytes [] h (x ∷ l) xs e f = absurd (cc)
+headed_rests versions bytes (s ∷ slots) h [] xs e f = absurd (let z = sym f ∙ ap starts_with_superblock (sym e) ∙ h.0 in cc)
+headed_rests versions bytes (s ∷ slots) h (x ∷ l) xs e f = each_right IsFileOrDirectoryEntry l xs (subst (Each IsFileOrDirectoryEntry) (rest e) (recursion_from_All IsFileOrDirectoryEntry slots h.2))
   where
     rest : {a b : Slot} {us vs : List Slot} → a ∷ us ≡ b ∷ vs → us ≡ vs
     rest k = cc
@@ -78,8 +79,8 @@ all_rests slots h l xs e f = each_right IsFileOrDirectoryEntry l xs (subst (Each
 each_rests : (disk : Disk) (ps : List Pair) → IsAcceptedImage disk ps → Each (λ p. HasRests p.content.slots) ps
 each_rests disk ps ok = subst (Each (λ p. HasRests p.content.slots)) (take-append-drop (pair_count_before_root ps + 1) ps)
     (each_append (λ p. HasRests p.content.slots) (take (pair_count_before_root ps + 1) ps) (drop (pair_count_before_root ps + 1) ps)
-    (each_weaker (λ (p : Pair). HasSuperblockWithInlineBytesIfAnySlot ok.superblock.0 p.content.slots) (λ (p : Pair). HasRests p.content.slots) (λ p h. headed_rests ok.superblock.0 p.content.slots h)
-    (take (pair_count_before_root ps + 1) ps) (recursion_from_All (λ (p : Pair). HasSuperblockWithInlineBytesIfAnySlot ok.superblock.0 p.content.slots) (take (pair_count_before_root ps + 1) ps) ok.superblock.1.1))
+    (each_weaker (λ (p : Pair). HasSuperblockIfAnySlot disk.profile.versions ok.superblock.0 p.content.slots) (λ (p : Pair). HasRests p.content.slots) (λ p h. headed_rests disk.profile.versions ok.superblock.0 p.content.slots h)
+    (take (pair_count_before_root ps + 1) ps) (recursion_from_All (λ (p : Pair). HasSuperblockIfAnySlot disk.profile.versions ok.superblock.0 p.content.slots) (take (pair_count_before_root ps + 1) ps) ok.superblock.1.1))
     (each_weaker (λ (p : Pair). All IsFileOrDirectoryEntry p.content.slots) (λ (p : Pair). HasRests p.content.slots) (λ p h. all_rests p.content.slots h) (drop (pair_count_before_root ps + 1) ps)
     (recursion_from_All (λ (p : Pair). All IsFileOrDirectoryEntry p.content.slots) (drop (pair_count_before_root ps + 1) ps) ok.slots)))
 
@@ -101,7 +102,7 @@ pub record IsPlaced (t : KeptThread) (index : ℕ) (changes : List PairContentCh
   pub entry : IsFileOrDirectoryEntry u → IsFileOrDirectoryEntry moved
   pub struct : moved.struct ≡ u.struct
   pub other : is_superblock moved ≡ false
-  pub fits : IsEntryWithinWritableLimits t.disk.block_size t.disk.page moved
+  pub fits : IsEntryWithinWritableLimits t.disk.profile t.disk.block_size t.disk.page moved
 
 module _ (t : KeptThread) (index : ℕ) (changes : List PairContentChange) (w : Site) (p : Pair) (l olds news r gone : List Slot) (u moved : Slot) (k : IsPlaced t index changes w p l olds news r gone u moved) where
   -- of the pairs at the site
@@ -120,15 +121,15 @@ module _ (t : KeptThread) (index : ℕ) (changes : List PairContentChange) (w : 
   entries_were : Each IsFileOrDirectoryEntry olds
   entries_were = each_left IsFileOrDirectoryEntry olds r (at_site (λ (x : Pair). HasRests x.content.slots) (each_rests t.disk t.pairs k.ready.accepted) l (olds ++ r) k.was k.front)
 
-  fit_were : Each (IsSlotWithinWritableLimits t.disk.block_size t.disk.page) olds
-  fit_were = of_slots (IsSlotWithinWritableLimits t.disk.block_size t.disk.page) (recursion_from_All (IsSlotWithinWritableLimits t.disk.block_size t.disk.page) p.content.slots
-      (at_site (λ (x : Pair). All (IsSlotWithinWritableLimits t.disk.block_size t.disk.page) x.content.slots) (recursion_from_All (λ (x : Pair). All (IsSlotWithinWritableLimits t.disk.block_size t.disk.page) x.content.slots) t.pairs k.ready.writable.slots)))
+  fit_were : Each (IsSlotWithinWritableLimits t.disk.profile t.disk.block_size t.disk.page) olds
+  fit_were = of_slots (IsSlotWithinWritableLimits t.disk.profile t.disk.block_size t.disk.page) (recursion_from_All (IsSlotWithinWritableLimits t.disk.profile t.disk.block_size t.disk.page) p.content.slots
+      (at_site (λ (x : Pair). All (IsSlotWithinWritableLimits t.disk.profile t.disk.block_size t.disk.page) x.content.slots) (recursion_from_All (λ (x : Pair). All (IsSlotWithinWritableLimits t.disk.profile t.disk.block_size t.disk.page) x.content.slots) t.pairs k.ready.writable.slots)))
 
   pub entries_now : Each IsFileOrDirectoryEntry news
   entries_now = k.carries.each IsFileOrDirectoryEntry k.entry entries_were
 
-  pub fit_now : Each (IsSlotWithinWritableLimits t.disk.block_size t.disk.page) news
-  fit_now = k.carries.each (IsSlotWithinWritableLimits t.disk.block_size t.disk.page) (λ f. ((λ e. absurd (let z = sym k.other ∙ e in cc)), (λ e. k.fits))) fit_were
+  pub fit_now : Each (IsSlotWithinWritableLimits t.disk.profile t.disk.block_size t.disk.page) news
+  fit_now = k.carries.each (IsSlotWithinWritableLimits t.disk.profile t.disk.block_size t.disk.page) (λ f. ((λ e. absurd (let z = sym k.other ∙ e in cc)), (λ e. k.fits))) fit_were
 
   pub lists_now : (disk : Disk) → SameGeometry t.disk disk → SameFiles t.disk disk (all_slots_not_moved t.pairs) → Each (λ s. IsSkipListIfCtzStruct disk s.struct) news
   lists_now disk geometry files = k.carries.each (λ (s : Slot). IsSkipListIfCtzStruct disk s.struct) (λ h. subst (IsSkipListIfCtzStruct disk) (sym k.struct) h)

@@ -108,7 +108,7 @@ still_there t index changes ready first p rest place = inl (record {
   written = record {
     holds = holds t ready first index p rest place ∙ ap (λ (z : Pair). Some z.content) (sym (here t ready first index p rest place));
     others = record { count = refl; sizes = λ b. refl; others = λ b apart. refl };
-    shape = record { block_size = refl; page = refl; order = refl; count = refl };
+    shape = record { block_size = refl; page = refl; order = refl; profile = refl; count = refl };
     first = λ b k. b;
   };
 })

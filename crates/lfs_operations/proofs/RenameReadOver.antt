@@ -51,7 +51,7 @@ pub only_read_writes : (t mid : KeptThread) (bs : List ℕ) → IsThreadOnlyRead
 only_read_writes t mid bs only = subst (λ (k : KeptThread). ThreadChangesOnlyTheseBlocks bs t k) (sym (read_is t mid only)) (record {
   others = record { count = refl; sizes = λ b. refl; others = λ b apart. refl };
   elsewhere = AreBytesStillUnprogrammed-read_count_of_history bs only.reads;
-  shape = record { block_size = refl; page = refl; order = refl; count = refl };
+  shape = record { block_size = refl; page = refl; order = refl; profile = refl; count = refl };
   at_worst = IsTrueAfterAnyPowerLossSince-read_count_of_history ArePossibleBlocksAfterPowerLossInCall-read only.reads (record { count = refl; sizes = λ b. refl; others = λ b apart. refl });
 })
 
@@ -64,7 +64,7 @@ change_stops_after_read t mid new index changes bs only ready first p rest place
       written = record {
         holds = holds t ready first index p rest place ∙ ap (λ (z : Pair). Some z.content) (sym (here t ready first index p rest place));
         others = record { count = refl; sizes = λ b. refl; others = λ b apart. refl };
-        shape = record { block_size = refl; page = refl; order = refl; count = refl };
+        shape = record { block_size = refl; page = refl; order = refl; profile = refl; count = refl };
         first = λ b k. b;
       };
     })) (IsTrueAfterAnyPowerLossSince-weaker (λ left l. earlier left (subst (λ (k : KeptThread). PowerLossLeavesPairOldOrChanged k index changes left) (read_is t mid only) l)) (stops (IsTrueOfEachCallSince-behind clean only.reads writes.at_worst)))

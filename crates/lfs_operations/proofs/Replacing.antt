@@ -46,7 +46,7 @@ abbrev pub Turns : (RawSlot → RawSlot) → Slot → Slot → Type 0
 Turns g u v = (x : RawSlot) → slot_if_name_and_struct_present x ≡ Some u → slot_if_name_and_struct_present (g x) ≡ Some v
 
 module _ (t : KeptThread) (index id : ℕ) (can : CanEditEntryOfPair t index id) (g : RawSlot → RawSlot) (v : Slot) (change : PairContentChange) (does : Makes change id g) (turns : Turns g (slot_of_editable_entry can) v)
-    (fits : IsEntryWithinWritableLimits t.disk.block_size t.disk.page v) where
+    (fits : IsEntryWithinWritableLimits t.disk.profile t.disk.block_size t.disk.page v) where
   abbrev pub s : IsPlaceOfNameInDirectory t.pairs can.first can.name index id
   s = can.stands
 
@@ -109,7 +109,7 @@ module _ (t : KeptThread) (index id : ℕ) (can : CanEditEntryOfPair t index id)
 
   cut : CanSplitSlotsIntoTwoPairs t.disk.block_size t.disk.page raw_now.slots
   cut = set_cut t.disk.block_size t.disk.page raw_now now p.content l u v r (logged_changed c.raw (change ∷ []) raw_now (can.logged c.raw c.is) changed_now) now_complete s.stands.held slots_now
-      (entry_small t.disk.block_size t.disk.page v can.ready.large fits) (fits_there t can.ready can.first index p s.rest s.place)
+      (entry_small t.disk.profile t.disk.block_size t.disk.page v can.ready.large fits) (fits_there t can.ready can.first index p s.rest s.place)
 
   -- where it takes no more than it did, what the change makes fits the pair, as what it held did
   fits_as_before : slot_size v ≤ slot_size u → IsContentFittingPair t.disk.block_size t.disk.page now

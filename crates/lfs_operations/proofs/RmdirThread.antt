@@ -190,7 +190,7 @@ module _ (t : KeptThread) (index id first gone : ℕ) (take : CanRemoveDirectory
 
   placed : (disk : Disk) (d : PairContent) → (HasFirst p.content.slots → SlotsBeginWithSuperblock d.slots) → IsPairWrittenOnDisk t index d disk → IsPlaced t.disk disk p (record { at = p.at; content = d }) [] []
   placed disk d first h = record {
-    geometry = record { block_size = h.shape.block_size; page = h.shape.page; order = h.shape.order; count = h.shape.count };
+    geometry = record { block_size = h.shape.block_size; page = h.shape.page; order = h.shape.order; profile = h.shape.profile; count = h.shape.count };
     same = λ b none. (subst (λ at. KeepsBlocksOutsidePair at t.disk.blocks disk.blocks) at_is h.others).others b (all_apart (p.at.0 ∷ p.at.1 ∷ []) b none);
     contents = (ap (content_of_pair_at disk) (sym at_is) ∙ h.holds, tt);
     first = λ k b. subst (λ at. BeginsWithLogEntry (current_block_of_pair_at disk at) superblock_name_log_entry) at_is (h.first (subst (λ at. BeginsWithLogEntry (current_block_of_pair_at t.disk at) superblock_name_log_entry) (sym at_is) b) (first k));
@@ -387,7 +387,7 @@ module _ (t : KeptThread) (index id first gone : ℕ) (take : CanRemoveDirectory
     -- ---- at a stop in the second step
 
     same_shape : (left : Blocks) → disk_with_blocks left m.disk ≡ disk_with_blocks left t.disk
-    same_shape left = λ j. record { block_size = h.written.shape.block_size j; page = h.written.shape.page j; order = h.written.shape.order j; blocks = left }
+    same_shape left = λ j. record { block_size = h.written.shape.block_size j; page = h.written.shape.page j; order = h.written.shape.order j; profile = h.written.shape.profile j; blocks = left }
 
     site_middle : IsSite w (q ∷ [])
     site_middle = record {
@@ -406,7 +406,7 @@ module _ (t : KeptThread) (index id first gone : ℕ) (take : CanRemoveDirectory
             record {
               pairs = thread_at w (q ∷ []);
               accepted = f.accepted;
-              writable = profile_same m.disk (disk_with_blocks left m.disk) (thread_at w (q ∷ [])) refl refl (first_taken m.disk h.written).writable;
+              writable = profile_same m.disk (disk_with_blocks left m.disk) (thread_at w (q ∷ [])) refl refl refl (first_taken m.disk h.written).writable;
               tree = inr (f.shows ∙ (first_taken m.disk h.written).follows.shows ∙ turned);
             }
         go (inr e) =
@@ -432,7 +432,7 @@ module _ (t : KeptThread) (index id first gone : ℕ) (take : CanRemoveDirectory
           record {
             pairs = thread_at w (p ∷ []);
             accepted = f.accepted;
-            writable = profile_same t.disk (disk_with_blocks left t.disk) (thread_at w (p ∷ [])) refl refl writable;
+            writable = profile_same t.disk (disk_with_blocks left t.disk) (thread_at w (p ∷ [])) refl refl refl writable;
             tree = inl (f.shows ∙ ap (tree_on_disk t.disk) (sym there));
           }
       go (inr e) =

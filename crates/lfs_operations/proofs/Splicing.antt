@@ -66,7 +66,7 @@ pub record IsSplicing (t : KeptThread) (index : ℕ) (changes : List PairContent
   pub now : content.slots ≡ l ++ (news ++ r)
   pub front : l ≡ [] → starts_with_superblock (olds ++ r) ≡ false
   pub entries : Each IsFileOrDirectoryEntry news
-  pub fit : Each (IsSlotWithinWritableLimits t.disk.block_size t.disk.page) news
+  pub fit : Each (IsSlotWithinWritableLimits t.disk.profile t.disk.block_size t.disk.page) news
   -- blocks that come are in flight; they name these now, and those that are gone no more
   pub flying : Each (IsBlockInFlight t.map) come
   pub apart : IsDistinct nat_eq (come ++ used_blocks t.disk t.pairs)
@@ -171,7 +171,7 @@ module _ (t : KeptThread) (index : ℕ) (changes : List PairContentChange) (w : 
   -- ---- on the disk
 
   shape_same : {disk : Disk} → HasSameGeometry t.disk disk → SameGeometry t.disk disk
-  shape_same s = record { block_size = s.block_size; page = s.page; order = s.order; count = s.count }
+  shape_same s = record { block_size = s.block_size; page = s.page; order = s.order; profile = s.profile; count = s.count }
 
   same_two : (disk : Disk) → KeepsBlocksOutsidePair p.at t.disk.blocks disk.blocks → (b : ℕ) → occurrence_count_of_number b (blocks_of_pairs (p ∷ [])) ≡ 0 → block_bytes_on_disk disk b ≡ block_bytes_on_disk t.disk b
   same_two disk others b none = others.others b (all_apart (p.at.0 ∷ p.at.1 ∷ []) b none)

@@ -8,6 +8,7 @@ use Rattle.lfs_model.specs.Blocks.{Blocks}
 use Rattle.lfs_model.specs.BlockSets.{AreExactlyTheUsedBlocks, IsBlockFree, IsBlockInFlight}
 use Rattle.lfs_model.specs.Changes.{PairContentChange}
 use Rattle.lfs_model.specs.Content.{content_of_pair_at}
+use Rattle.lfs_model.specs.declared.limits.Profile.{Profile}
 use Rattle.lfs_model.specs.Disk.{Disk, block_count}
 use Rattle.lfs_model.specs.PowerLoss.{HasTreeBeforeOrAfterOperation as IsLeftOf, SurvivesPowerLossInCallsSince, disk_with_blocks}
 use Rattle.lfs_model.specs.Slots.{Slot, PairContent, IsContentFittingPair}
@@ -56,10 +57,11 @@ pub record HasStep (t : KeptThread) (w : Site) (p : Pair) (l olds news r : List 
   pub stays : KeepsStatesOfTakenBlocks t.map new.map
   pub none_comes : HasNoNewBlockInFlight t.map new.map
 
-writable_same : (disk new : Disk) (ps : List Pair) → new.block_size ≡ disk.block_size → new.page ≡ disk.page → IsWritableImage disk ps → IsWritableImage new ps
-writable_same disk new ps e f h = record {
+writable_same : (disk new : Disk) (ps : List Pair) → new.block_size ≡ disk.block_size → new.page ≡ disk.page → new.profile ≡ disk.profile → IsWritableImage disk ps → IsWritableImage new ps
+writable_same disk new ps e f g h = record {
   pairs = subst (λ (n : ℕ). All (λ p. IsContentFittingPair n new.page p.content) ps) (sym e) (subst (λ (n : ℕ). All (λ p. IsContentFittingPair disk.block_size n p.content) ps) (sym f) h.pairs);
-  slots = subst (λ (n : ℕ). All (λ p. All (IsSlotWithinWritableLimits n new.page) p.content.slots) ps) (sym e) (subst (λ (n : ℕ). All (λ p. All (IsSlotWithinWritableLimits disk.block_size n) p.content.slots) ps) (sym f) h.slots);
+  slots = subst (λ (x : Profile). All (λ p. All (IsSlotWithinWritableLimits x new.block_size new.page) p.content.slots) ps) (sym g)
+      (subst (λ (n : ℕ). All (λ p. All (IsSlotWithinWritableLimits disk.profile n new.page) p.content.slots) ps) (sym e) (subst (λ (n : ℕ). All (λ p. All (IsSlotWithinWritableLimits disk.profile disk.block_size n) p.content.slots) ps) (sym f) h.slots));
   no_empty_pair = h.no_empty_pair;
 }
 
@@ -166,7 +168,7 @@ module _ (t : KeptThread) (index : ℕ) (changes : List PairContentChange) (w : 
   Stays disk = IsDevice t.disk disk (thread_at w (p ∷ [])) (thread_at w (p ∷ []))
 
   shape_of : (left : Blocks) → length left ≡ length t.disk.blocks → HasSameGeometry t.disk (disk_with_blocks left t.disk)
-  shape_of left e = record { block_size = refl; page = refl; order = refl; count = e }
+  shape_of left e = record { block_size = refl; page = refl; order = refl; profile = refl; count = e }
 
   left_one : (left : Blocks) → PowerLossLeavesPairOldOrChanged t index changes left → Stays (disk_with_blocks left t.disk) ⊎ HasCommit t w p l olds news r come (disk_with_blocks left t.disk)
   left_one left is = go is.is
@@ -221,7 +223,7 @@ module _ (t : KeptThread) (index : ℕ) (changes : List PairContentChange) (w : 
           record {
             pairs = thread_at w (p ∷ []);
             accepted = f.accepted;
-            writable = writable_same t.disk (disk_with_blocks left t.disk) (thread_at w (p ∷ [])) refl refl (subst (IsWritableImage t.disk) k.there k.ready.writable);
+            writable = writable_same t.disk (disk_with_blocks left t.disk) (thread_at w (p ∷ [])) refl refl refl (subst (IsWritableImage t.disk) k.there k.ready.writable);
             tree = inl (f.shows ∙ ap (tree_on_disk t.disk) (sym k.there));
           }
       go (inr h) =

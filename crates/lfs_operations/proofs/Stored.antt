@@ -1,5 +1,5 @@
 -- A file that gets other contents, as a step of the thread.
-use Rattle.std.proofs.Common.{nat_eq, ℕ, ◌≡◌, ◌⊎◌, inl, inr, ◌<◌, ◌≤◌, true, false, List, [], ◌∷◌, ◌++◌, length, Some, None, refl, sym, ap, subst, ◌∙◌, arith}
+use Rattle.std.proofs.Common.{nat_eq, ℕ, ◌≡◌, ◌⊎◌, inl, inr, ◌<◌, ◌≤◌, true, false, List, [], ◌∷◌, ◌++◌, length, Some, None, refl, sym, ap, ap₂, subst, ◌∙◌, arith}
 use Rattle.std.specs.Prelude.{All}
 use Rattle.std.specs.List.{IsDistinct}
 use Rattle.std.proofs.lemmas.Bool.{cases_lt}
@@ -60,16 +60,19 @@ suits_file disk contents Directory (Ctz a z) (Inline b) s f h = absurd s
 suits_file disk contents Directory (Ctz a z) (Ctz head size) s f h = absurd s
 suits_file disk contents Superblock was now s f h = absurd s
 
-has_inline : (disk : Disk) (contents : List ℕ) (now : Struct) → IsStructStoringBytes disk contents now → HasInlineBytesWithinLimit (inline_limit disk.block_size) now
+has_inline : (disk : Disk) (contents : List ℕ) (now : Struct) → IsStructStoringBytes disk contents now → HasInlineBytesWithinLimit (inline_limit disk.profile disk.block_size) now
 has_inline disk contents (Inline b) h = let e = ap length h.0 in let l = h.1 in omega arith
 has_inline disk contents (Ctz head size) h = tt
 has_inline disk contents (Branch to) h = tt
 
+inline_same : (disk new : Disk) → SameGeometry disk new → inline_limit new.profile new.block_size ≡ inline_limit disk.profile disk.block_size
+inline_same disk new g = ap₂ (λ p n. inline_limit p n) g.profile g.block_size
+
 -- where its blocks are as they were
 stores_same : (disk new : Disk) (contents : List ℕ) (s : Struct) → SameGeometry disk new → HasSameFileBlocksOfStructOnDisks disk new s → IsStructStoringBytes disk contents s → IsStructStoringBytes new contents s
-stores_same disk new contents (Inline b) g f h = (h.0, subst (λ n. length contents ≤ inline_limit n) (sym g.block_size) h.1)
+stores_same disk new contents (Inline b) g f h = (h.0, subst (λ n. length contents ≤ n) (sym (inline_same disk new g)) h.1)
 stores_same disk new contents (Ctz head size) g f h =
-    (h.0, contents_same disk new (Ctz head size) head size refl g f ∙ h.1, subst (λ n. inline_limit n < length contents) (sym g.block_size) h.2)
+    (h.0, contents_same disk new (Ctz head size) head size refl g f ∙ h.1, subst (λ n. n < length contents) (sym (inline_same disk new g)) h.2)
 stores_same disk new contents (Branch to) g f h = absurd h
 
 stores_node : (disk : Disk) (E : EntriesByDirectory) (attributes : Attributes) (s : Struct) (contents : List ℕ) → IsStructStoringBytes disk contents s → node_of_struct_and_attributes (skip_list_bytes_on_disk disk) E attributes s ≡ FileNode attributes contents
@@ -100,13 +103,13 @@ module _ (t : KeptThread) (index id kind : ℕ) (bytes : List ℕ) (store : CanS
   turns x h = complete_struct x u (kind, bytes) h
 
   -- what it takes with any inline contents is as before
-  pub fits : IsEntryWithinWritableLimits t.disk.block_size t.disk.page (record (slot_of_editable_entry store.can) { struct = struct_of_type_and_bytes kind bytes })
+  pub fits : IsEntryWithinWritableLimits t.disk.profile t.disk.block_size t.disk.page (record (slot_of_editable_entry store.can) { struct = struct_of_type_and_bytes kind bytes })
   fits =
       let s = can.stands in
-      let here = each_pair t can.ready can.first index s.pair s.rest s.place (λ x. All (IsSlotWithinWritableLimits t.disk.block_size t.disk.page) x.content.slots)
-      (recursion_from_All (λ (x : Pair). All (IsSlotWithinWritableLimits t.disk.block_size t.disk.page) x.content.slots) t.pairs can.ready.writable.slots) in
-      let slots = subst (Each (IsSlotWithinWritableLimits t.disk.block_size t.disk.page)) s.stands.held (recursion_from_All (IsSlotWithinWritableLimits t.disk.block_size t.disk.page) s.pair.content.slots here) in
-      let was = (each_right (IsSlotWithinWritableLimits t.disk.block_size t.disk.page) s.stands.left (s.stands.slot ∷ s.stands.right) slots).0.1 s.stands.entry in
+      let here = each_pair t can.ready can.first index s.pair s.rest s.place (λ x. All (IsSlotWithinWritableLimits t.disk.profile t.disk.block_size t.disk.page) x.content.slots)
+      (recursion_from_All (λ (x : Pair). All (IsSlotWithinWritableLimits t.disk.profile t.disk.block_size t.disk.page) x.content.slots) t.pairs can.ready.writable.slots) in
+      let slots = subst (Each (IsSlotWithinWritableLimits t.disk.profile t.disk.block_size t.disk.page)) s.stands.held (recursion_from_All (IsSlotWithinWritableLimits t.disk.profile t.disk.block_size t.disk.page) s.pair.content.slots here) in
+      let was = (each_right (IsSlotWithinWritableLimits t.disk.profile t.disk.block_size t.disk.page) s.stands.left (s.stands.slot ∷ s.stands.right) slots).0.1 s.stands.entry in
       record { charge = was.charge; inline = has_inline t.disk store.contents (struct_of_type_and_bytes kind bytes) store.stores }
 
   abbrev w : Site

@@ -39,6 +39,7 @@ writes_trans first second = record {
     block_size = second.shape.block_size ∙ first.shape.block_size;
     page = second.shape.page ∙ first.shape.page;
     order = second.shape.order ∙ first.shape.order;
+    profile = second.shape.profile ∙ first.shape.profile;
     count = second.shape.count ∙ first.shape.count;
   };
   at_worst = IsTrueAfterAnyPowerLossSince-trans first.at_worst (IsTrueAfterAnyPowerLossSince-weaker (λ blocks k. AreBlocksEqualExceptThese-trans first.others k) second.at_worst);

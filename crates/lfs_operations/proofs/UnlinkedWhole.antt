@@ -405,7 +405,7 @@ module _ (t : KeptThread) (index id first gone : ℕ) (take : CanRemoveDirectory
     -- ---- at a stop in the second step
 
     same_shape : (left : Blocks) → disk_with_blocks left m.disk ≡ disk_with_blocks left t.disk
-    same_shape left = λ j. record { block_size = h.written.shape.block_size j; page = h.written.shape.page j; order = h.written.shape.order j; blocks = left }
+    same_shape left = λ j. record { block_size = h.written.shape.block_size j; page = h.written.shape.page j; order = h.written.shape.order j; profile = h.written.shape.profile j; blocks = left }
 
     site_middle : IsSite w (q ∷ [])
     site_middle = record {
@@ -424,7 +424,7 @@ module _ (t : KeptThread) (index id first gone : ℕ) (take : CanRemoveDirectory
             record {
               pairs = thread_at w (q ∷ []);
               accepted = f.accepted;
-              writable = profile_same m.disk (disk_with_blocks left m.disk) (thread_at w (q ∷ [])) refl refl (first_taken m.disk h.written).writable;
+              writable = profile_same m.disk (disk_with_blocks left m.disk) (thread_at w (q ∷ [])) refl refl refl (first_taken m.disk h.written).writable;
               tree = inr (f.shows ∙ (first_taken m.disk h.written).follows.shows ∙ turned);
             }
         go (inr e) =
@@ -460,7 +460,7 @@ module _ (t : KeptThread) (index id first gone : ℕ) (take : CanRemoveDirectory
           record {
             pairs = thread_at before_it (x0 ∷ []);
             accepted = f.accepted;
-            writable = profile_same t.disk (disk_with_blocks left t.disk) (thread_at before_it (x0 ∷ [])) refl refl (subst (IsWritableImage t.disk) is_before can.ready.writable);
+            writable = profile_same t.disk (disk_with_blocks left t.disk) (thread_at before_it (x0 ∷ [])) refl refl refl (subst (IsWritableImage t.disk) is_before can.ready.writable);
             tree = inl (f.shows ∙ ap (tree_on_disk t.disk) (sym is_before));
           }
       go (inr z) =

@@ -31,7 +31,7 @@ pub record CanCreateFileInPair (t : KeptThread) (pair id : ℕ) (name : Name) : 
   pub begins : IsPairAtAddress t.pairs at first
   pub belongs : IsPlaceWhereNameBelongs t.disk.order t.pairs first name pair id
   pub is_name : is_valid_name name ≡ true
-  pub fits : IsEntryWithinWritableLimits t.disk.block_size t.disk.page (new_file_slot name)
+  pub fits : IsEntryWithinWritableLimits t.disk.profile t.disk.block_size t.disk.page (new_file_slot name)
   pub logged : IsRawPairContentWellFormed t.disk (thread_pair_at_index t pair).at
 
 -- the tree with the file

@@ -36,7 +36,7 @@ slot_of_editable_entry can = can.stands.stands.slot
 pub record CanSetAttribute (t : KeptThread) (pair id kind : ℕ) (bytes : List ℕ) : Type 0 where
   pub can : CanEditEntryOfPair t pair id
   pub short : length bytes ≤ 1022
-  pub fits : IsEntryWithinWritableLimits t.disk.block_size t.disk.page (record (slot_of_editable_entry can) { attributes = attributes_with_attribute kind bytes (slot_of_editable_entry can).attributes })
+  pub fits : IsEntryWithinWritableLimits t.disk.profile t.disk.block_size t.disk.page (record (slot_of_editable_entry can) { attributes = attributes_with_attribute kind bytes (slot_of_editable_entry can).attributes })
 
 -- the tree with other attributes there
 abbrev pub tree_with_attributes_at : KeptThread → Path → Name → (Attributes → Attributes) → Tree

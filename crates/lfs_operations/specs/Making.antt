@@ -49,7 +49,7 @@ pub record CanMakeDirectoryAt (t : KeptThread) (pair id : ℕ) (name : Name) : T
   pub begins : IsPairAtAddress t.pairs at first
   pub belongs : IsPlaceWhereNameBelongs t.disk.order t.pairs first name pair id
   pub is_name : is_valid_name name ≡ true
-  pub fits : entry_charge_with_longest_inline_contents t.disk.block_size name [] ≤ charged_entry_size_limit_in_pair t.disk.block_size t.disk.page
+  pub fits : entry_charge_with_longest_inline_contents t.disk.profile t.disk.block_size name [] ≤ charged_entry_size_limit_in_pair t.disk.block_size t.disk.page
   pub room : HasSoManyFreeBlocks 4 t.map
 
 -- ---- the two steps

@@ -41,7 +41,7 @@ pub record CanRenameAcrossPairs (t : KeptThread) (old_pair old_id first new_pair
   pub apart : old_pair ≢ new_pair
   pub not_beneath : path_without_prefix (old.path ++ old.name ∷ []) (path ++ name ∷ []) ≡ None
   pub is_name : is_valid_name name ≡ true
-  pub fits : IsEntryWithinWritableLimits t.disk.block_size t.disk.page (record (slot_of_editable_entry old) { name = name })
+  pub fits : IsEntryWithinWritableLimits t.disk.profile t.disk.block_size t.disk.page (record (slot_of_editable_entry old) { name = name })
 
 -- the tree in which what was at the one path is at the other
 abbrev pub tree_with_moved_entry : KeptThread → Path → Name → Path → Name → Tree

@@ -49,7 +49,7 @@ pub record CanReplaceFileAcrossPairs (t : KeptThread) (old_pair old_id first new
   pub logged : IsRawPairContentWellFormed t.disk (thread_pair_at_index t new_pair).at
   pub apart : old_pair ≢ new_pair
   pub not_beneath : path_without_prefix (old.path ++ old.name ∷ []) (path ++ name ∷ []) ≡ None
-  pub fits : IsEntryWithinWritableLimits t.disk.block_size t.disk.page (record (slot_of_editable_entry old) { name = name })
+  pub fits : IsEntryWithinWritableLimits t.disk.profile t.disk.block_size t.disk.page (record (slot_of_editable_entry old) { name = name })
 
 -- The premises of a rename onto an entry of another pair: onto a file, or with `sync` also onto a directory.
 pub record CanReplaceEntryAcrossPairs (t : KeptThread) (sync : Bool) (old_pair old_id first new_pair new_id : ℕ) (name : Name) : Type 0 where
@@ -65,7 +65,7 @@ pub record CanReplaceEntryAcrossPairs (t : KeptThread) (sync : Bool) (old_pair o
   pub logged : IsRawPairContentWellFormed t.disk (thread_pair_at_index t new_pair).at
   pub apart : old_pair ≢ new_pair
   pub not_beneath : path_without_prefix (old.path ++ old.name ∷ []) (path ++ name ∷ []) ≡ None
-  pub fits : IsEntryWithinWritableLimits t.disk.block_size t.disk.page (record (slot_of_editable_entry old) { name = name })
+  pub fits : IsEntryWithinWritableLimits t.disk.profile t.disk.block_size t.disk.page (record (slot_of_editable_entry old) { name = name })
 
 -- The slot was read, a copy of it was put in place of the other one, and then the move ended.
 pub record IsEntryReplacedAcrossPairs (old : KeptThread) (sync : Bool) (old_pair old_id first new_pair new_id : ℕ) (name : Name) (new : KeptThread) : Type 0 where
@@ -101,4 +101,4 @@ pub record CanReplaceDirectoryAcrossPairs (t : KeptThread) (old_pair old_id firs
   pub logged : IsRawPairContentWellFormed t.disk (thread_pair_at_index t new_pair).at
   pub apart : old_pair ≢ new_pair
   pub not_beneath : path_without_prefix (old.path ++ old.name ∷ []) (path ++ name ∷ []) ≡ None
-  pub fits : IsEntryWithinWritableLimits t.disk.block_size t.disk.page (record (slot_of_editable_entry old) { name = name })
+  pub fits : IsEntryWithinWritableLimits t.disk.profile t.disk.block_size t.disk.page (record (slot_of_editable_entry old) { name = name })

@@ -35,7 +35,7 @@ pub record CanRenameWithinPair (t : KeptThread) (pair id place : ℕ) (name : Na
   pub can : CanEditEntryOfPair t pair id
   pub belongs : IsPlaceWhereNameBelongs t.disk.order t.pairs can.first name pair place
   pub is_name : is_valid_name name ≡ true
-  pub fits : IsEntryWithinWritableLimits t.disk.block_size t.disk.page (record (slot_of_editable_entry can) { name = name })
+  pub fits : IsEntryWithinWritableLimits t.disk.profile t.disk.block_size t.disk.page (record (slot_of_editable_entry can) { name = name })
 
 -- both slots are removed, and the entry's is put in at the other's place
 abbrev pub rename_onto_file_in_pair_changes : KeptThread → ℕ → ℕ → ℕ → Name → List PairContentChange
@@ -48,7 +48,7 @@ pub record CanRenameOntoFileInPair (t : KeptThread) (pair id place : ℕ) (name 
   pub target : IsPlaceOfNameInDirectory t.pairs can.first name pair place
   pub file : branch_address_of_struct target.stands.slot.struct ≡ None
   pub differs : name ≢ can.name
-  pub fits : IsEntryWithinWritableLimits t.disk.block_size t.disk.page (record (slot_of_editable_entry can) { name = name })
+  pub fits : IsEntryWithinWritableLimits t.disk.profile t.disk.block_size t.disk.page (record (slot_of_editable_entry can) { name = name })
 
 -- the tree in which what was at the one name is at the other
 abbrev pub tree_with_renamed_entry : KeptThread → Path → Name → Name → Tree

@@ -34,7 +34,7 @@ pub record CanReplaceDirectoryInPair (t : KeptThread) (pair id place : ℕ) (nam
   pub to : ℕ × ℕ
   pub branch : target.stands.slot.struct ≡ Branch to
   pub differs : name ≢ can.name
-  pub fits : IsEntryWithinWritableLimits t.disk.block_size t.disk.page (record (slot_of_editable_entry can) { name = name })
+  pub fits : IsEntryWithinWritableLimits t.disk.profile t.disk.block_size t.disk.page (record (slot_of_editable_entry can) { name = name })
 
 -- The tree has the entry in the directory's place. The image is accepted and in the writing profile, and the sync bit is set.
 -- Only one pair holds something else than before.

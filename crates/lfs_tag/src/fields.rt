@@ -1,16 +1,18 @@
 // The fields of structs, tails and move states: numbers of 32 bits, the lowest byte first.
 
-ghost use Rattle.std.specs.Prelude.{◌≡◌, ◌+◌, ◌≤◌, length};
-ghost use Rattle.lfs_model.specs.Disk.{file_size_limit};
+ghost use Rattle.std.specs.Prelude.{◌≡◌, ◌+◌, ◌≤◌, ◌↔◌, IsTrue, length};
+ghost use Rattle.lfs_model.specs.Disk.{attr_max_of, file_max_of, name_max_of};
 ghost use Rattle.lfs_model.specs.Fresh.{superblock_struct_bytes};
 ghost use Rattle.lfs_model.specs.Slots.{Ctz, pair_address_of_array, zero_gstate};
 ghost use Rattle.lfs_model.specs.EntryTypes.{pair_address_of_bytes, gstate_of_bytes, superblock_fields_of_struct_bytes, ctz_struct_type};
 ghost use Rattle.lfs_model.specs.Content.{struct_of_type_and_bytes};
+ghost use Rattle.lfs_model.specs.Profile.{are_usable_limits, profile_with_limits};
+ghost use Rattle.lfs_model.specs.View.{is_accepted_version};
 ghost use Rattle.lfs_model.specs.WrittenContent.{superblock_fields_bytes, is_zero_gstate};
 ghost use Rattle.lfs_tag.specs.FieldsView.{superblock_view, move_view};
 
 use byteorder::{ByteOrder, LittleEndian};
-use lfs_device::Geometry;
+use lfs_device::{AcceptedVersions, Geometry, Profile};
 
 /// The address that names no block.
 pub const NULL_ADDRESS: u32 = 0xffff_ffff;
@@ -49,38 +51,80 @@ impl Superblock {
     /// The name of the superblock's slot.
     pub const NAME: &'static [u8] = b"littlefs";
 
-    /// Version 2.0.
+    /// Version 2.0, which is written.
     pub const VERSION: u32 = 0x0002_0000;
 
-    /// The longest name that is written, in bytes.
-    pub const NAME_MAX: u32 = 255;
-
-    /// The longest file that is written, in bytes.
-    pub const FILE_MAX: u32 = 2_147_483_647;
-
-    /// The longest attribute that is written, in bytes.
-    pub const ATTR_MAX: u32 = 1022;
+    /// Version 2.1, which is only read.
+    pub const LATER_VERSION: u32 = 0x0002_0001;
 
     /// Returns the superblock's fields for a fresh image: the on-disk version, the device's
-    /// geometry and the limits that are written.
+    /// geometry and the limits of its profile.
     pub fn for_fresh_image(geometry: &Geometry) -> Superblock
         ensures fields { superblock_view result ≡ record {
           version = 0x00020000;
           block_size = geometry.now.block_size;
           block_count = geometry.now.block_count;
-          name_max = 255;
-          file_max = file_size_limit;
-          attr_max = 1022;
+          name_max = name_max_of geometry.now.profile;
+          file_max = file_max_of geometry.now.profile;
+          attr_max = attr_max_of geometry.now.profile;
         } }
-        ensures bytes { superblock_fields_bytes (superblock_view result) ≡ superblock_struct_bytes geometry.now.block_size geometry.now.block_count }
+        ensures bytes { superblock_fields_bytes (superblock_view result) ≡ superblock_struct_bytes geometry.now.profile geometry.now.block_size geometry.now.block_count }
     {
         Superblock {
             version: Superblock::VERSION,
             block_size: geometry.block_size,
             block_count: geometry.block_count,
-            name_max: Superblock::NAME_MAX,
-            file_max: Superblock::FILE_MAX,
-            attr_max: Superblock::ATTR_MAX,
+            name_max: geometry.name_max(),
+            file_max: geometry.file_max(),
+            attr_max: geometry.attr_max(),
+        }
+    }
+
+    /// Returns whether the limits are those that are written on a device of this geometry.
+    pub fn has_limits(&self, geometry: &Geometry) -> bool
+        ensures { IsTrue result ↔ ((self.now.name_max ≡ name_max_of geometry.now.profile) × (self.now.file_max ≡ file_max_of geometry.now.profile) × (self.now.attr_max ≡ attr_max_of geometry.now.profile)) }
+    {
+        self.name_max == geometry.name_max()
+            && self.file_max == geometry.file_max()
+            && self.attr_max == geometry.attr_max()
+    }
+
+    /// Returns whether no limit is 0, or above what an image may have.
+    fn has_usable_limits(&self) -> bool
+        ensures { result ≡ are_usable_limits (superblock_view self.now) }
+    {
+        (1..=255).contains(&self.name_max)
+            && (1..=2_147_483_647).contains(&self.file_max)
+            && (1..=1022).contains(&self.attr_max)
+    }
+
+    /// Returns the profile with the superblock's limits. Where one is 0 or above the format's own,
+    /// the profile stays as it is.
+    pub fn limits_over(&self, profile: Profile) -> Profile
+        ensures { result ≡ profile_with_limits (superblock_view self.now) profile }
+    {
+        if !self.has_usable_limits() {
+            return profile;
+        }
+        Profile {
+            versions: profile.versions,
+            name_max: self.name_max,
+            file_max: self.file_max,
+            attr_max: self.attr_max,
+            inline_max: profile.inline_max,
+            pair_cycles: profile.pair_cycles,
+        }
+    }
+
+    /// Returns whether the version is one of these.
+    pub fn has_accepted_version(&self, versions: AcceptedVersions) -> bool
+        ensures { result ≡ is_accepted_version versions self.now.version }
+    {
+        match versions {
+            AcceptedVersions::OnlyTwoZero => self.version == Superblock::VERSION,
+            AcceptedVersions::AlsoTwoOne => {
+                self.version == Superblock::VERSION || self.version == Superblock::LATER_VERSION
+            }
         }
     }
 }

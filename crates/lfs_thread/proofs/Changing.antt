@@ -205,7 +205,7 @@ module _ (disk : Disk) (before : List DeviceCallEvent) (blocks : Blocks) (after 
     written = record {
       holds = ap (content_of_pair_at left) (ap (λ (p : Pair). p.at) was_pair ∙ sym holds.same) ∙ header_content left after new now_header;
       others = subst (λ (p : Pair). KeepsBlocksOutsidePair p.at disk.blocks blocks) (sym was_pair) others;
-      shape = record { block_size = refl; page = refl; order = refl; count = others.count };
+      shape = record { block_size = refl; page = refl; order = refl; profile = refl; count = others.count };
       first = subst (λ (p : Pair). KeepsSuperblockEntryFirstInLog disk p.at can.content left) (sym was_pair) (λ begins has. commits.first superblock_name_log_entry begins (superblock_anew commits.new can.content commits.logged.slots whole has.0 has.1));
     };
     pairs = changed_pairs;
@@ -274,7 +274,7 @@ left_in_thread disk history hs sets index h changes blocks a kept made_content m
     written c holds first = record {
       holds = ap (λ (p : Pair). content_of_pair_at (record disk { blocks = blocks }) p.at) e ∙ holds;
       others = subst (λ (p : Pair). KeepsBlocksOutsidePair p.at disk.blocks blocks) (sym e) l.others;
-      shape = record { block_size = refl; page = refl; order = refl; count = l.others.count };
+      shape = record { block_size = refl; page = refl; order = refl; profile = refl; count = l.others.count };
       first = subst (λ (p : Pair). KeepsSuperblockEntryFirstInLog disk p.at c (record disk { blocks = blocks })) (sym e) first;
     }
 

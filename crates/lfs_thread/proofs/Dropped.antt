@@ -220,7 +220,7 @@ module _ (disk : Disk) (before : List DeviceCallEvent) (blocks : Blocks) (after 
     written = record {
       holds = ap (content_of_pair_at left) (ap (λ (q : Pair). q.at) was_pair ∙ sym commits.holds.same) ∙ header_content left after new now_header;
       others = subst (λ (q : Pair). KeepsBlocksOutsidePair q.at disk.blocks blocks) (sym was_pair) others;
-      shape = record { block_size = refl; page = refl; order = refl; count = others.count };
+      shape = record { block_size = refl; page = refl; order = refl; profile = refl; count = others.count };
       first = subst (λ (q : Pair). KeepsSuperblockEntryFirstInLog disk q.at can.content left) (sym was_pair) (λ begins has. commits.first superblock_name_log_entry begins (superblock_anew commits.new can.content commits.logged.slots whole has.0 has.1));
     };
     pairs = dropped_pairs;

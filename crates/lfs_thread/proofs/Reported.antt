@@ -43,6 +43,7 @@ module _ {D : Type 0} (g : Ghosts D) (old new : D) (hs now_hs : List PairHeader)
       block_size = ap (λ (k : Geometry). k.block_size) w.geometry;
       page = ap (λ (k : Geometry). k.page) w.geometry;
       order = ap (λ (k : Geometry). k.order) w.geometry;
+      profile = ap (λ (k : Geometry). k.profile) w.geometry;
       count = w.others.count;
     };
     at_worst = w.at_worst;

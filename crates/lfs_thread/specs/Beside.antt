@@ -16,6 +16,7 @@ pub record DiskHasGeometry (geometry : Geometry) (disk : Disk) : Type 0 where
   pub block_size : geometry.block_size ≡ disk.block_size
   pub page : geometry.page ≡ disk.page
   pub order : geometry.order ≡ disk.order
+  pub profile : geometry.profile ≡ disk.profile
   pub count : geometry.block_count ≡ block_count disk
 
 -- work that is called with a device and a map, and returns an X

@@ -30,11 +30,12 @@ complete_content_after_changes t index changes = option_and_then pair_content_if
 
 -- ---- what every step reports
 
--- the new disk has as many blocks and pages of the same sizes, and the same order of names
+-- the new disk has as many blocks and pages of the same sizes, the same order of names, and the same profile
 pub record HasSameGeometry (old new : Disk) : Type 0 where
   pub block_size : new.block_size ≡ old.block_size
   pub page : new.page ≡ old.page
   pub order : new.order ≡ old.order
+  pub profile : new.profile ≡ old.profile
   pub count : block_count new ≡ block_count old
 
 -- No block but these changes. Unprogrammed bytes of other blocks stay so, and a loss of power during the step leaves the other

@@ -5,6 +5,7 @@ use Rattle.std.specs.List.{flat_map}
 use Rattle.std.proofs.lemmas.List.Elements.{All-from_recursion, recursion_from_All}
 use Rattle.std.proofs.lemmas.Option.{slice_get_within}
 use Rattle.lfs_model.specs.Content.{content_of_pair_at, current_block_of_pair_at}
+use Rattle.lfs_model.specs.declared.limits.Profile.{Profile}
 use Rattle.lfs_model.specs.Disk.{Disk, SameGeometry, block_bytes_on_disk}
 use Rattle.lfs_model.specs.Slots.{IsContentFittingPair, Slot}
 use Rattle.lfs_model.specs.Thread.{Pair, blocks_of_pairs, pairs_from_root_directory_on, first_pair_address, pairs_from_first_with_slots, pair_count_before_root}
@@ -25,12 +26,13 @@ use Rattle.lfs_lookup.proofs.Roots.{root_begins}
 pub writable_on : (disk new : Disk) (ps : List Pair) → SameGeometry disk new → IsWritableImage disk ps → IsWritableImage new ps
 writable_on disk new ps g h = record {
   pairs = subst (λ (n : ℕ). All (λ p. IsContentFittingPair n new.page p.content) ps) (sym g.block_size) (subst (λ (n : ℕ). All (λ p. IsContentFittingPair disk.block_size n p.content) ps) (sym g.page) h.pairs);
-  slots = subst (λ (n : ℕ). All (λ p. All (IsSlotWithinWritableLimits n new.page) p.content.slots) ps) (sym g.block_size) (subst (λ (n : ℕ). All (λ p. All (IsSlotWithinWritableLimits disk.block_size n) p.content.slots) ps) (sym g.page) h.slots);
+  slots = subst (λ (x : Profile). All (λ p. All (IsSlotWithinWritableLimits x new.block_size new.page) p.content.slots) ps) (sym g.profile)
+      (subst (λ (n : ℕ). All (λ p. All (IsSlotWithinWritableLimits disk.profile n new.page) p.content.slots) ps) (sym g.block_size) (subst (λ (n : ℕ). All (λ p. All (IsSlotWithinWritableLimits disk.profile disk.block_size n) p.content.slots) ps) (sym g.page) h.slots));
   no_empty_pair = h.no_empty_pair;
 }
 
 pub geometry_back : (disk new : Disk) → SameGeometry disk new → SameGeometry new disk
-geometry_back disk new g = record { block_size = sym g.block_size; page = sym g.page; order = sym g.order; count = sym g.count }
+geometry_back disk new g = record { block_size = sym g.block_size; page = sym g.page; order = sym g.order; profile = sym g.profile; count = sym g.count }
 
 -- pairs of which no block changed
 contents_still : (disk new : Disk) (ps : List Pair) → ((b : ℕ) → 1 ≤ occurrence_count_of_number b (blocks_of_pairs ps) → block_bytes_on_disk new b ≡ block_bytes_on_disk disk b) → Each (λ (p : Pair). content_of_pair_at disk p.at ≡ Some p.content) ps

@@ -1,11 +1,12 @@
 -- Contents of a writer that are written beside an image.
-use Rattle.std.proofs.Common.{ℕ, ◌≡◌, ◌<◌, ◌≤◌, ◌+◌, ◌/◌, ◌∙◌, Bool, true, false, List, length, max, Option, Some, None, Result, Ok, Err, inl, refl, sym, ap, subst, arith}
+use Rattle.std.proofs.Common.{ℕ, ◌≡◌, ◌<◌, ◌≤◌, ◌+◌, ◌/◌, ◌∙◌, Bool, true, false, List, length, min, max, Option, Some, None, Result, Ok, Err, inl, refl, sym, ap, subst, arith}
 use Rattle.std.proofs.Math.Nat.{min-le_right}
 use Rattle.std.specs.Prelude.{Contains, IfErr, IfOk, OnErr, OnOk}
 use Rattle.lfs_device.specs.declared.error.Error.{Error}
 use Rattle.lfs_device.specs.declared.error.Error.TheVariants.{Io}
 use Rattle.lfs_model.specs.TreeEdits.{is_file}
 use Rattle.lfs_model.specs.BlockSets.{AreExactlyTheUsedBlocks, used_count}
+use Rattle.lfs_model.specs.declared.limits.Profile.{Profile}
 use Rattle.lfs_model.specs.Disk.{SameGeometry, block_bytes_on_disk, block_count, inline_limit}
 use Rattle.lfs_model.specs.Session.{DiskSummary}
 use Rattle.lfs_model.specs.SlotEdits.{slot_of_path}
@@ -43,7 +44,7 @@ pub bytes_of_held : (t : KeptThread) (c : WriterContents) (bytes : List ℕ) (sh
 bytes_of_held t c bytes shape h = ap (λ (n : ℕ). writer_contents_bytes_in_memory_or_blocks t.disk.blocks n c) (sym h.divided.block_size) ∙ h.has.has
 
 pub geometry_beside : (a b : KeptThread) → LeavesPairsAndUsedBlocksUnchanged a b → SameGeometry a.disk b.disk
-geometry_beside a b l = record { block_size = l.shape.block_size; page = l.shape.page; order = l.shape.order; count = l.shape.count }
+geometry_beside a b l = record { block_size = l.shape.block_size; page = l.shape.page; order = l.shape.order; profile = l.shape.profile; count = l.shape.count }
 
 module _ (a b : KeptThread) (leaves : LeavesPairsAndUsedBlocksUnchanged a b) (accepted : IsAcceptedImage a.disk a.pairs) (used : AreExactlyTheUsedBlocks a.map (used_blocks a.disk a.pairs)) where
   used_same : (x : ℕ) → Contains (used_blocks a.disk a.pairs) x → block_bytes_on_disk b.disk x ≡ block_bytes_on_disk a.disk x
@@ -92,16 +93,16 @@ sound_beside a b writable leaves s = record {
   size = leaves.map.count ∙ s.size ∙ sym leaves.shape.count;
 }
 
-around_is : (writable : Bool) (block_size page count block_size_now page_now count_now : ℕ) (used used_now : List ℕ) (ps qs : List Pair) → block_size_now ≡ block_size → page_now ≡ page → count_now ≡ count → used_now ≡ used → qs ≡ ps
-    → (let x : DiskSummary = record { writable = writable; block_size = block_size_now; page = page_now; block_count = count_now; used = used_now; gstate = gstate_of_pairs qs } in x)
-    ≡ record { writable = writable; block_size = block_size; page = page; block_count = count; used = used; gstate = gstate_of_pairs ps }
-around_is writable block_size page count block_size_now page_now count_now used used_now ps qs b p c u q = λ i. record { writable = writable; block_size = b i; page = p i; block_count = c i; used = u i; gstate = gstate_of_pairs (q i) }
+around_is : (writable : Bool) (profile profile_now : Profile) (block_size page count block_size_now page_now count_now : ℕ) (used used_now : List ℕ) (ps qs : List Pair) → profile_now ≡ profile → block_size_now ≡ block_size → page_now ≡ page → count_now ≡ count → used_now ≡ used → qs ≡ ps
+    → (let x : DiskSummary = record { writable = writable; profile = profile_now; block_size = block_size_now; page = page_now; block_count = count_now; used = used_now; gstate = gstate_of_pairs qs } in x)
+    ≡ record { writable = writable; profile = profile; block_size = block_size; page = page; block_count = count; used = used; gstate = gstate_of_pairs ps }
+around_is writable profile profile_now block_size page count block_size_now page_now count_now used used_now ps qs f b p c u q = λ i. record { writable = writable; profile = f i; block_size = b i; page = p i; block_count = c i; used = u i; gstate = gstate_of_pairs (q i) }
 
 -- a disk of which no used block changed
 pub left_beside : (t : KeptThread) (blocks : Blocks) {after : Tree} → IsAcceptedImage t.disk t.pairs → IsWritableImage t.disk t.pairs → AreExactlyTheUsedBlocks t.map (used_blocks t.disk t.pairs) → KeepsBytesOfUsedBlocks t.map t.disk.blocks blocks
     → HasTreeBeforeOrAfterOperation (disk_with_blocks blocks t.disk) (tree_on_disk t.disk t.pairs) after
 left_beside t blocks accepted fits used spared =
-    let same : SameGeometry t.disk (disk_with_blocks blocks t.disk) = record { block_size = refl; page = refl; order = refl; count = spared.count } in
+    let same : SameGeometry t.disk (disk_with_blocks blocks t.disk) = record { block_size = refl; page = refl; order = refl; profile = refl; count = spared.count } in
     let f = still_follows t.disk (disk_with_blocks blocks t.disk) t.pairs accepted same (λ x has. spared.same x ((used x).1 has)) in
     record { pairs = t.pairs; accepted = f.accepted; writable = writable_on t.disk (disk_with_blocks blocks t.disk) t.pairs same fits; tree = inl f.shows }
 
@@ -123,7 +124,7 @@ module _ (a b : ThreadView) (root : ℕ) (writable : Bool) (h : IsSoundThreadWit
         writable = refl;
         pairs = leaves.pairs;
         shows = tree_beside a.kept b.kept leaves sound.accepted sound.used;
-        around = around_is writable _ _ _ _ _ _ _ _ a.kept.pairs b.kept.pairs leaves.shape.block_size leaves.shape.page leaves.shape.count (used_blocks_beside a.kept b.kept leaves sound.accepted sound.used) leaves.pairs;
+        around = around_is writable _ _ _ _ _ _ _ _ _ _ a.kept.pairs b.kept.pairs leaves.shape.profile leaves.shape.block_size leaves.shape.page leaves.shape.count (used_blocks_beside a.kept b.kept leaves sound.accepted sound.used) leaves.pairs;
         stay = used_same a.kept b.kept leaves sound.accepted sound.used;
         geometry = geometry_beside a.kept b.kept leaves;
         calls = leaves.at_worst.events;
@@ -168,10 +169,13 @@ module _ (a b : ThreadView) (root : ℕ) (writable : Bool) (h : IsSoundThreadWit
 
 -- ---- what is asked for, on the thread
 
-limit_short : (block_size limit : ℕ) → 1024 ≤ block_size → limit ≡ inline_limit block_size → limit < block_size
-limit_short block_size limit large e = let m = min-le_right (block_size / 8) 1022 in omega arith
+limit_short : (profile : Profile) (block_size limit : ℕ) → 1024 ≤ block_size → limit ≡ inline_limit profile block_size → limit < block_size
+limit_short profile block_size limit large e =
+    let m = min-le_right profile.inline_max (min (block_size / 8) 1022) in
+    let n = min-le_right (block_size / 8) 1022 in
+    omega arith
 
-module _ (t : KeptThread) (writable : Bool) (limit : ℕ) (sound : IsSoundTreeState (tree_state_of_kept_thread t writable false)) (large : 1024 ≤ t.disk.block_size) (is : limit ≡ inline_limit t.disk.block_size) where
+module _ (t : KeptThread) (writable : Bool) (limit : ℕ) (sound : IsSoundTreeState (tree_state_of_kept_thread t writable false)) (large : 1024 ≤ t.disk.block_size) (is : limit ≡ inline_limit t.disk.profile t.disk.block_size) where
   room_is : (need : ℕ) → length (used_blocks t.disk t.pairs) + need ≤ block_count t.disk → used_count t.map + need ≤ length t.map
   room_is need room = let e = count_is (tree_state_of_kept_thread t writable false) sound in let s = sound.size in omega arith
 
@@ -180,7 +184,7 @@ module _ (t : KeptThread) (writable : Bool) (limit : ℕ) (sound : IsSoundTreeSt
     stands = can.stands;
     fits = record {
       large = subst (λ (n : ℕ). ExceedsInlineLimitIfInFlight n (storage_form_of_contents contents)) (sym is) can.large;
-      short = limit_short t.disk.block_size limit large is;
+      short = limit_short t.disk.profile t.disk.block_size limit large is;
       some = can.some;
       small = can.small;
       room = λ past. room_is (block_room_for_write t.disk.block_size place count (storage_form_of_contents contents)) (can.room (subst (λ n. n < max (contents_size_of_storage_form (storage_form_of_contents contents)) (place + count)) is past));
@@ -192,7 +196,7 @@ module _ (t : KeptThread) (writable : Bool) (limit : ℕ) (sound : IsSoundTreeSt
     stands = can.stands;
     fits = record {
       large = subst (λ (n : ℕ). ExceedsInlineLimitIfInFlight n (storage_form_of_contents contents)) (sym is) can.large;
-      short = limit_short t.disk.block_size limit large is;
+      short = limit_short t.disk.profile t.disk.block_size limit large is;
       small = can.small;
       room = λ needs. room_is (block_room_for_truncation t.disk.block_size size (storage_form_of_contents contents)) (can.room (subst (λ (n : ℕ). NeedsRoomToTruncate n size (storage_form_of_contents contents)) is needs));
     };

@@ -100,7 +100,7 @@ apart_listed t bs accepted used each path b has = All-from_recursion (λ c. c �
 pub keeps_writing : (a c : KeptThread) (bs : List ℕ) → IsAcceptedImage a.disk a.pairs → AreExactlyTheUsedBlocks a.map (used_blocks a.disk a.pairs) → AllByRecursion (IsPairsOrFree a) bs → ThreadChangesOnlyTheseBlocks bs a c
     → (path : Path) → is_file (tree_on_disk a.disk a.pairs path) ≡ true → struct_of_path c.pairs path ≡ struct_of_path a.pairs path → KeepsFileAtPath a c path
 keeps_writing a c bs accepted used each w path file same =
-    keeps_by a c path file same (record { block_size = w.shape.block_size; page = w.shape.page; order = w.shape.order; count = w.shape.count }) (λ b has. w.others.others b (apart_listed a bs accepted used each path b has))
+    keeps_by a c path file same (record { block_size = w.shape.block_size; page = w.shape.page; order = w.shape.order; profile = w.shape.profile; count = w.shape.count }) (λ b has. w.others.others b (apart_listed a bs accepted used each path b has))
 
 -- ---- the lists of all files
 
@@ -163,7 +163,7 @@ carried a h op c w other asks = record {
   works = refl;
   sound = record { accepted = w.ready.accepted; fits = λ e. w.ready.writable; is_kept = λ k. refl; used = w.ready.used; size = w.ready.size };
   writable = refl;
-  geometry = record { block_size = wrote.shape.block_size; page = wrote.shape.page; order = wrote.shape.order; count = wrote.shape.count };
+  geometry = record { block_size = wrote.shape.block_size; page = wrote.shape.page; order = wrote.shape.order; profile = wrote.shape.profile; count = wrote.shape.count };
   calls = wrote.at_worst.events ++ w.reads.events;
   called = wrote.at_worst.extends ∙ ap (λ z. wrote.at_worst.events ++ z) w.reads.extends ∙ sym (append_assoc wrote.at_worst.events w.reads.events a.history);
   no_fault = w.no_fault;

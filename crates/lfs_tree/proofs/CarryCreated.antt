@@ -35,6 +35,7 @@ use Rattle.lfs_tree.specs.Calls as call
 use Rattle.lfs_tree.specs.Calls.{tree_after_call}
 use Rattle.lfs_tree.specs.TreeChanges.{AppliesOperationOnThread, HasAppliedCall, CanChangeRecoveredImage, AppliesCallOnThreadOrFails, IsSpotForNewName, IsVacantPath, HasSoundImageOfTree, SurvivesWithOldOrNewTree}
 use Rattle.lfs_tree.specs.RootedThreads.{tree_state_of_kept_thread}
+use Rattle.lfs_tree.specs.TreeState.{disk_summary_of_tree}
 use Rattle.lfs_lookup.specs.declared.search.SlotPosition.{SlotPosition}
 use Rattle.lfs_tree.proofs.Carried.{among_one, among_two, behind_below, carried, with_history}
 use Rattle.lfs_tree.proofs.CarryLogged.{logged_there}
@@ -76,10 +77,10 @@ module _ (t : ThreadView) (root : ℕ) (rests : CanChangeRecoveredImage t root) 
       none (x ∷ xs) k = absurd (cc)
 
   named : is_valid_name name ≡ true
-  named = subst (λ n. is_valid_name n ≡ true) name_is (last_is_name path has_some components can.name)
+  named = subst (λ n. is_valid_name n ≡ true) name_is (last_is_name (disk_summary_of_tree (tree_state_of_kept_thread t.kept true false)) path has_some components can.name)
 
-  fits : entry_charge_with_longest_inline_contents t.kept.disk.block_size name [] ≤ charged_entry_size_limit_in_pair t.kept.disk.block_size t.kept.disk.page
-  fits = subst (λ n. entry_charge_with_longest_inline_contents t.kept.disk.block_size n [] ≤ charged_entry_size_limit_in_pair t.kept.disk.block_size t.kept.disk.page) name_is (ltb-false _ _ can.fits)
+  fits : entry_charge_with_longest_inline_contents t.kept.disk.profile t.kept.disk.block_size name [] ≤ charged_entry_size_limit_in_pair t.kept.disk.block_size t.kept.disk.page
+  fits = subst (λ n. entry_charge_with_longest_inline_contents t.kept.disk.profile t.kept.disk.block_size n [] ≤ charged_entry_size_limit_in_pair t.kept.disk.block_size t.kept.disk.page) name_is (ltb-false _ _ can.fits)
 
   pub can_create : CanCreateFileInPair (with_history t.kept h) spot.pair spot.id name
   can_create = record {

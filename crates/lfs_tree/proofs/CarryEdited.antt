@@ -118,9 +118,9 @@ module _ (t : ThreadView) (root : ℕ) (rests : CanChangeRecoveredImage t root) 
   name_is = ap last_name_of_path slot.is ∙ last_is slot.above slot.name ∙ sym slot.stands.stands.stands.named
 
   abbrev Fit : Slot → Type 0
-  Fit s = IsSlotWithinWritableLimits t.kept.disk.block_size t.kept.disk.page s
+  Fit s = IsSlotWithinWritableLimits t.kept.disk.profile t.kept.disk.block_size t.kept.disk.page s
 
-  pub inline_fits : HasInlineBytesWithinLimit (inline_limit t.kept.disk.block_size) found_slot.struct
+  pub inline_fits : HasInlineBytesWithinLimit (inline_limit t.kept.disk.profile t.kept.disk.block_size) found_slot.struct
   inline_fits =
       let place = slot.stands.stands.place in
       let stands = slot.stands.stands.stands in
@@ -137,8 +137,8 @@ module _ (t : ThreadView) (root : ℕ) (rests : CanChangeRecoveredImage t root) 
     can = can_edit;
     short = can.len;
     fits = record {
-      charge = subst (λ n. entry_charge_with_longest_inline_contents t.kept.disk.block_size n (attributes_with_attribute kind given found_slot.attributes) ≤ charged_entry_size_limit_in_pair t.kept.disk.block_size t.kept.disk.page) name_is
-          (subst (λ a. entry_charge_with_longest_inline_contents t.kept.disk.block_size (last_name_of_path path) (attributes_with_attribute kind given a) ≤ charged_entry_size_limit_in_pair t.kept.disk.block_size t.kept.disk.page) attributes_are (ltb-false _ _ can.fits));
+      charge = subst (λ n. entry_charge_with_longest_inline_contents t.kept.disk.profile t.kept.disk.block_size n (attributes_with_attribute kind given found_slot.attributes) ≤ charged_entry_size_limit_in_pair t.kept.disk.block_size t.kept.disk.page) name_is
+          (subst (λ a. entry_charge_with_longest_inline_contents t.kept.disk.profile t.kept.disk.block_size (last_name_of_path path) (attributes_with_attribute kind given a) ≤ charged_entry_size_limit_in_pair t.kept.disk.block_size t.kept.disk.page) attributes_are (ltb-false _ _ can.fits));
       inline = inline_fits;
     };
   }

@@ -111,7 +111,7 @@ file_writes old new index id first can w = record {
 }
 
 pub shape_geometry : (old new : KeptThread) → HasSameGeometry old.disk new.disk → SameGeometry old.disk new.disk
-shape_geometry old new s = record { block_size = s.block_size; page = s.page; order = s.order; count = s.count }
+shape_geometry old new s = record { block_size = s.block_size; page = s.page; order = s.order; profile = s.profile; count = s.count }
 
 -- the written blocks aren't the file's
 pub files_stay : (old mid : KeptThread) (index id first : ℕ) (can : CanEditEntryOfPair old index id) → ThreadChangesOnlyTheseBlocks (blocks_of_pair_address (pair_address_written_by_removal old index first)) old mid → HasSameFileBlocksOfStructOnDisks old.disk mid.disk (slot_of_editable_entry can).struct

@@ -1,14 +1,16 @@
 -- What the checks of an operation have shown, as its steps ask for it.
-use Rattle.std.proofs.Common.{ℕ, ◌≡◌, ◌≢◌, ◌<◌, ◌≤◌, ◌∙◌, ◌&&◌, Bool, true, false, zero, suc, [], ◌∷◌, length, Some, refl, sym, ap₂, subst, arith, set, length-set}
+use Rattle.std.proofs.Common.{ℕ, ◌≡◌, ◌≢◌, ◌<◌, ◌∙◌, ◌&&◌, Bool, true, false, zero, suc, [], ◌∷◌, length, Some, refl, sym, ap₂, subst, arith, set, length-set}
 use Rattle.std.specs.Prelude.{slice_get}
 use Rattle.std.specs.List.{list_all}
+use Rattle.std.proofs.Math.Nat.{min-le_right}
 use Rattle.std.proofs.lemmas.Bool.{le-leb, ltb-false}
 use Rattle.std.proofs.lemmas.Option.{same_Some}
 use Rattle.lfs_model.specs.TreeEdits.{last_name_of_path}
 use Rattle.lfs_model.specs.BlockSets.{BlockStateList, IsBlockFree, is_block_state_in_flight, is_used}
 use Rattle.lfs_model.specs.BlockSets.BlockState.{Free, InFlight}
 use Rattle.lfs_model.specs.Names.{is_path_component, is_valid_name}
-use Rattle.lfs_model.specs.Session.{has_too_long_last_name}
+use Rattle.lfs_model.specs.Disk.{name_max_of}
+use Rattle.lfs_model.specs.Session.{DiskSummary, has_too_long_last_name}
 use Rattle.lfs_model.specs.Tree.{Path}
 use Rattle.lfs_model.proofs.BlockSets.{count_by-set, counts_from_none_free, slice_get-set_other, slice_get-set_same, used_count-AreExactlyTheUsedBlocks}
 use Rattle.lfs_operations.specs.Changing.{AreTwoFreeBlocks, HasTwoFreeBlocks}
@@ -68,7 +70,9 @@ last_component (n ∷ m ∷ path) some all = last_component (m ∷ path) (λ e. 
     behind true y e = e
     behind false y e = absurd (cc)
 
-pub last_is_name : (path : Path) → path ≢ [] → list_all is_path_component path ≡ true → has_too_long_last_name path ≡ false → is_valid_name (last_name_of_path path) ≡ true
-last_is_name path some all long =
+pub last_is_name : (around : DiskSummary) (path : Path) → path ≢ [] → list_all is_path_component path ≡ true → has_too_long_last_name around path ≡ false → is_valid_name (last_name_of_path path) ≡ true
+last_is_name around path some all long =
     let n = length (last_name_of_path path) in
-    ap₂ (λ x y. x && y) (last_component path some all) (le-leb n 255 (ltb-false 255 n long))
+    let short = ltb-false (name_max_of around.profile) n long in
+    let most = min-le_right around.profile.name_max 255 in
+    ap₂ (λ x y. x && y) (last_component path some all) (le-leb n 255 (omega arith))

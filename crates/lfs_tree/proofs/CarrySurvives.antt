@@ -34,7 +34,7 @@ survives_left t c h after geometry since accepted fits shows reads k =
     (record { pairs = c.pairs; accepted = accepted; writable = fits; tree = inr shows })))
   where
     same_disk : (disk new : Disk) → SameGeometry disk new → disk_with_blocks new.blocks disk ≡ new
-    same_disk disk new g = λ j. record { block_size = sym g.block_size j; page = sym g.page j; order = sym g.order j; blocks = new.blocks }
+    same_disk disk new g = λ j. record { block_size = sym g.block_size j; page = sym g.page j; order = sym g.order j; profile = sym g.profile j; blocks = new.blocks }
 
 -- the tree with an empty file, where nothing was
 pub created_shows : (t : Tree) (p q : Path) → q ≡ p → is_some (t p) ≡ false → (if is_none (t q) then tree_after_creation q (FileNode [] []) t else t) ≡ tree_after_creation p (FileNode [] []) t

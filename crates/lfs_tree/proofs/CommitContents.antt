@@ -99,10 +99,10 @@ module _ (t : KeptThread) (path : Path) (u : Slot) (ok : IsAcceptedImage t.disk 
   size_of_list : (s : StoredList) (limit : ℕ) → limit < s.size → AreContentsConsistentWithThread t (Finished s) → s.size ≡ length (bytes_of_writer_contents t (Finished s))
   size_of_list s limit large stands = sym (sized s.head s.size (⊎_elim (λ none. absurd (omega arith)) (λ list. list) (stored_of s stands).base))
 
-  pub may_come : (c : WriterContents) → AreWriterContentsOverFileOnThread t path c → IsFinishedAndInlineExactlyUpToLimit (inline_limit t.disk.block_size) (storage_form_of_contents c) → IsStructOfContentsWithNewBlocksInFlight t (bytes_of_writer_contents t c) u.struct (struct_of_finished_contents c)
+  pub may_come : (c : WriterContents) → AreWriterContentsOverFileOnThread t path c → IsFinishedAndInlineExactlyUpToLimit (inline_limit t.disk.profile t.disk.block_size) (storage_form_of_contents c) → IsStructOfContentsWithNewBlocksInFlight t (bytes_of_writer_contents t c) u.struct (struct_of_finished_contents c)
   may_come (InMemory list) over few = inline_comes t (bytes_of_writer_contents t (InMemory list)) u.struct few
   may_come (Finished s) over large =
-      let size = size_of_list s (inline_limit t.disk.block_size) large over.stands in
+      let size = size_of_list s (inline_limit t.disk.profile t.disk.block_size) large over.stands in
       list_comes t s (bytes_of_writer_contents t (Finished s)) (storage_form_of_contents (Finished s)) u.struct
       (record {
         geometry = over.stands.geometry;
@@ -114,18 +114,18 @@ module _ (t : KeptThread) (path : Path) (u : Slot) (ok : IsAcceptedImage t.disk 
   may_come (InHand hand) over never = absurd never
 
   -- blocks in flight are those of the contents
-  pub flying_in : (c : WriterContents) → AreWriterContentsOverFileOnThread t path c → IsFinishedAndInlineExactlyUpToLimit (inline_limit t.disk.block_size) (storage_form_of_contents c) → (b : ℕ) → IsBlockInFlight t.map b → Contains (skip_list_blocks_of_struct t.disk (struct_of_finished_contents c)) b
+  pub flying_in : (c : WriterContents) → AreWriterContentsOverFileOnThread t path c → IsFinishedAndInlineExactlyUpToLimit (inline_limit t.disk.profile t.disk.block_size) (storage_form_of_contents c) → (b : ℕ) → IsBlockInFlight t.map b → Contains (skip_list_blocks_of_struct t.disk (struct_of_finished_contents c)) b
   flying_in (InMemory list) over few b flies = absurd (over.stands.stands.idle.none b flies)
   flying_in (Finished s) over large b flies = ((stored_of s over.stands).flying b flies).1
   flying_in (InHand hand) over never b flies = absurd never
 
   -- none of these is free, or a pair's
-  pub coming_taken : (c : WriterContents) → AreWriterContentsOverFileOnThread t path c → IsFinishedAndInlineExactlyUpToLimit (inline_limit t.disk.block_size) (storage_form_of_contents c) → (b : ℕ) → 1 ≤ occurrence_count_of_number b (skip_list_blocks_of_struct t.disk (struct_of_finished_contents c)) → IsBlockFree t.map b → ⊥
+  pub coming_taken : (c : WriterContents) → AreWriterContentsOverFileOnThread t path c → IsFinishedAndInlineExactlyUpToLimit (inline_limit t.disk.profile t.disk.block_size) (storage_form_of_contents c) → (b : ℕ) → 1 ≤ occurrence_count_of_number b (skip_list_blocks_of_struct t.disk (struct_of_finished_contents c)) → IsBlockFree t.map b → ⊥
   coming_taken (InMemory list) over few b some = absurd (omega arith)
   coming_taken (Finished s) over large b some = All-contains (λ x. ¬ (IsBlockFree t.map x)) (blocks_of_list_on_thread t s) b (stored_of s over.stands).marked (Contains-occurrence_count_of_number (blocks_of_list_on_thread t s) b some)
   coming_taken (InHand hand) over never b some = absurd never
 
-  pub coming_apart : (c : WriterContents) → AreWriterContentsOverFileOnThread t path c → IsFinishedAndInlineExactlyUpToLimit (inline_limit t.disk.block_size) (storage_form_of_contents c) → (b : ℕ) → 1 ≤ occurrence_count_of_number b (skip_list_blocks_of_struct t.disk (struct_of_finished_contents c)) → occurrence_count_of_number b (blocks_of_pairs t.pairs) ≡ 0
+  pub coming_apart : (c : WriterContents) → AreWriterContentsOverFileOnThread t path c → IsFinishedAndInlineExactlyUpToLimit (inline_limit t.disk.profile t.disk.block_size) (storage_form_of_contents c) → (b : ℕ) → 1 ≤ occurrence_count_of_number b (skip_list_blocks_of_struct t.disk (struct_of_finished_contents c)) → occurrence_count_of_number b (blocks_of_pairs t.pairs) ≡ 0
   coming_apart (InMemory list) over few b some = absurd (omega arith)
   coming_apart (Finished s) over large b some = ⊎_elim
       (λ is. absurd (
@@ -138,15 +138,15 @@ module _ (t : KeptThread) (path : Path) (u : Slot) (ok : IsAcceptedImage t.disk 
       (cases_lt 0 (occurrence_count_of_number b (blocks_of_pairs t.pairs)))
   coming_apart (InHand hand) over never b some = absurd never
 
-  list_room : (c : WriterContents) → AreWriterContentsOverFileOnThread t path c → IsFinishedAndInlineExactlyUpToLimit (inline_limit t.disk.block_size) (storage_form_of_contents c) → in_flight_block_count t.map ≤ skip_list_block_count_unless_inline t.disk.block_size (length (bytes_of_writer_contents t c))
+  list_room : (c : WriterContents) → AreWriterContentsOverFileOnThread t path c → IsFinishedAndInlineExactlyUpToLimit (inline_limit t.disk.profile t.disk.block_size) (storage_form_of_contents c) → in_flight_block_count t.map ≤ skip_list_block_count_unless_inline t.disk.profile t.disk.block_size (length (bytes_of_writer_contents t c))
   list_room (InMemory list) over few = let e = no_flight t.map (λ b. over.stands.stands.idle.none b) in omega arith
   list_room (Finished s) over large =
-      let size = size_of_list s (inline_limit t.disk.block_size) large over.stands in
+      let size = size_of_list s (inline_limit t.disk.profile t.disk.block_size) large over.stands in
       let few = few_flying (blocks_of_list_on_thread t s) t.map (λ b flies. ((stored_of s over.stands).flying b flies).1) in
       let l = length_back t.disk.blocks (list_block_count_for_size t.disk.block_size s.size) s.head in
-      let k : skip_list_block_count_unless_inline t.disk.block_size s.size ≡ list_block_count_for_size t.disk.block_size s.size
-      = ap (λ b. cond b 0 (list_block_count_for_size t.disk.block_size s.size)) (past s.size (inline_limit t.disk.block_size) large) in
-      let m = ap (skip_list_block_count_unless_inline t.disk.block_size) size in
+      let k : skip_list_block_count_unless_inline t.disk.profile t.disk.block_size s.size ≡ list_block_count_for_size t.disk.block_size s.size
+      = ap (λ b. cond b 0 (list_block_count_for_size t.disk.block_size s.size)) (past s.size (inline_limit t.disk.profile t.disk.block_size) large) in
+      let m = ap (skip_list_block_count_unless_inline t.disk.profile t.disk.block_size) size in
       omega arith
     where
       past : (n limit : ℕ) → limit < n → nat_le n limit ≡ false

@@ -95,16 +95,16 @@ marked_both n now last is_free few e free marked =
 -- ---- the pair
 
 -- what the superblock's changes make of nothing
-made : (disk : Disk) → raw_pair_content_after_changes empty_raw_pair_content (superblock_slot_changes (superblock_struct_bytes disk.block_size (block_count disk))) ≡ Some (content_with_superblock_only disk)
+made : (disk : Disk) → raw_pair_content_after_changes empty_raw_pair_content (superblock_slot_changes (superblock_struct_bytes disk.profile disk.block_size (block_count disk))) ≡ Some (content_with_superblock_only disk)
 made disk = refl
 
-completes : (disk : Disk) → pair_content_if_slots_complete (content_with_superblock_only disk) ≡ Some (content_of_fresh_disk disk.block_size (block_count disk))
+completes : (disk : Disk) → pair_content_if_slots_complete (content_with_superblock_only disk) ≡ Some (content_of_fresh_disk disk.profile disk.block_size (block_count disk))
 completes disk = refl
 
 address : (disk : Disk) → 2 ≤ block_count disk → IsPairAddressOnDisk disk anchor_pair_address
 address disk few = record { apart = λ e. absurd (omega (arith, e)); first = omega (arith, few); second = omega (arith, few) }
 
-can_be_fresh : (disk : Disk) → IsValidGeometry disk.block_size disk.page (block_count disk) → pair.CanWriteFreshPair disk anchor_pair_address (superblock_slot_changes (superblock_struct_bytes disk.block_size (block_count disk)))
+can_be_fresh : (disk : Disk) → IsValidGeometry disk.block_size disk.page (block_count disk) → pair.CanWriteFreshPair disk anchor_pair_address (superblock_slot_changes (superblock_struct_bytes disk.profile disk.block_size (block_count disk)))
 can_be_fresh disk g = record {
   address = address disk g.no_fewer;
   new = content_with_superblock_only disk;
@@ -119,7 +119,7 @@ holder_first a b first second =
     ap₂ (λ p q. cond (not p) (cond q (Some b) None) (cond (q && is_later_revision (revision_of_block a) (revision_of_block b)) (Some b) (Some a))) first second
 
 module _ (disk : Disk) (before history : List DeviceCallEvent) (h : PairHeader) (g : IsValidGeometry disk.block_size disk.page (block_count disk))
-    (is : pair.IsFreshPair before (superblock_slot_changes (superblock_struct_bytes disk.block_size (block_count disk))) disk history anchor_pair_address h) where
+    (is : pair.IsFreshPair before (superblock_slot_changes (superblock_struct_bytes disk.profile disk.block_size (block_count disk))) disk history anchor_pair_address h) where
   new_is : is.new ≡ content_with_superblock_only disk
   new_is = same_Some is.new (content_with_superblock_only disk) (sym is.made ∙ made disk)
 
@@ -136,7 +136,7 @@ module _ (disk : Disk) (before history : List DeviceCallEvent) (h : PairHeader) 
       held = is.new;
       is_pair = is.holds.is_pair;
       raw = ap (raw_content_of_pair_at disk) is.holds.same ∙ is.holds.content;
-      content = content_of_fresh_disk disk.block_size (block_count disk);
+      content = content_of_fresh_disk disk.profile disk.block_size (block_count disk);
       complete = ap pair_content_if_slots_complete new_is ∙ completes disk;
     };
     at = is.holds.same;
@@ -152,24 +152,24 @@ module _ (disk : Disk) (before history : List DeviceCallEvent) (h : PairHeader) 
 -- ---- of a device
 
 -- the changes are those of a disk of that geometry
-changes_are : (k : Geometry) (n : ℕ) (changes : List PairContentChange) (bytes fields : List ℕ) → n ≡ k.block_count → changes ≡ superblock_slot_changes bytes → bytes ≡ fields → fields ≡ superblock_struct_bytes k.block_size k.block_count
-    → changes ≡ superblock_slot_changes (superblock_struct_bytes k.block_size n)
-changes_are k n changes bytes fields count e f b = e ∙ ap superblock_slot_changes (f ∙ b ∙ ap (superblock_struct_bytes k.block_size) (sym count))
+changes_are : (k : Geometry) (n : ℕ) (changes : List PairContentChange) (bytes fields : List ℕ) → n ≡ k.block_count → changes ≡ superblock_slot_changes bytes → bytes ≡ fields → fields ≡ superblock_struct_bytes k.profile k.block_size k.block_count
+    → changes ≡ superblock_slot_changes (superblock_struct_bytes k.profile k.block_size n)
+changes_are k n changes bytes fields count e f b = e ∙ ap superblock_slot_changes (f ∙ b ∙ ap (superblock_struct_bytes k.profile k.block_size) (sym count))
 
 geometry_is : (k : Geometry) (blocks : Blocks) → length blocks ≡ k.block_count → IsValidGeometry k.block_size k.page (length blocks)
 geometry_is k blocks count = subst (IsValidGeometry k.block_size k.page) (sym count) k.valid
 
 pub can_root : (k asked : Geometry) (blocks : Blocks) (changes : List PairContentChange) (bytes fields : List ℕ) → length blocks ≡ k.block_count → asked ≡ k → changes ≡ superblock_slot_changes bytes → bytes ≡ fields
-    → fields ≡ superblock_struct_bytes asked.block_size asked.block_count → pair.CanWriteFreshPair (disk_of_geometry_and_blocks k blocks) anchor_pair_address changes
+    → fields ≡ superblock_struct_bytes asked.profile asked.block_size asked.block_count → pair.CanWriteFreshPair (disk_of_geometry_and_blocks k blocks) anchor_pair_address changes
 can_root k asked blocks changes bytes fields count same e f b =
-    subst (pair.CanWriteFreshPair (disk_of_geometry_and_blocks k blocks) anchor_pair_address) (sym (changes_are k (length blocks) changes bytes fields count e f (b ∙ ap (λ (j : Geometry). superblock_struct_bytes j.block_size j.block_count) same)))
+    subst (pair.CanWriteFreshPair (disk_of_geometry_and_blocks k blocks) anchor_pair_address) (sym (changes_are k (length blocks) changes bytes fields count e f (b ∙ ap (λ (j : Geometry). superblock_struct_bytes j.profile j.block_size j.block_count) same)))
     (can_be_fresh (disk_of_geometry_and_blocks k blocks) (geometry_is k blocks count))
 
 pub device_root : (k asked : Geometry) (blocks : Blocks) (before history : List DeviceCallEvent) (h : PairHeader) (changes : List PairContentChange) (bytes fields : List ℕ) → length blocks ≡ k.block_count → asked ≡ k → changes ≡ superblock_slot_changes bytes → bytes ≡ fields
-    → fields ≡ superblock_struct_bytes asked.block_size asked.block_count → pair.IsFreshPair before changes (disk_of_geometry_and_blocks k blocks) history anchor_pair_address h → IsHeaderOfEmptyRoot (disk_of_geometry_and_blocks k blocks) history h
+    → fields ≡ superblock_struct_bytes asked.profile asked.block_size asked.block_count → pair.IsFreshPair before changes (disk_of_geometry_and_blocks k blocks) history anchor_pair_address h → IsHeaderOfEmptyRoot (disk_of_geometry_and_blocks k blocks) history h
 device_root k asked blocks before history h changes bytes fields count same e f b is =
     is_root (disk_of_geometry_and_blocks k blocks) before history h (geometry_is k blocks count)
-    (subst (λ z. pair.IsFreshPair before z (disk_of_geometry_and_blocks k blocks) history anchor_pair_address h) (changes_are k (length blocks) changes bytes fields count e f (b ∙ ap (λ (j : Geometry). superblock_struct_bytes j.block_size j.block_count) same)) is)
+    (subst (λ z. pair.IsFreshPair before z (disk_of_geometry_and_blocks k blocks) history anchor_pair_address h) (changes_are k (length blocks) changes bytes fields count e f (b ∙ ap (λ (j : Geometry). superblock_struct_bytes j.profile j.block_size j.block_count) same)) is)
 
 -- ---- what is kept
 
@@ -222,6 +222,7 @@ wrote g hs sets bs w = record {
     block_size = ap (λ (k : Geometry). k.block_size) w.geometry;
     page = ap (λ (k : Geometry). k.page) w.geometry;
     order = ap (λ (k : Geometry). k.order) w.geometry;
+    profile = ap (λ (k : Geometry). k.profile) w.geometry;
     count = w.others.count;
   };
   at_worst = w.at_worst;

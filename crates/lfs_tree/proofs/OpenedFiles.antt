@@ -155,12 +155,12 @@ module _ (t : KeptThread) (h : List DeviceCallEvent) (path : Path) (slot : SlotP
         go (Ok c) o = bytes_of_held (with_history t now) c (file_bytes_of_struct t.disk f.held.struct) (form_of_opened_storage contents) o.holds ∙ f.bytes
 
 -- contents as they are opened
-pub form_opened : (t : KeptThread) (path : Path) (slot : SlotPosition) (contents : FileStorage) (f : IsFileOf t path slot contents) → HasInlineBytesWithinLimit (inline_limit t.disk.block_size) f.held.struct → SizedLists t.disk → (shape : ContentsStorageForm) → shape ≡ form_of_opened_storage contents
-    → IsFormOfOpenedContents t.disk.block_size (length (file_bytes_of_node (tree_on_disk t.disk t.pairs path))) shape
+pub form_opened : (t : KeptThread) (path : Path) (slot : SlotPosition) (contents : FileStorage) (f : IsFileOf t path slot contents) → HasInlineBytesWithinLimit (inline_limit t.disk.profile t.disk.block_size) f.held.struct → SizedLists t.disk → (shape : ContentsStorageForm) → shape ≡ form_of_opened_storage contents
+    → IsFormOfOpenedContents t.disk.profile t.disk.block_size (length (file_bytes_of_node (tree_on_disk t.disk t.pairs path))) shape
 form_opened t path slot (entry.Inline len) f few sized shape e =
     let k = f.file.shows in
     let l : len ≡ length (file_bytes_of_node (tree_on_disk t.disk t.pairs path)) = sym k.1.1.0 ∙ sym (ap (λ z. length (file_bytes_of_struct t.disk z)) k.1.0) ∙ ap length f.bytes in
-    let m : length k.0 ≤ inline_limit t.disk.block_size = subst (HasInlineBytesWithinLimit (inline_limit t.disk.block_size)) k.1.0 few in
+    let m : length k.0 ≤ inline_limit t.disk.profile t.disk.block_size = subst (HasInlineBytesWithinLimit (inline_limit t.disk.profile t.disk.block_size)) k.1.0 few in
     let n = k.1.1.0 in
     inl (e ∙ ap (λ n. form.InMemory n) l, omega arith)
 form_opened t path slot (entry.List head size) f few sized shape e =

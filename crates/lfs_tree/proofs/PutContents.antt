@@ -1,5 +1,5 @@
 -- Contents that come into a file's slot.
-use Rattle.std.proofs.Common.{ℕ, ◌≡◌, ◌≤◌, ◌+◌, ◌/◌, ◌∙◌, ne_eqb, true, List, [], ◌∷◌, ◌++◌, length, None, Result, Ok, Err, refl, sym, ap, subst, arith}
+use Rattle.std.proofs.Common.{ℕ, ◌≡◌, ◌≤◌, ◌+◌, ◌/◌, ◌∙◌, ne_eqb, true, List, [], ◌∷◌, ◌++◌, length, min, None, Result, Ok, Err, refl, sym, ap, subst, arith}
 use Rattle.std.proofs.Math.Nat.{min-le_right}
 use Rattle.std.specs.Prelude.{OnOk}
 use Rattle.lfs_ctz.specs.Growing.{GrowingList, HasAllBytesInBuffer}
@@ -122,8 +122,9 @@ module _ (t : KeptThread) (spot : SlotPosition) (contents : WriterContents) (lis
 
   pub held_part : (bytes : List ℕ) → bytes ≡ bytes_in_buffer list → IsNameOrStructTheFormatAllows 2 (inline_struct_type, bytes)
   held_part bytes e =
-      let few = subst (λ (c : WriterContents). IsFinishedAndInlineExactlyUpToLimit (inline_limit t.disk.block_size) (storage_form_of_contents c)) is can.finished in
+      let few = subst (λ (c : WriterContents). IsFinishedAndInlineExactlyUpToLimit (inline_limit t.disk.profile t.disk.block_size) (storage_form_of_contents c)) is can.finished in
       let m = min-le_right (t.disk.block_size / 8) 1022 in
+      let n = min-le_right t.disk.profile.inline_max (min (t.disk.block_size / 8) 1022) in
       let l = ap length e in
       inline_part bytes (omega arith)
 

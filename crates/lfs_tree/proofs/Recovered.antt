@@ -180,14 +180,14 @@ pub end_survives : (a b : KeptThread) (h : List DeviceCallEvent) → ThreadChang
 end_survives a b h w shows calls called first second =
     survives_then a.disk a.history b.history h (tree_on_disk a.disk a.pairs) (tree_on_disk a.disk a.pairs) w.at_worst (some_since calls b.history h called) first
     (λ clean. IsTrueAfterAnyPowerLossSince-weaker (λ left x. subst (λ z. HasTreeBeforeOrAfterOperation z (tree_on_disk a.disk a.pairs) (tree_on_disk a.disk a.pairs))
-    (λ j. record { block_size = w.shape.block_size j; page = w.shape.page j; order = w.shape.order j; blocks = left })
+    (λ j. record { block_size = w.shape.block_size j; page = w.shape.page j; order = w.shape.order j; profile = w.shape.profile j; blocks = left })
     (subst (λ z. HasTreeBeforeOrAfterOperation (disk_with_blocks left b.disk) z z) shows x)) (second clean))
 
 -- ---- calls
 
 pub called_writing : (a b : KeptThread) (bs : List ℕ) → ThreadChangesOnlyTheseBlocks bs a b → HasFurtherDeviceCalls a b
 called_writing a b bs w = record {
-  geometry = record { block_size = w.shape.block_size; page = w.shape.page; order = w.shape.order; count = w.shape.count };
+  geometry = record { block_size = w.shape.block_size; page = w.shape.page; order = w.shape.order; profile = w.shape.profile; count = w.shape.count };
   calls = w.at_worst.events;
   called = w.at_worst.extends;
 }
@@ -198,6 +198,7 @@ called_then a b c f g = record {
     block_size = g.geometry.block_size ∙ f.geometry.block_size;
     page = g.geometry.page ∙ f.geometry.page;
     order = g.geometry.order ∙ f.geometry.order;
+    profile = g.geometry.profile ∙ f.geometry.profile;
     count = g.geometry.count ∙ f.geometry.count;
   };
   calls = g.calls ++ f.calls;
@@ -281,7 +282,7 @@ recovered_already t works writable sound settled = record {
   works = works;
   sound = sound;
   writable = writable;
-  geometry = record { block_size = refl; page = refl; order = refl; count = refl };
+  geometry = record { block_size = refl; page = refl; order = refl; profile = refl; count = refl };
   calls = [];
   called = refl;
   no_fault = refl;

@@ -12,13 +12,14 @@ use Rattle.lfs_model.specs.Effects.{effect_of_operation}
 use Rattle.lfs_tree.proofs.RecoveredTwice.{recovers_through}
 use Rattle.lfs_model.specs.BlockSets.{BlockStateList, BlockState, IsBlockInFlight, in_flight_block_count, is_block_state_in_flight}
 use Rattle.lfs_model.specs.BlockSets.BlockState.{Free, InFlight, Used}
-use Rattle.lfs_model.specs.Disk.{SameGeometry, charged_entry_size_limit_in_pair}
+use Rattle.lfs_model.specs.declared.limits.Profile.{Profile}
+use Rattle.lfs_model.specs.Disk.{SameGeometry, charged_entry_size_limit_in_pair, name_max_of}
 use Rattle.lfs_model.specs.Layout.{IsDirectoryUnreachedOrRemoved, IsSlotLayoutAfterRecoveryAndOperation}
 use Rattle.lfs_model.specs.Operations as ops
 use Rattle.lfs_model.specs.Operations.{Operation}
 use Rattle.lfs_model.specs.PowerLoss.{HasTreeBeforeOrAfterOperation, disk_with_blocks}
 use Rattle.lfs_model.specs.Run.{is_recover_operation, renames_to_itself}
-use Rattle.lfs_model.specs.Session.{Session, is_entry_over_charge_limit, refusal_unless_parents_are_directories}
+use Rattle.lfs_model.specs.Session.{Session, has_too_long_last_name, is_entry_over_charge_limit, refusal_unless_parents_are_directories}
 use Rattle.lfs_model.specs.Slots.{Attributes, entry_charge_with_longest_inline_contents, zero_gstate}
 use Rattle.lfs_model.specs.Thread.{Pair, gstate_of_pairs, pair_count_before_root}
 use Rattle.lfs_model.specs.Tree.{Path, Tree}
@@ -176,7 +177,7 @@ module _ (a b : KeptThread) (f : HasRecoveredFromPowerLoss a b) where
   -- ---- a stop
 
   left_on : (blocks : Blocks) → disk_with_blocks blocks b.disk ≡ disk_with_blocks blocks a.disk
-  left_on blocks = λ j. record { block_size = f.carries.geometry.block_size j; page = f.carries.geometry.page j; order = f.carries.geometry.order j; blocks = blocks }
+  left_on blocks = λ j. record { block_size = f.carries.geometry.block_size j; page = f.carries.geometry.page j; order = f.carries.geometry.order j; profile = f.carries.geometry.profile j; blocks = blocks }
 
   pub survives_after : (c : KeptThread) (change : Tree → Tree) → HasFurtherDeviceCalls b c → SurvivesWithOldOrNewTree a b (tree_on_disk a.disk a.pairs) → SurvivesWithOldOrNewTree b c (change (tree_on_disk b.disk b.pairs)) → SurvivesWithOldOrNewTree a c (change (tree_on_disk a.disk a.pairs))
   survives_after c change called first second =
@@ -187,7 +188,12 @@ module _ (a b : KeptThread) (f : HasRecoveredFromPowerLoss a b) where
   -- ---- what its checks have shown
 
   charge_is : (name : Name) (attributes : Attributes) → is_entry_over_charge_limit (disk_summary_of_tree (tree_state_of_kept_thread b true false)) name attributes ≡ is_entry_over_charge_limit (disk_summary_of_tree (tree_state_of_kept_thread a true false)) name attributes
-  charge_is name attributes = ap₂ (λ (size page : ℕ). nat_lt (charged_entry_size_limit_in_pair size page) (entry_charge_with_longest_inline_contents size name attributes)) f.carries.geometry.block_size f.carries.geometry.page
+  charge_is name attributes =
+      ap₂ (λ (size page : ℕ). nat_lt (charged_entry_size_limit_in_pair size page) (entry_charge_with_longest_inline_contents b.disk.profile size name attributes)) f.carries.geometry.block_size f.carries.geometry.page
+      ∙ ap (λ (profile : Profile). nat_lt (charged_entry_size_limit_in_pair a.disk.block_size a.disk.page) (entry_charge_with_longest_inline_contents profile a.disk.block_size name attributes)) f.carries.geometry.profile
+
+  long_is : (path : Path) → has_too_long_last_name (disk_summary_of_tree (tree_state_of_kept_thread b true false)) path ≡ has_too_long_last_name (disk_summary_of_tree (tree_state_of_kept_thread a true false)) path
+  long_is path = ap (λ (profile : Profile). nat_lt (name_max_of profile) (length (last_name_of_path path))) f.carries.geometry.profile
 
   room_is : (need : ℕ) → HasFreeBlocksForNeed (tree_state_of_kept_thread a true false) need → HasFreeBlocksForNeed (tree_state_of_kept_thread b true false) need
   room_is need room =
@@ -201,7 +207,7 @@ module _ (a b : KeptThread) (f : HasRecoveredFromPowerLoss a b) where
     works = refl;
     writable = refl;
     parents = subst (λ t. refusal_unless_parents_are_directories t [] path ≡ None) (sym tree_is) can.parents;
-    name = can.name;
+    name = long_is path ∙ can.name;
     nothing = subst (λ (t : Tree). is_some (t path) ≡ false) (sym tree_is) can.nothing;
     fits = charge_is (last_name_of_path path) [] ∙ can.fits;
     room = room_is need can.room;
@@ -249,7 +255,7 @@ module _ (a b : KeptThread) (f : HasRecoveredFromPowerLoss a b) where
     apart = can.apart;
     parents = subst (λ t. refusal_unless_parents_are_directories t [] from ≡ None) (sym tree_is) can.parents;
     target_parents = subst (λ t. refusal_unless_parents_are_directories t [] to ≡ None) (sym tree_is) can.target_parents;
-    name = can.name;
+    name = long_is to ∙ can.name;
     something = subst (λ (t : Tree). is_none (t from) ≡ false) (sym tree_is) can.something;
     directory = subst (λ (t : Tree). (not (same_path from to) && is_directory (t from) && is_file (t to)) ≡ false) (sym tree_is) can.directory;
     file = subst (λ (t : Tree). (not (same_path from to) && is_file (t from) && is_directory (t to)) ≡ false) (sym tree_is) can.file;

@@ -16,14 +16,14 @@ use Rattle.lfs_tree.proofs.Carried.{with_history}
 
 pub called_by_reading : (a b : KeptThread) → IsThreadOnlyRead a b → HasFurtherDeviceCalls a b
 called_by_reading a b r = record {
-  geometry = record { block_size = ap (λ (d : Disk). d.block_size) r.disk; page = ap (λ (d : Disk). d.page) r.disk; order = ap (λ (d : Disk). d.order) r.disk; count = ap (λ (d : Disk). block_count d) r.disk };
+  geometry = record { block_size = ap (λ (d : Disk). d.block_size) r.disk; page = ap (λ (d : Disk). d.page) r.disk; order = ap (λ (d : Disk). d.order) r.disk; profile = ap (λ (d : Disk). d.profile) r.disk; count = ap (λ (d : Disk). block_count d) r.disk };
   calls = r.reads.events;
   called = r.reads.extends;
 }
 
 pub called_by_writing : (a : KeptThread) (h : List DeviceCallEvent) (c : KeptThread) (bs : List ℕ) → AreCallsSinceOnlyReads a.disk.blocks a.history h → ThreadChangesOnlyTheseBlocks bs (with_history a h) c → HasFurtherDeviceCalls a c
 called_by_writing a h c bs reads w = record {
-  geometry = record { block_size = w.shape.block_size; page = w.shape.page; order = w.shape.order; count = w.shape.count };
+  geometry = record { block_size = w.shape.block_size; page = w.shape.page; order = w.shape.order; profile = w.shape.profile; count = w.shape.count };
   calls = w.at_worst.events ++ reads.events;
   called = w.at_worst.extends ∙ ap (λ z. w.at_worst.events ++ z) reads.extends ∙ sym (append_assoc w.at_worst.events reads.events a.history);
 }

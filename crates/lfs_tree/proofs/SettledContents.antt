@@ -73,7 +73,7 @@ module _ (t : KeptThread) (path : Path) (u : Slot) (ok : IsAcceptedImage t.disk 
       (off (thread_pair_at_index t pair).at.0 k.0, (off (thread_pair_at_index t pair).at.1 k.1, each_weaker (IsBlockFree t.map) (λ x. x ≢ b) (λ x f e. taken (subst (IsBlockFree t.map) e f)) w.fresh w.free)))
 
   geometry : SameGeometry t.disk new.disk
-  geometry = record { block_size = w.writes.shape.block_size; page = w.writes.shape.page; order = w.writes.shape.order; count = w.writes.shape.count }
+  geometry = record { block_size = w.writes.shape.block_size; page = w.writes.shape.page; order = w.writes.shape.order; profile = w.writes.shape.profile; count = w.writes.shape.count }
 
   was_taken : (b : ℕ) → 1 ≤ occurrence_count_of_number b (skip_list_blocks_of_struct t.disk u.struct) → IsBlockFree t.map b → ⊥
   was_taken b some = not_free t.map b (list_used t path u ok used at sized b some)
@@ -267,7 +267,7 @@ module _ (t : ThreadView) (root : ℕ) (rests : CanChangeRecoveredImage t root) 
           → SurvivesWithOldOrNewTree t.kept later (tree_after_change_of_node path (node_with_bytes (bytes_of_writer_contents t.kept c)) (tree_on_disk t.kept.disk t.kept.pairs))
       survives_settled reads k =
           let after = tree_after_change_of_node path (node_with_bytes (bytes_of_writer_contents t.kept c)) (tree_on_disk t.kept.disk t.kept.pairs) in
-          let disk_is : new.disk ≡ disk_with_blocks new.disk.blocks t.kept.disk = λ i. record { block_size = w.writes.shape.block_size i; page = w.writes.shape.page i; order = w.writes.shape.order i; blocks = new.disk.blocks } in
+          let disk_is : new.disk ≡ disk_with_blocks new.disk.blocks t.kept.disk = λ i. record { block_size = w.writes.shape.block_size i; page = w.writes.shape.page i; order = w.writes.shape.order i; profile = w.writes.shape.profile i; blocks = new.disk.blocks } in
           let first : IsTrueAfterAnyPowerLossSince AreBlocksLeftByPowerLossInCall t.kept.history new.history (λ d. Unit {0}) = IsTrueAfterAnyPowerLossSince-trans (IsTrueAfterAnyPowerLossSince-read_count_of_history AreBlocksLeftByPowerLossInCall-read reads tt) (IsTrueAfterAnyPowerLossSince-weaker (λ d p. tt) (IsTrueAfterAnyPowerLossSince-worst w.writes.at_worst)) in
           survives_then t.kept.disk t.kept.history new.history later.history (tree_on_disk t.kept.disk t.kept.pairs) after first only.reads k
           (λ clean. IsTrueAfterAnyPowerLossSince-read_count_of_history AreBlocksLeftByPowerLossInCall-read only.reads

@@ -30,6 +30,7 @@ use Rattle.lfs_tree.specs.Calls.{tree_after_call}
 use Rattle.lfs_tree.specs.TreeChanges.{AppliesOperationOnThread, HasAppliedCall, CanChangeRecoveredImage, AppliesCallOnThreadOrFails, IsLookupResultAndLastNameOfPath, SparesBlocksOutsideOperation, HasSoundImageOfTree, SurvivesWithOldOrNewTree}
 use Rattle.lfs_tree.specs.SlotChanges.{HasEntryAtPath}
 use Rattle.lfs_tree.specs.RootedThreads.{tree_state_of_kept_thread}
+use Rattle.lfs_tree.specs.TreeState.{disk_summary_of_tree}
 use Rattle.lfs_lookup.specs.Paths.{PathLeadsToFirstPair, PathLeadsToLookupResult, IsSlotOfNameBelowPath}
 use Rattle.lfs_tree.specs.Moves.{CanMoveEntry, CanMoveOntoFound, CanMoveOntoFile, CanMoveOntoDirectory, CanMoveToVacantPath, HasMovedEntry, IsRenameSourceAtPath, IsRenameSourceOfFound, ThreadWorksOrReportsError}
 use Rattle.lfs_tree.specs.declared.renames_at.RenameSource.{RenameSource}
@@ -86,11 +87,11 @@ module _ (t : ThreadView) (root : ℕ) (rests : CanChangeRecoveredImage t root) 
   elsewhere = goes_elsewhere from to can.apart other
 
   named : is_valid_name (last_name_of_path to) ≡ true
-  named = last_is_name to (λ e. let k = sym can.target ∙ ap is_root_path e in absurd (cc)) components can.name
+  named = last_is_name (disk_summary_of_tree (tree_state_of_kept_thread t.kept true false)) to (λ e. let k = sym can.target ∙ ap is_root_path e in absurd (cc)) components can.name
 
-  pub fits_there : IsEntryWithinWritableLimits t.kept.disk.block_size t.kept.disk.page (record is.slot.stands.stands.stands.slot { name = last_name_of_path to })
+  pub fits_there : IsEntryWithinWritableLimits t.kept.disk.profile t.kept.disk.block_size t.kept.disk.page (record is.slot.stands.stands.stands.slot { name = last_name_of_path to })
   fits_there = record {
-    charge = subst (λ a. entry_charge_with_longest_inline_contents t.kept.disk.block_size (last_name_of_path to) a ≤ charged_entry_size_limit_in_pair t.kept.disk.block_size t.kept.disk.page) (attributes_are t root rests from large bytes source.slot is.slot h)
+    charge = subst (λ a. entry_charge_with_longest_inline_contents t.kept.disk.profile t.kept.disk.block_size (last_name_of_path to) a ≤ charged_entry_size_limit_in_pair t.kept.disk.block_size t.kept.disk.page) (attributes_are t root rests from large bytes source.slot is.slot h)
         (ltb-false _ _ (checked_apart (same_path from to) _ other can.fits));
     inline = inline_fits t root rests from large bytes source.slot is.slot h;
   }
@@ -107,7 +108,7 @@ module _ (t : ThreadView) (root : ℕ) (rests : CanChangeRecoveredImage t root) 
     on = on;
     not_beneath = elsewhere;
     is_name = subst (λ n. is_valid_name n ≡ true) (sym same) named;
-    fits = subst (λ n. IsEntryWithinWritableLimits t.kept.disk.block_size t.kept.disk.page (record is.slot.stands.stands.stands.slot { name = n })) (sym same) fits_there;
+    fits = subst (λ n. IsEntryWithinWritableLimits t.kept.disk.profile t.kept.disk.block_size t.kept.disk.page (record is.slot.stands.stands.stands.slot { name = n })) (sym same) fits_there;
     logged = λ at. logged_there t.kept.disk at bytes;
     room = room_for t.kept 2 rests.held.sound can.room;
   }

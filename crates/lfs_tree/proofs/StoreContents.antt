@@ -1,5 +1,5 @@
 -- Contents of a writer that are ended and committed, behind one another.
-use Rattle.std.proofs.Common.{ℕ, ◌≡◌, ◌≤◌, ◌+◌, ◌∙◌, Bool, true, false, List, [], ◌∷◌, ◌++◌, length, Result, Ok, Err, refl, sym, ap, subst, arith, append_assoc}
+use Rattle.std.proofs.Common.{ℕ, ◌≡◌, ◌≤◌, ◌+◌, ◌∙◌, Bool, true, false, List, [], ◌∷◌, ◌++◌, length, Result, Ok, Err, refl, sym, ap, ap₂, subst, arith, append_assoc}
 use Rattle.std.specs.Prelude.{IfErr, OnOk, Contains}
 use Rattle.lfs_device.specs.declared.error.Error.{Error}
 use Rattle.lfs_model.specs.Frame.{IsPairWithSlotOfPath}
@@ -51,7 +51,7 @@ called_beside_image a b l = record { geometry = geometry_beside a b l; calls = l
 
 pub called_then : (a b c : KeptThread) → HasFurtherDeviceCalls a b → HasFurtherDeviceCalls b c → HasFurtherDeviceCalls a c
 called_then a b c k m = record {
-  geometry = record { block_size = m.geometry.block_size ∙ k.geometry.block_size; page = m.geometry.page ∙ k.geometry.page; order = m.geometry.order ∙ k.geometry.order; count = m.geometry.count ∙ k.geometry.count };
+  geometry = record { block_size = m.geometry.block_size ∙ k.geometry.block_size; page = m.geometry.page ∙ k.geometry.page; order = m.geometry.order ∙ k.geometry.order; profile = m.geometry.profile ∙ k.geometry.profile; count = m.geometry.count ∙ k.geometry.count };
   calls = m.calls ++ k.calls;
   called = m.called ∙ ap (λ z. m.calls ++ z) k.called ∙ sym (append_assoc m.calls k.calls a.history);
 }
@@ -96,13 +96,13 @@ module _ (t : ThreadView) (root : ℕ) (rests : CanChangeRecoveredImage t root) 
       pub can_commit : CanCommitContentsAtPath b.kept path c
       can_commit = record {
         over = over_beside t.kept b.kept leaves sound.accepted sound.used path contents c _ _ can.over holds owned;
-        finished = subst (λ (f : ContentsStorageForm). IsFinishedAndInlineExactlyUpToLimit (inline_limit b.kept.disk.block_size) f) (sym holds.has.form)
-            (subst (λ (n : ℕ). IsFinishedAndInlineExactlyUpToLimit (inline_limit n) (storage_form_after_finish (storage_form_of_contents contents))) (sym leaves.shape.block_size) (finished_form (inline_limit t.kept.disk.block_size) (storage_form_of_contents contents) can.form));
-        room = (let l : skip_list_block_count_unless_inline b.kept.disk.block_size (length (bytes_of_writer_contents b.kept c)) ≡ skip_list_block_count_unless_inline t.kept.disk.block_size (length (bytes_of_writer_contents t.kept contents))
-            = ap (λ n. skip_list_block_count_unless_inline n (length (bytes_of_writer_contents b.kept c))) leaves.shape.block_size ∙ ap (λ z. skip_list_block_count_unless_inline t.kept.disk.block_size (length z)) bytes_same in
+        finished = subst (λ (f : ContentsStorageForm). IsFinishedAndInlineExactlyUpToLimit (inline_limit b.kept.disk.profile b.kept.disk.block_size) f) (sym holds.has.form)
+            (subst (λ (n : ℕ). IsFinishedAndInlineExactlyUpToLimit n (storage_form_after_finish (storage_form_of_contents contents))) (sym (ap₂ (λ p n. inline_limit p n) leaves.shape.profile leaves.shape.block_size)) (finished_form (inline_limit t.kept.disk.profile t.kept.disk.block_size) (storage_form_of_contents contents) can.form));
+        room = (let l : skip_list_block_count_unless_inline b.kept.disk.profile b.kept.disk.block_size (length (bytes_of_writer_contents b.kept c)) ≡ skip_list_block_count_unless_inline t.kept.disk.profile t.kept.disk.block_size (length (bytes_of_writer_contents t.kept contents))
+            = ap₂ (λ p n. skip_list_block_count_unless_inline p n (length (bytes_of_writer_contents b.kept c))) leaves.shape.profile leaves.shape.block_size ∙ ap (λ z. skip_list_block_count_unless_inline t.kept.disk.profile t.kept.disk.block_size (length z)) bytes_same in
             let r = can.room in
-            let k : length (used_blocks t.kept.disk t.kept.pairs) + (skip_list_block_count_unless_inline t.kept.disk.block_size (length (bytes_of_writer_contents t.kept contents)) + 2) ≤ block_count t.kept.disk = omega arith in
-            let m = room_on t.kept sound (skip_list_block_count_unless_inline t.kept.disk.block_size (length (bytes_of_writer_contents t.kept contents)) + 2) k in
+            let k : length (used_blocks t.kept.disk t.kept.pairs) + (skip_list_block_count_unless_inline t.kept.disk.profile t.kept.disk.block_size (length (bytes_of_writer_contents t.kept contents)) + 2) ≤ block_count t.kept.disk = omega arith in
+            let m = room_on t.kept sound (skip_list_block_count_unless_inline t.kept.disk.profile t.kept.disk.block_size (length (bytes_of_writer_contents t.kept contents)) + 2) k in
             let u = leaves.map.used in
             let n = leaves.map.count in
             omega arith);
@@ -169,7 +169,7 @@ module _ (t : ThreadView) (root : ℕ) (rests : CanChangeRecoveredImage t root) 
       survives_then_commit new called k =
           let second : IsTrueOfEachCallSince (λ e. Unit {0}) b.kept.history new.history = record { events = called.calls; extends = called.called; each = each_any called.calls } in
           let after = tree_after_change_of_node path (node_with_bytes (bytes_of_writer_contents t.kept contents)) (tree_on_disk t.kept.disk t.kept.pairs) in
-          let same : (blocks : Blocks) → disk_with_blocks blocks b.kept.disk ≡ disk_with_blocks blocks t.kept.disk = λ blocks. λ i. record { block_size = leaves.shape.block_size i; page = leaves.shape.page i; order = leaves.shape.order i; blocks = blocks } in
+          let same : (blocks : Blocks) → disk_with_blocks blocks b.kept.disk ≡ disk_with_blocks blocks t.kept.disk = λ blocks. λ i. record { block_size = leaves.shape.block_size i; page = leaves.shape.page i; order = leaves.shape.order i; profile = leaves.shape.profile i; blocks = blocks } in
           survives_then t.kept.disk t.kept.history b.kept.history new.history (tree_on_disk t.kept.disk t.kept.pairs) after leaves.at_worst second (survives_beside after)
           (λ clean. IsTrueAfterAnyPowerLossSince-weaker (λ blocks left.
           subst (λ (d : Disk). HasTreeBeforeOrAfterOperation d (tree_on_disk t.kept.disk t.kept.pairs) (tree_after_change_of_node path (node_with_bytes (bytes_of_writer_contents t.kept contents)) (tree_on_disk t.kept.disk t.kept.pairs))) (same blocks)

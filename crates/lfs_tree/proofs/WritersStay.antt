@@ -159,6 +159,7 @@ module _ (old new : TreeState) (path : Path) (c : WriterContents) (over : AreWri
         block_size = over.stands.divided.block_size ∙ sym geometry.block_size;
         page = over.stands.divided.page ∙ sym geometry.page;
         order = over.stands.divided.order ∙ sym geometry.order;
+        profile = over.stands.divided.profile ∙ sym geometry.profile;
         count = over.stands.divided.count ∙ sym geometry.count;
       };
       stands = still.0;

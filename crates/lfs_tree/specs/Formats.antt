@@ -30,7 +30,7 @@ superblock_slot_changes bytes = Create 0 superblock_name_type (codes "littlefs")
 -- what a pair that has the superblock alone comes to
 abbrev pub content_with_superblock_only : Disk → RawPairContent
 content_with_superblock_only disk = record {
-  slots = record { name = Some (superblock_name_type, codes "littlefs"); struct = Some (inline_struct_type, superblock_struct_bytes disk.block_size (block_count disk)); attributes = [] } ∷ [];
+  slots = record { name = Some (superblock_name_type, codes "littlefs"); struct = Some (inline_struct_type, superblock_struct_bytes disk.profile disk.block_size (block_count disk)); attributes = [] } ∷ [];
   tail = None;
   move = zero_gstate;
 }

@@ -56,7 +56,7 @@ pub record CanMoveEntry (t : KeptThread) (from to : Path) (source : RenameSource
   pub on : PathLeadsToFirstPair t.pairs above first
   pub not_beneath : path_without_prefix from to ≡ None
   pub is_name : is_valid_name name ≡ true
-  pub fits : IsEntryWithinWritableLimits t.disk.block_size t.disk.page (record (slot_of_editable_entry old) { name = name })
+  pub fits : IsEntryWithinWritableLimits t.disk.profile t.disk.block_size t.disk.page (record (slot_of_editable_entry old) { name = name })
   pub logged : (at : ℕ × ℕ) → IsRawPairContentWellFormed t.disk at
   pub room : HasSoManyFreeBlocks 2 t.map
 

@@ -4,6 +4,7 @@ use Rattle.lfs_device.specs.declared.error.Error.{Error}
 use Rattle.lfs_model.specs.TreeEdits.{tree_after_change_of_node, is_file}
 use Rattle.lfs_model.specs.BlockSets.{in_flight_block_count}
 use Rattle.lfs_model.specs.Frame.{LeavesUnrelatedBlocksUnchanged, paths_changed_by_operation}
+use Rattle.lfs_model.specs.declared.limits.Profile.{Profile}
 use Rattle.lfs_model.specs.Disk.{SameGeometry, block_bytes_on_disk, block_count, inline_limit}
 use Rattle.lfs_model.specs.History.{DeviceCallEvent, fault_count_of_history}
 use Rattle.lfs_model.specs.Layout.{IsSlotLayoutAfterRecoveryAndOperation}
@@ -61,19 +62,19 @@ pub record CanOpenFileWriterWithNothingInFlight (t : TreeState) (path : Path) : 
 pub record CanWriteWriterContents (t : TreeState) (contents : WriterContents) (place count : ℕ) : Type 0 where
   pub works : t.failed ≡ false
   pub stands : AreContentsConsistentWithThread (kept_thread_of_tree_state t) contents
-  pub large : ExceedsInlineLimitIfInFlight (inline_limit t.disk.block_size) (storage_form_of_contents contents)
+  pub large : ExceedsInlineLimitIfInFlight (inline_limit t.disk.profile t.disk.block_size) (storage_form_of_contents contents)
   pub some : 1 ≤ count
   pub small : place + count < 2 ^ 31
-  pub room : inline_limit t.disk.block_size < max (contents_size_of_storage_form (storage_form_of_contents contents)) (place + count)
+  pub room : inline_limit t.disk.profile t.disk.block_size < max (contents_size_of_storage_form (storage_form_of_contents contents)) (place + count)
       → length (disk_summary_of_tree t).used + block_room_for_write t.disk.block_size place count (storage_form_of_contents contents) ≤ block_count t.disk
 
 -- They may be cut or filled up to that size. Where blocks are wanted, there is room for them.
 pub record CanTruncateWriterContents (t : TreeState) (contents : WriterContents) (size : ℕ) : Type 0 where
   pub works : t.failed ≡ false
   pub stands : AreContentsConsistentWithThread (kept_thread_of_tree_state t) contents
-  pub large : ExceedsInlineLimitIfInFlight (inline_limit t.disk.block_size) (storage_form_of_contents contents)
+  pub large : ExceedsInlineLimitIfInFlight (inline_limit t.disk.profile t.disk.block_size) (storage_form_of_contents contents)
   pub small : size < 2 ^ 31
-  pub room : NeedsRoomToTruncate (inline_limit t.disk.block_size) size (storage_form_of_contents contents)
+  pub room : NeedsRoomToTruncate (inline_limit t.disk.profile t.disk.block_size) size (storage_form_of_contents contents)
       → length (disk_summary_of_tree t).used + block_room_for_truncation t.disk.block_size size (storage_form_of_contents contents) ≤ block_count t.disk
 
 -- contents are in memory exactly where they are at most the limit
@@ -88,9 +89,9 @@ pub record CanStoreContentsInImage (t : TreeState) (path : Path) (contents : Wri
   pub writable : t.writable ≡ true
   pub settled : gstate_of_pairs t.pairs ≡ zero_gstate
   pub over : AreWriterContentsOverTreeFile t path contents
-  pub form : IsInMemoryExactlyUpToInlineLimit (inline_limit t.disk.block_size) (storage_form_of_contents contents)
+  pub form : IsInMemoryExactlyUpToInlineLimit (inline_limit t.disk.profile t.disk.block_size) (storage_form_of_contents contents)
   pub end : length (disk_summary_of_tree t).used + block_room_for_finish t.disk.block_size (storage_form_of_contents contents) ≤ block_count t.disk
-  pub room : length (disk_summary_of_tree t).used + skip_list_block_count_unless_inline t.disk.block_size (length (bytes_of_writer_contents (kept_thread_of_tree_state t) contents)) + 2 ≤ block_count t.disk
+  pub room : length (disk_summary_of_tree t).used + skip_list_block_count_unless_inline t.disk.profile t.disk.block_size (length (bytes_of_writer_contents (kept_thread_of_tree_state t) contents)) + 2 ≤ block_count t.disk
 
 abbrev pub CanStoreContentsAt : TreeState → Path → WriterContents → Type 0
 CanStoreContentsAt t path contents = CanStoreContentsInImage (tree_state_without_cache t) path contents
@@ -98,8 +99,8 @@ CanStoreContentsAt t path contents = CanStoreContentsInImage (tree_state_without
 -- ---- what comes of it
 
 -- contents of so many bytes as they are opened: in memory where they are inline in the file's entry, else as its list
-abbrev pub IsFormOfOpenedContents : ℕ → ℕ → ContentsStorageForm → Type 0
-IsFormOfOpenedContents block_size size shape = ((shape ≡ form.InMemory size) × (size ≤ inline_limit block_size)) ⊎ (shape ≡ form.Finished size false)
+abbrev pub IsFormOfOpenedContents : Profile → ℕ → ℕ → ContentsStorageForm → Type 0
+IsFormOfOpenedContents profile block_size size shape = ((shape ≡ form.InMemory size) × (size ≤ inline_limit profile block_size)) ⊎ (shape ≡ form.Finished size false)
 
 -- Only blocks were written that the image doesn't use: it shows what it showed, in the same pairs.
 pub record WritesOnlyUnusedBlocks (old new : TreeState) : Type 0 where

@@ -18,7 +18,7 @@ pub record CanAddEntryToImage (t : TreeState) (path : Path) (need : ℕ) : Type 
   pub works : t.failed ≡ false
   pub writable : t.writable ≡ true
   pub parents : refusal_unless_parents_are_directories (tree_view t) [] path ≡ None
-  pub name : has_too_long_last_name path ≡ false
+  pub name : has_too_long_last_name (disk_summary_of_tree t) path ≡ false
   pub nothing : is_some (tree_view t path) ≡ false
   pub fits : is_entry_over_charge_limit (disk_summary_of_tree t) (last_name_of_path path) [] ≡ false
   pub room : HasFreeBlocksForNeed t need
@@ -81,7 +81,7 @@ pub record CanRenameInImage (t : TreeState) (from to : Path) : Type 0 where
   pub apart : is_path_beneath from to ≡ false
   pub parents : refusal_unless_parents_are_directories (tree_view t) [] from ≡ None
   pub target_parents : refusal_unless_parents_are_directories (tree_view t) [] to ≡ None
-  pub name : has_too_long_last_name to ≡ false
+  pub name : has_too_long_last_name (disk_summary_of_tree t) to ≡ false
   pub something : is_none (tree_view t from) ≡ false
   pub directory : (not (same_path from to) && is_directory (tree_view t from) && is_file (tree_view t to)) ≡ false
   pub file : (not (same_path from to) && is_file (tree_view t from) && is_directory (tree_view t to)) ≡ false

@@ -91,15 +91,15 @@ pub record CanPutFinishedContentsInSlot (t : KeptThread) (spot : SlotPosition) (
   pub can : CanEditEntryOfPair t spot.pair spot.id
   pub stands : AreContentsConsistentWithThread t contents
   pub leaf : branch_address_of_struct (slot_of_editable_entry can).struct ≡ None
-  pub finished : IsFinishedAndInlineExactlyUpToLimit (inline_limit t.disk.block_size) (storage_form_of_contents contents)
+  pub finished : IsFinishedAndInlineExactlyUpToLimit (inline_limit t.disk.profile t.disk.block_size) (storage_form_of_contents contents)
   pub come : IsStructOfContentsWithNewBlocksInFlight t (bytes_of_writer_contents t contents) (slot_of_editable_entry can).struct (struct_of_finished_contents contents)
   pub room : HasSoManyFreeBlocks 2 t.map
 
 -- The file at the path may get finished contents, and there is room for their list and two blocks.
 pub record CanCommitContentsAtPath (t : KeptThread) (path : Path) (contents : WriterContents) : Type 0 where
   pub over : AreWriterContentsOverFileOnThread t path contents
-  pub finished : IsFinishedAndInlineExactlyUpToLimit (inline_limit t.disk.block_size) (storage_form_of_contents contents)
-  pub room : used_count t.map + skip_list_block_count_unless_inline t.disk.block_size (length (bytes_of_writer_contents t contents)) + 2 ≤ length t.map
+  pub finished : IsFinishedAndInlineExactlyUpToLimit (inline_limit t.disk.profile t.disk.block_size) (storage_form_of_contents contents)
+  pub room : used_count t.map + skip_list_block_count_unless_inline t.disk.profile t.disk.block_size (length (bytes_of_writer_contents t contents)) + 2 ≤ length t.map
 
 -- slots are where the operation on a dirty writer of the file, with these contents, puts them
 abbrev pub AreSlotsLaidOutByWriterOperation : KeptThread → Path → List ℕ → (ℕ → Operation) → KeptThread → Type 0

@@ -49,6 +49,7 @@ tree_view t = tree_on_disk t.disk t.pairs
 abbrev pub disk_summary_of_tree : TreeState → DiskSummary
 disk_summary_of_tree t = record {
   writable = t.writable;
+  profile = t.disk.profile;
   block_size = t.disk.block_size;
   page = t.disk.page;
   block_count = block_count t.disk;

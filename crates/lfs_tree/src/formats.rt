@@ -95,9 +95,9 @@ fn make_cache_and_block_map(alloc: Global, block_count: u32) -> Result<(Cache, B
 /// Makes an empty file system on a device, whatever it holds. Both blocks of the pair {0, 1} are
 /// erased. The first one then has the superblock alone, at revision 1 (SPEC.md of littlefs, "0x0ff
 /// LFS_TYPE_SUPERBLOCK"). The superblock gives version 2.0, the device's block size in bytes and
-/// its block count. It also gives the limits that are written: names of 255 bytes, files of
-/// 2,147,483,647 and attributes of 1,022. The root directory is empty then, and the image may be
-/// written.
+/// its block count. It also gives the limits of the device's profile, in bytes: the longest name,
+/// file and attribute. These are 255, 2,147,483,647 and 1,022 where the profile has no lower ones.
+/// The root directory is empty then, and the image may be written.
 ///
 /// No other block is written. A loss of power during the call leaves each other block as it was.
 ///

@@ -91,7 +91,7 @@ pub(crate) fn open_contents_at_path<D: BlockDevice>(
     requires file { is_file (tree_on_disk thread.old.kept.disk thread.old.kept.pairs path.now) ≡ true }
     ensures over { IfOk result (AreWriterContentsOverFileOnThread thread.new.kept path.now) }
     ensures bytes { IfOk result (λ c. bytes_of_writer_contents thread.new.kept c ≡ file_bytes_of_node (tree_on_disk thread.old.kept.disk thread.old.kept.pairs path.now)) }
-    ensures form { IfOk result (λ c. IsFormOfOpenedContents thread.old.kept.disk.block_size (length (file_bytes_of_node (tree_on_disk thread.old.kept.disk thread.old.kept.pairs path.now))) (storage_form_of_contents c)) }
+    ensures form { IfOk result (λ c. IsFormOfOpenedContents thread.old.kept.disk.profile thread.old.kept.disk.block_size (length (file_bytes_of_node (tree_on_disk thread.old.kept.disk thread.old.kept.pairs path.now))) (storage_form_of_contents c)) }
     ensures reading { OnlyReadsThreadAndReportsErrors thread.old thread.new result }
 {
     let shown = lookup_result_at_path(alloc, thread, root, path)?;

@@ -1,19 +1,20 @@
 // A mounted image, whose calls take paths.
 
-ghost use Rattle.std.specs.Prelude.{◌≡◌, ◌<◌, ◌==◌, ◌≤◌, ◌+◌, ◌^◌, ◌++◌, ◌∷◌, List, [], length, map, true, false, None, IfOk, IfErr, IfSome, IsSome, OnErr, OnOk, sum_by};
+ghost use Rattle.std.specs.Prelude.{◌≡◌, ◌<◌, ◌==◌, ◌≤◌, ◌+◌, ◌^◌, ◌++◌, ◌∷◌, List, [], length, map, true, false, None, Some, IfOk, IfErr, IfSome, IsSome, OnErr, OnOk, sum_by};
 ghost use Rattle.std.specs.List.{list_any};
 ghost use Rattle.std.specs.Option.{option_map};
 ghost use Rattle.lfs_model.specs.History.{read_count_of_history};
 ghost use Rattle.lfs_model.specs.Frame.{pair_count_of_directory_at, ancestor_paths_of_path};
 ghost use Rattle.lfs_model.specs.TreeEdits.{attributes_of_node};
 ghost use Rattle.lfs_model.specs.Content.{attribute_bytes_of_type};
+ghost use Rattle.lfs_model.specs.Profile.{superblock_of_image};
 ghost use Rattle.lfs_model.specs.Slots.{zero_gstate};
 ghost use Rattle.lfs_model.specs.Thread.{Pair, anchor_pair_address, gstate_of_pairs, blocks_of_pair_address};
 ghost use Rattle.lfs_model.specs.View.{IsAcceptedImage};
 ghost use Rattle.lfs_model.specs.Disk.{SameGeometry, block_count};
 ghost use Rattle.lfs_model.specs.Effects.{directory_items_at_path};
 ghost use Rattle.lfs_mount.specs.Device.{IsIoCorruptOrNoMemory};
-ghost use Rattle.lfs_tag.specs.FieldsView.{move_view};
+ghost use Rattle.lfs_tag.specs.FieldsView.{move_view, superblock_view};
 ghost use Rattle.lfs_thread.specs.Device.{GivesDeviceBackOnlyReadWithError};
 ghost use Rattle.lfs_thread.specs.Kept.{disk_of_device, kept_thread_of_device};
 ghost use Rattle.lfs_tree.specs.Permissions.{CanCreateFileAtPath, CanMakeDirectoryAtPath, CanRemoveEntryAtPath, CanRemoveAttrAtPath, CanSetAttrAtPath};
@@ -43,12 +44,13 @@ use lfs_lookup::{
     find_if_path_has_entries, find_node_at_path, find_total_size_of_attributes_at_path,
     list_directory_at_path,
 };
-use lfs_tag::MoveState;
+use lfs_tag::{MoveState, Superblock};
 use lfs_thread::Thread;
 use std::alloc::Global;
 use std::marker::Model;
 
-/// A mounted image: a file system of littlefs 2.0, on a device.
+/// A mounted image: a file system of littlefs on a device, in a version that the device's profile
+/// accepts.
 ///
 /// After an error the tree has failed. Then the only useful call is [`remount`](Tree::remount).
 #[derive(Drop)]
@@ -165,6 +167,7 @@ impl<D: BlockDevice> Tree<D> {
     pub fn geometry(&self) -> Geometry
         ensures block_size { result.block_size ≡ self.now.disk.block_size }
         ensures page { result.page ≡ self.now.disk.page }
+        ensures profile { result.profile ≡ self.now.disk.profile }
         ensures block_count { result.block_count ≡ block_count self.now.disk }
     {
         self.device().geometry()
@@ -200,6 +203,21 @@ impl<D: BlockDevice> Tree<D> {
         ensures { move_view result ≡ (disk_summary_of_tree self.now).gstate }
     {
         self.thread.state()
+    }
+
+    /// Returns the superblock with which the root directory begins. The call takes at most one read.
+    ///
+    /// Errors: `Io` where the read failed. `NoMemory` where memory isn't granted. The tree has failed
+    /// after either.
+    pub fn superblock(&mut self, alloc: Global) -> Result<Superblock, Error>
+        requires { self.old.failed ≡ false }
+        ensures asks { OnlyReadsTreeOrFails self.old result self.new }
+        ensures is { IfOk result (λ f. superblock_of_image self.old.pairs ≡ Some (superblock_view f)) }
+        ensures few { read_count_of_history self.new.history ≤ read_count_of_history self.old.history + 1 }
+    {
+        let superblock = lfs_lookup::superblock(alloc, &mut self.thread, self.root);
+        mark_thread_failed_on_error(&mut self.thread, &superblock);
+        superblock
     }
 
     /// Looks up a path. Each pair of the directories above it is read at most once, and none where

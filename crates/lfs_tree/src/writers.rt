@@ -37,7 +37,7 @@ impl<D: BlockDevice> Tree<D> {
         ensures asks { OnlyReadsTreeOrFails self.old result self.new }
         ensures over { IfOk result (AreWriterContentsOverTreeFile self.new path.now) }
         ensures bytes { IfOk result (λ c. bytes_of_writer_contents (kept_thread_of_tree_state self.new) c ≡ file_bytes_of_node (tree_view self.old path.now)) }
-        ensures form { IfOk result (λ c. IsFormOfOpenedContents self.old.disk.block_size (length (file_bytes_of_node (tree_view self.old path.now))) (storage_form_of_contents c)) }
+        ensures form { IfOk result (λ c. IsFormOfOpenedContents self.old.disk.profile self.old.disk.block_size (length (file_bytes_of_node (tree_view self.old path.now))) (storage_form_of_contents c)) }
     {
         let contents = open_contents_at_path(alloc, &mut self.thread, self.root, path);
         mark_thread_failed_on_error(&mut self.thread, &contents);
@@ -77,7 +77,7 @@ impl<D: BlockDevice> Tree<D> {
         requires { CanWriteWriterContents self.old contents place (length bytes.now) }
         ensures over { (path : ModelPath) → AreWriterContentsOverTreeFile self.old path contents → IfOk result (AreWriterContentsOverTreeFile self.new path) }
         ensures written { IfOk result (HasWriterBytesInForm self.new (contents_after_write (bytes_of_writer_contents (kept_thread_of_tree_state self.old) contents) place bytes.now)
-            (storage_form_after_write (inline_limit self.old.disk.block_size) place (length bytes.now) (storage_form_of_contents contents))) }
+            (storage_form_after_write (inline_limit self.old.disk.profile self.old.disk.block_size) place (length bytes.now) (storage_form_of_contents contents))) }
         ensures writes { WritesOnlyUnusedBlocksOrFails self.old result self.new }
     {
         let limit = self.geometry().inline_limit();
@@ -98,7 +98,7 @@ impl<D: BlockDevice> Tree<D> {
         requires { CanTruncateWriterContents self.old contents size }
         ensures over { (path : ModelPath) → AreWriterContentsOverTreeFile self.old path contents → IfOk result (AreWriterContentsOverTreeFile self.new path) }
         ensures truncated { IfOk result (HasWriterBytesInForm self.new (take size (bytes_padded_with_zeros size (bytes_of_writer_contents (kept_thread_of_tree_state self.old) contents)))
-            (storage_form_after_truncate (inline_limit self.old.disk.block_size) size (storage_form_of_contents contents))) }
+            (storage_form_after_truncate (inline_limit self.old.disk.profile self.old.disk.block_size) size (storage_form_of_contents contents))) }
         ensures writes { WritesOnlyUnusedBlocksOrFails self.old result self.new }
     {
         let limit = self.geometry().inline_limit();

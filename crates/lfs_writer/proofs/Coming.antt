@@ -42,7 +42,7 @@ module _ (t : KeptThread) (s : StoredList) (was : List ℕ) (stored : IsFinished
       (λ used. absurd (let k = occurrence_count_of_number-Contains was b (owned.each b has used) in let z = both.0 in omega arith))
 
 -- a list
-pub list_comes : (t : KeptThread) (s : StoredList) (bytes : List ℕ) (form : ContentsStorageForm) (was : Struct) → AreConsistentContentsWithBytesAndFormOnThread t (Finished s) bytes form → s.size ≡ length bytes → inline_limit t.disk.block_size < length bytes
+pub list_comes : (t : KeptThread) (s : StoredList) (bytes : List ℕ) (form : ContentsStorageForm) (was : Struct) → AreConsistentContentsWithBytesAndFormOnThread t (Finished s) bytes form → s.size ≡ length bytes → inline_limit t.disk.profile t.disk.block_size < length bytes
     → AreUsedBlocksOfListAmongOwnBlocks t.map (skip_list_blocks_of_struct t.disk was) (blocks_of_list_on_thread t s) → IsDistinct nat_eq (skip_list_blocks_of_struct t.disk was) → IsStructOfContentsWithNewBlocksInFlight t bytes was (Ctz s.head s.size)
 list_comes t s bytes form was holds size large owned distinct =
     let stored : IsFinishedListConsistentWithMapAndDisk t.map t.disk.blocks t.disk.block_size s = subst (λ (n : ℕ). IsFinishedListConsistentWithMapAndDisk t.map t.disk.blocks n s) holds.divided.block_size holds.has.stands in
@@ -60,7 +60,7 @@ list_comes t s bytes form was holds size large owned distinct =
     }
 
 -- inline
-pub inline_comes : (t : KeptThread) (bytes : List ℕ) (was : Struct) → length bytes ≤ inline_limit t.disk.block_size → IsStructOfContentsWithNewBlocksInFlight t bytes was (Inline bytes)
+pub inline_comes : (t : KeptThread) (bytes : List ℕ) (was : Struct) → length bytes ≤ inline_limit t.disk.profile t.disk.block_size → IsStructOfContentsWithNewBlocksInFlight t bytes was (Inline bytes)
 inline_comes t bytes was few = record {
   stores = (refl, few);
   list = tt;

@@ -3,6 +3,7 @@ use Rattle.std.proofs.Common.{ℕ, ◌≡◌, ◌≢◌, ◌+◌, ◌*◌, ◌-�
 use Rattle.std.specs.Prelude.{nat_le, nat_lt, ◌==◌, ◌||◌}
 use Rattle.std.proofs.lemmas.Bool.{or_left, or_right, eqb-true, eqb-false, leb-true, leb-false, ltb-true, ltb-false, ne_eqb, eq-eqb, cases_eq, lt-leb, le-leb}
 use Rattle.std.proofs.lemmas.List.{length-take, length-replicate}
+use Rattle.lfs_model.specs.declared.limits.Profile.{Profile}
 use Rattle.lfs_model.specs.Disk.{inline_limit}
 use Rattle.lfs_model.specs.SkipLists.{list_block_count_for_size}
 use Rattle.lfs_model.specs.Session.{FileWriter, skip_list_block_count_unless_inline, reserved_block_count_of_writer}
@@ -21,9 +22,9 @@ length-written old at bytes =
     omega (arith, front, length-append (take at (bytes_padded_with_zeros at old) ++ bytes) (drop (at + length bytes) old), length-append (take at (bytes_padded_with_zeros at old)) bytes, length-drop (at + length bytes) old)
 
 -- one form or another
-either : (block_size : ℕ) (t : Bool) (a b : ContentsStorageForm) (w : FileWriter) → (t ≡ true → IsStorageFormOfWriterContents block_size a w) → (t ≡ false → IsStorageFormOfWriterContents block_size b w) → IsStorageFormOfWriterContents block_size (if t then a else b) w
-either block_size true a b w first second = first refl
-either block_size false a b w first second = second refl
+either : (profile : Profile) (block_size : ℕ) (t : Bool) (a b : ContentsStorageForm) (w : FileWriter) → (t ≡ true → IsStorageFormOfWriterContents profile block_size a w) → (t ≡ false → IsStorageFormOfWriterContents profile block_size b w) → IsStorageFormOfWriterContents profile block_size (if t then a else b) w
+either profile block_size true a b w first second = first refl
+either profile block_size false a b w first second = second refl
 
 -- what a call that grows the contents makes of a writer
 record Grew (w v : FileWriter) (begin stop : ℕ) : Type 0 where
@@ -37,9 +38,9 @@ turned_or : (t : Bool) (P : Type 0) → (t ≡ true → P) → (t ≡ false → 
 turned_or true P first second = first refl
 turned_or false P first second = second refl
 
-kept_grown : (block_size : ℕ) (w v : FileWriter) (begin stop : ℕ) → Grew w v begin stop → inline_limit block_size < length v.contents → begin ≤ stop → (form : ContentsStorageForm) → IsStorageFormOfWriterContents block_size form w → IsStorageFormOfWriterContents block_size (storage_form_after_write_beginning_within_contents begin stop form) v
-kept_grown block_size w v begin stop grew large le (InMemory size) kept =
-    let few : size ≤ inline_limit block_size = kept.fits in
+kept_grown : (profile : Profile) (block_size : ℕ) (w v : FileWriter) (begin stop : ℕ) → Grew w v begin stop → inline_limit profile block_size < length v.contents → begin ≤ stop → (form : ContentsStorageForm) → IsStorageFormOfWriterContents profile block_size form w → IsStorageFormOfWriterContents profile block_size (storage_form_after_write_beginning_within_contents begin stop form) v
+kept_grown profile block_size w v begin stop grew large le (InMemory size) kept =
+    let few : size ≤ inline_limit profile block_size = kept.fits in
     let is : size ≡ length w.contents = kept.size in
     let long = grew.size in
     record {
@@ -51,7 +52,7 @@ kept_grown block_size w v begin stop grew large le (InMemory size) kept =
         at_end = λ e. grew.last_end;
       };
     }
-kept_grown block_size w v begin stop grew large le (Finished size flying) kept =
+kept_grown profile block_size w v begin stop grew large le (Finished size flying) kept =
     let is : size ≡ length w.contents = kept.size in
     let long = grew.size in
     record {
@@ -63,10 +64,10 @@ kept_grown block_size w v begin stop grew large le (Finished size flying) kept =
         at_end = λ e. grew.last_end;
       };
     }
-kept_grown block_size w v begin stop grew large le (InHand end base flying) kept =
+kept_grown profile block_size w v begin stop grew large le (InHand end base flying) kept =
     let is : max end base ≡ length w.contents = kept.size in
     let long = grew.size in
-    either block_size (end == begin) (InHand stop base flying) (InHand stop (max end base) true) v
+    either profile block_size (end == begin) (InHand stop base flying) (InHand stop (max end base) true) v
     (λ same.
     let e : end ≡ begin = eqb-true end begin same in
     record {
@@ -90,17 +91,17 @@ kept_grown block_size w v begin stop grew large le (InHand end base flying) kept
       };
     })
 
-kept_shortened : (block_size : ℕ) (w v : FileWriter) (size : ℕ) → v.dirty ≡ true → (w.turned ≡ true → v.turned ≡ true) → ((end : ℕ) → w.last_end ≡ Some end → v.turned ≡ true) → length v.contents ≡ size → inline_limit block_size < size → size ≤ length w.contents
-    → (form : ContentsStorageForm) → IsStorageFormOfWriterContents block_size form w → IsStorageFormOfWriterContents block_size (storage_form_after_shortening size form) v
-kept_shortened block_size w v size dirty stays is_nonsequential_write long large le (InMemory old) kept =
-    let few : old ≤ inline_limit block_size = kept.fits in
+kept_shortened : (profile : Profile) (block_size : ℕ) (w v : FileWriter) (size : ℕ) → v.dirty ≡ true → (w.turned ≡ true → v.turned ≡ true) → ((end : ℕ) → w.last_end ≡ Some end → v.turned ≡ true) → length v.contents ≡ size → inline_limit profile block_size < size → size ≤ length w.contents
+    → (form : ContentsStorageForm) → IsStorageFormOfWriterContents profile block_size form w → IsStorageFormOfWriterContents profile block_size (storage_form_after_shortening size form) v
+kept_shortened profile block_size w v size dirty stays is_nonsequential_write long large le (InMemory old) kept =
+    let few : old ≤ inline_limit profile block_size = kept.fits in
     let is : old ≡ length w.contents = kept.size in
     absurd (omega arith)
-kept_shortened block_size w v size dirty stays is_nonsequential_write long large le (Finished old flying) kept = record {
+kept_shortened profile block_size w v size dirty stays is_nonsequential_write long large le (Finished old flying) kept = record {
   size = sym long;
   fits = record { dirty = λ e. dirty; large = λ e. large; turned = λ e. stays (kept.fits.turned e) };
 }
-kept_shortened block_size w v size dirty stays is_nonsequential_write long large le (InHand end base flying) kept = record {
+kept_shortened profile block_size w v size dirty stays is_nonsequential_write long large le (InHand end base flying) kept = record {
   size = sym long;
   fits = record {
     dirty = λ e. dirty;
@@ -114,20 +115,20 @@ kept_shortened block_size w v size dirty stays is_nonsequential_write long large
 turned_on : (turned : Bool) (last_end : Option ℕ) (begin end : ℕ) → last_end ≡ Some end → end ≢ begin → (turned || is_nonsequential_write last_end begin) ≡ true
 turned_on turned last_end begin end at ne = or_right turned (is_nonsequential_write last_end begin) (let e : is_nonsequential_write (Some end) begin ≡ true = ap not (ne_eqb begin end (λ e. ne (sym e))) in ap (λ l. is_nonsequential_write l begin) at ∙ e)
 
-pub kept_written : (block_size : ℕ) (form : ContentsStorageForm) (w : FileWriter) (byte : ℕ) (bytes : List ℕ) → IsStorageFormOfWriterContents block_size form w
-    → IsStorageFormOfWriterContents block_size (storage_form_after_write (inline_limit block_size) (write_position w) (length (byte ∷ bytes)) form) (writer_after_write w (byte ∷ bytes))
-kept_written block_size form w byte bytes kept =
+pub kept_written : (profile : Profile) (block_size : ℕ) (form : ContentsStorageForm) (w : FileWriter) (byte : ℕ) (bytes : List ℕ) → IsStorageFormOfWriterContents profile block_size form w
+    → IsStorageFormOfWriterContents profile block_size (storage_form_after_write (inline_limit profile block_size) (write_position w) (length (byte ∷ bytes)) form) (writer_after_write w (byte ∷ bytes))
+kept_written profile block_size form w byte bytes kept =
     let place : ℕ = write_position w in
     let size : ℕ = contents_size_of_storage_form form in
     let stop : ℕ = place + length (byte ∷ bytes) in
     let v : FileWriter = writer_after_write w (byte ∷ bytes) in
     let is : size ≡ length w.contents = kept.size in
     let long : length v.contents ≡ max (length w.contents) stop = length-written w.contents place (byte ∷ bytes) in
-    either block_size (nat_le (max size stop) (inline_limit block_size)) (InMemory (max size stop)) (storage_form_after_write_beginning_within_contents (min place size) stop form) v
-    (λ fits. record { size = omega arith; fits = leb-true (max size stop) (inline_limit block_size) fits })
+    either profile block_size (nat_le (max size stop) (inline_limit profile block_size)) (InMemory (max size stop)) (storage_form_after_write_beginning_within_contents (min place size) stop form) v
+    (λ fits. record { size = omega arith; fits = leb-true (max size stop) (inline_limit profile block_size) fits })
     (λ exceeds.
-    let large : inline_limit block_size < max size stop = leb-false (max size stop) (inline_limit block_size) exceeds in
-    kept_grown block_size w v (min place size) stop
+    let large : inline_limit profile block_size < max size stop = leb-false (max size stop) (inline_limit profile block_size) exceeds in
+    kept_grown profile block_size w v (min place size) stop
     (record {
       dirty = refl;
       stays = λ t. or_left w.turned (is_nonsequential_write w.last_end (min place (length w.contents))) t;
@@ -145,7 +146,7 @@ resized_to size w = record w {
   last_end = if nat_lt (length w.contents) size then Some size else w.last_end;
 }
 
-module _ (block_size : ℕ) (form : ContentsStorageForm) (w : FileWriter) (size : ℕ) (kept : IsStorageFormOfWriterContents block_size form w) (ne : size ≢ length w.contents) where
+module _ (profile : Profile) (block_size : ℕ) (form : ContentsStorageForm) (w : FileWriter) (size : ℕ) (kept : IsStorageFormOfWriterContents profile block_size form w) (ne : size ≢ length w.contents) where
   abbrev resized : FileWriter
   resized = resized_to size w
 
@@ -158,14 +159,14 @@ module _ (block_size : ℕ) (form : ContentsStorageForm) (w : FileWriter) (size 
   abbrev other : ContentsStorageForm
   other = if nat_lt (contents_size_of_storage_form form) size then storage_form_after_write_beginning_within_contents (contents_size_of_storage_form form) size form else storage_form_after_shortening size form
 
-  kept_other : inline_limit block_size < size → IsStorageFormOfWriterContents block_size other resized
+  kept_other : inline_limit profile block_size < size → IsStorageFormOfWriterContents profile block_size other resized
   kept_other large =
       let is : contents_size_of_storage_form form ≡ length w.contents = kept.size in
       let now = long in
-      either block_size (nat_lt (contents_size_of_storage_form form) size) (storage_form_after_write_beginning_within_contents (contents_size_of_storage_form form) size form) (storage_form_after_shortening size form) resized
+      either profile block_size (nat_lt (contents_size_of_storage_form form) size) (storage_form_after_write_beginning_within_contents (contents_size_of_storage_form form) size form) (storage_form_after_shortening size form) resized
       (λ longer.
       let more : contents_size_of_storage_form form < size = ltb-true (contents_size_of_storage_form form) size longer in
-      kept_grown block_size w resized (contents_size_of_storage_form form) size
+      kept_grown profile block_size w resized (contents_size_of_storage_form form) size
       (record {
         dirty = refl;
         stays = λ t. or_left w.turned (is_some w.last_end) t;
@@ -176,29 +177,29 @@ module _ (block_size : ℕ) (form : ContentsStorageForm) (w : FileWriter) (size 
       (omega arith) (omega arith) form kept)
       (λ shorter.
       let less : size ≤ contents_size_of_storage_form form = ltb-false (contents_size_of_storage_form form) size shorter in
-      kept_shortened block_size w resized size refl (λ t. or_left w.turned (is_some w.last_end) t) some_turned now large (omega arith) form kept)
+      kept_shortened profile block_size w resized size refl (λ t. or_left w.turned (is_some w.last_end) t) some_turned now large (omega arith) form kept)
 
-  kept_resized : IsStorageFormOfWriterContents block_size (if nat_le size (inline_limit block_size) then InMemory size else other) resized
-  kept_resized = either block_size (nat_le size (inline_limit block_size)) (InMemory size) other resized
-      (λ fits. record { size = sym long; fits = leb-true size (inline_limit block_size) fits })
-      (λ exceeds. kept_other (leb-false size (inline_limit block_size) exceeds))
+  kept_resized : IsStorageFormOfWriterContents profile block_size (if nat_le size (inline_limit profile block_size) then InMemory size else other) resized
+  kept_resized = either profile block_size (nat_le size (inline_limit profile block_size)) (InMemory size) other resized
+      (λ fits. record { size = sym long; fits = leb-true size (inline_limit profile block_size) fits })
+      (λ exceeds. kept_other (leb-false size (inline_limit profile block_size) exceeds))
 
-  kept_truncated_ne : IsStorageFormOfWriterContents block_size (storage_form_after_truncate (inline_limit block_size) size form) (writer_after_truncate w size)
+  kept_truncated_ne : IsStorageFormOfWriterContents profile block_size (storage_form_after_truncate (inline_limit profile block_size) size form) (writer_after_truncate w size)
   kept_truncated_ne =
       let is : contents_size_of_storage_form form ≡ length w.contents = kept.size in
-      let first : storage_form_after_truncate (inline_limit block_size) size form ≡ (if nat_le size (inline_limit block_size) then InMemory size else other) =
-      ap (λ (t : Bool). if t then form else (if nat_le size (inline_limit block_size) then InMemory size else other)) (ne_eqb size (contents_size_of_storage_form form) (λ e. ne (e ∙ is))) in
+      let first : storage_form_after_truncate (inline_limit profile block_size) size form ≡ (if nat_le size (inline_limit profile block_size) then InMemory size else other) =
+      ap (λ (t : Bool). if t then form else (if nat_le size (inline_limit profile block_size) then InMemory size else other)) (ne_eqb size (contents_size_of_storage_form form) (λ e. ne (e ∙ is))) in
       let second : writer_after_truncate w size ≡ resized = ap (λ (t : Bool). if t then w else resized) (ne_eqb size (length w.contents) ne) in
-      subst (λ (f : ContentsStorageForm). IsStorageFormOfWriterContents block_size f (writer_after_truncate w size)) (sym first) (subst (λ (v : FileWriter). IsStorageFormOfWriterContents block_size (if nat_le size (inline_limit block_size) then InMemory size else other) v) (sym second) kept_resized)
+      subst (λ (f : ContentsStorageForm). IsStorageFormOfWriterContents profile block_size f (writer_after_truncate w size)) (sym first) (subst (λ (v : FileWriter). IsStorageFormOfWriterContents profile block_size (if nat_le size (inline_limit profile block_size) then InMemory size else other) v) (sym second) kept_resized)
 
-pub kept_truncated : (block_size : ℕ) (form : ContentsStorageForm) (w : FileWriter) (size : ℕ) → IsStorageFormOfWriterContents block_size form w → IsStorageFormOfWriterContents block_size (storage_form_after_truncate (inline_limit block_size) size form) (writer_after_truncate w size)
-kept_truncated block_size form w size kept = ⊎_elim
+pub kept_truncated : (profile : Profile) (block_size : ℕ) (form : ContentsStorageForm) (w : FileWriter) (size : ℕ) → IsStorageFormOfWriterContents profile block_size form w → IsStorageFormOfWriterContents profile block_size (storage_form_after_truncate (inline_limit profile block_size) size form) (writer_after_truncate w size)
+kept_truncated profile block_size form w size kept = ⊎_elim
     (λ e.
-    let first : storage_form_after_truncate (inline_limit block_size) size form ≡ form =
-    ap (λ (t : Bool). if t then form else (if nat_le size (inline_limit block_size) then InMemory size else (if nat_lt (contents_size_of_storage_form form) size then storage_form_after_write_beginning_within_contents (contents_size_of_storage_form form) size form else storage_form_after_shortening size form))) (eq-eqb size (contents_size_of_storage_form form) (e ∙ sym kept.size)) in
+    let first : storage_form_after_truncate (inline_limit profile block_size) size form ≡ form =
+    ap (λ (t : Bool). if t then form else (if nat_le size (inline_limit profile block_size) then InMemory size else (if nat_lt (contents_size_of_storage_form form) size then storage_form_after_write_beginning_within_contents (contents_size_of_storage_form form) size form else storage_form_after_shortening size form))) (eq-eqb size (contents_size_of_storage_form form) (e ∙ sym kept.size)) in
     let second : writer_after_truncate w size ≡ w = ap (λ (t : Bool). if t then w else resized_to size w) (eq-eqb size (length w.contents) e) in
-    subst (λ (f : ContentsStorageForm). IsStorageFormOfWriterContents block_size f (writer_after_truncate w size)) (sym first) (subst (λ (v : FileWriter). IsStorageFormOfWriterContents block_size form v) (sym second) kept))
-    (λ ne. kept_truncated_ne block_size form w size kept ne)
+    subst (λ (f : ContentsStorageForm). IsStorageFormOfWriterContents profile block_size f (writer_after_truncate w size)) (sym first) (subst (λ (v : FileWriter). IsStorageFormOfWriterContents profile block_size form v) (sym second) kept))
+    (λ ne. kept_truncated_ne profile block_size form w size kept ne)
     (cases_eq size (length w.contents))
 
 contents_synced : (w : FileWriter) → (writer_after_sync w).contents ≡ w.contents
@@ -208,103 +209,103 @@ contents_synced w = go w.dirty
     go true = refl
     go false = refl
 
-pub kept_synced : (block_size : ℕ) (form : ContentsStorageForm) (w : FileWriter) → IsStorageFormOfWriterContents block_size form w → IsStorageFormOfWriterContents block_size (storage_form_after_sync form) (writer_after_sync w)
-kept_synced block_size (InMemory size) w kept = record { size = kept.size ∙ ap length (sym (contents_synced w)); fits = kept.fits }
-kept_synced block_size (Finished size flying) w kept = record {
+pub kept_synced : (profile : Profile) (block_size : ℕ) (form : ContentsStorageForm) (w : FileWriter) → IsStorageFormOfWriterContents profile block_size form w → IsStorageFormOfWriterContents profile block_size (storage_form_after_sync form) (writer_after_sync w)
+kept_synced profile block_size (InMemory size) w kept = record { size = kept.size ∙ ap length (sym (contents_synced w)); fits = kept.fits }
+kept_synced profile block_size (Finished size flying) w kept = record {
   size = kept.size ∙ ap length (sym (contents_synced w));
   fits = record { dirty = λ e. absurd (cc); large = λ e. absurd (cc); turned = λ e. absurd (cc) };
 }
-kept_synced block_size (InHand end base flying) w kept = record {
+kept_synced profile block_size (InHand end base flying) w kept = record {
   size = kept.size ∙ ap length (sym (contents_synced w));
   fits = record { dirty = λ e. absurd (cc); large = λ e. absurd (cc); turned = λ e. absurd (cc) };
 }
 
 -- a writer that was opened on contents in its entry, or truncated, has them in memory
-pub kept_opened_inline : (block_size : ℕ) (path : Path) (flags : FlagsOfOpen) (bytes : List ℕ) → length (writer_after_open path flags bytes).contents ≤ inline_limit block_size
-    → IsStorageFormOfWriterContents block_size (InMemory (length (writer_after_open path flags bytes).contents)) (writer_after_open path flags bytes)
-kept_opened_inline block_size path flags bytes few = record { size = refl; fits = few }
+pub kept_opened_inline : (profile : Profile) (block_size : ℕ) (path : Path) (flags : FlagsOfOpen) (bytes : List ℕ) → length (writer_after_open path flags bytes).contents ≤ inline_limit profile block_size
+    → IsStorageFormOfWriterContents profile block_size (InMemory (length (writer_after_open path flags bytes).contents)) (writer_after_open path flags bytes)
+kept_opened_inline profile block_size path flags bytes few = record { size = refl; fits = few }
 
-pub kept_opened_list : (block_size : ℕ) (path : Path) (flags : FlagsOfOpen) (bytes : List ℕ) → IsStorageFormOfWriterContents block_size (Finished (length (writer_after_open path flags bytes).contents) false) (writer_after_open path flags bytes)
-kept_opened_list block_size path flags bytes = record {
+pub kept_opened_list : (profile : Profile) (block_size : ℕ) (path : Path) (flags : FlagsOfOpen) (bytes : List ℕ) → IsStorageFormOfWriterContents profile block_size (Finished (length (writer_after_open path flags bytes).contents) false) (writer_after_open path flags bytes)
+kept_opened_list profile block_size path flags bytes = record {
   size = refl;
   fits = record { dirty = λ e. absurd (cc); large = λ e. absurd (cc); turned = λ e. absurd (cc) };
 }
 
 -- ---- space
 
-held_dirty : (block_size : ℕ) (w : FileWriter) → w.dirty ≡ true → inline_limit block_size < length w.contents → reserved_block_count_of_writer block_size w ≡ 2 + (if w.turned then 2 else 1) * list_block_count_for_size block_size (length w.contents)
-held_dirty block_size w dirty large =
+held_dirty : (profile : Profile) (block_size : ℕ) (w : FileWriter) → w.dirty ≡ true → inline_limit profile block_size < length w.contents → reserved_block_count_of_writer profile block_size w ≡ 2 + (if w.turned then 2 else 1) * list_block_count_for_size block_size (length w.contents)
+held_dirty profile block_size w dirty large =
     let n : ℕ = length w.contents in
-    let first : reserved_block_count_of_writer block_size w ≡ 2 + (if w.turned then 2 else 1) * skip_list_block_count_unless_inline block_size n = ap (λ (t : Bool). if not t then 0 else 2 + (if w.turned then 2 else 1) * skip_list_block_count_unless_inline block_size n) dirty in
-    let outside : nat_le n (inline_limit block_size) ≡ false = lt-leb n (inline_limit block_size) large in
+    let first : reserved_block_count_of_writer profile block_size w ≡ 2 + (if w.turned then 2 else 1) * skip_list_block_count_unless_inline profile block_size n = ap (λ (t : Bool). if not t then 0 else 2 + (if w.turned then 2 else 1) * skip_list_block_count_unless_inline profile block_size n) dirty in
+    let outside : nat_le n (inline_limit profile block_size) ≡ false = lt-leb n (inline_limit profile block_size) large in
     first ∙ ap (λ (t : Bool). 2 + (if w.turned then 2 else 1) * (if t then 0 else list_block_count_for_size block_size n)) outside
 
-held_turned : (block_size : ℕ) (w : FileWriter) → w.dirty ≡ true → inline_limit block_size < length w.contents → w.turned ≡ true → reserved_block_count_of_writer block_size w ≡ 2 + 2 * list_block_count_for_size block_size (length w.contents)
-held_turned block_size w dirty large turned = held_dirty block_size w dirty large ∙ ap (λ (t : Bool). 2 + (if t then 2 else 1) * list_block_count_for_size block_size (length w.contents)) turned
+held_turned : (profile : Profile) (block_size : ℕ) (w : FileWriter) → w.dirty ≡ true → inline_limit profile block_size < length w.contents → w.turned ≡ true → reserved_block_count_of_writer profile block_size w ≡ 2 + 2 * list_block_count_for_size block_size (length w.contents)
+held_turned profile block_size w dirty large turned = held_dirty profile block_size w dirty large ∙ ap (λ (t : Bool). 2 + (if t then 2 else 1) * list_block_count_for_size block_size (length w.contents)) turned
 
-held_once : (block_size : ℕ) (w : FileWriter) → w.dirty ≡ true → inline_limit block_size < length w.contents → 2 + list_block_count_for_size block_size (length w.contents) ≤ reserved_block_count_of_writer block_size w
-held_once block_size w dirty large = turned_or w.turned (2 + list_block_count_for_size block_size (length w.contents) ≤ reserved_block_count_of_writer block_size w)
-    (λ t. let e = held_turned block_size w dirty large t in omega arith)
-    (λ t. let e : reserved_block_count_of_writer block_size w ≡ 2 + 1 * list_block_count_for_size block_size (length w.contents) = held_dirty block_size w dirty large ∙ ap (λ (t : Bool). 2 + (if t then 2 else 1) * list_block_count_for_size block_size (length w.contents)) t in omega arith)
+held_once : (profile : Profile) (block_size : ℕ) (w : FileWriter) → w.dirty ≡ true → inline_limit profile block_size < length w.contents → 2 + list_block_count_for_size block_size (length w.contents) ≤ reserved_block_count_of_writer profile block_size w
+held_once profile block_size w dirty large = turned_or w.turned (2 + list_block_count_for_size block_size (length w.contents) ≤ reserved_block_count_of_writer profile block_size w)
+    (λ t. let e = held_turned profile block_size w dirty large t in omega arith)
+    (λ t. let e : reserved_block_count_of_writer profile block_size w ≡ 2 + 1 * list_block_count_for_size block_size (length w.contents) = held_dirty profile block_size w dirty large ∙ ap (λ (t : Bool). 2 + (if t then 2 else 1) * list_block_count_for_size block_size (length w.contents)) t in omega arith)
 
 -- The blocks in flight, and two more while the writer is dirty, are no more than it holds.
-pub held_covers : (block_size : ℕ) (form : ContentsStorageForm) (w : FileWriter) → IsStorageFormOfWriterContents block_size form w → in_flight_block_limit_of_storage_form block_size form ≤ reserved_block_count_of_writer block_size w - 2
-held_covers block_size (InMemory size) w kept = omega arith
-held_covers block_size (Finished size true) w kept =
+pub held_covers : (profile : Profile) (block_size : ℕ) (form : ContentsStorageForm) (w : FileWriter) → IsStorageFormOfWriterContents profile block_size form w → in_flight_block_limit_of_storage_form block_size form ≤ reserved_block_count_of_writer profile block_size w - 2
+held_covers profile block_size (InMemory size) w kept = omega arith
+held_covers profile block_size (Finished size true) w kept =
     let is : size ≡ length w.contents = kept.size in
-    let large : inline_limit block_size < size = kept.fits.large refl in
+    let large : inline_limit profile block_size < size = kept.fits.large refl in
     let same : list_block_count_for_size block_size size ≡ list_block_count_for_size block_size (length w.contents) = ap (list_block_count_for_size block_size) is in
-    let e = held_once block_size w (kept.fits.dirty refl) (omega arith) in
+    let e = held_once profile block_size w (kept.fits.dirty refl) (omega arith) in
     omega arith
-held_covers block_size (Finished size false) w kept = omega arith
-held_covers block_size (InHand end base true) w kept =
+held_covers profile block_size (Finished size false) w kept = omega arith
+held_covers profile block_size (InHand end base true) w kept =
     let is : max end base ≡ length w.contents = kept.size in
-    let large : inline_limit block_size < max end base = kept.fits.large in
+    let large : inline_limit profile block_size < max end base = kept.fits.large in
     let one = list_block_count_for_size-more block_size end (length w.contents) (omega arith) in
     let two = list_block_count_for_size-more block_size base (length w.contents) (omega arith) in
-    let e = held_turned block_size w kept.fits.dirty (omega arith) (kept.fits.turned refl) in
+    let e = held_turned profile block_size w kept.fits.dirty (omega arith) (kept.fits.turned refl) in
     omega arith
-held_covers block_size (InHand end base false) w kept =
+held_covers profile block_size (InHand end base false) w kept =
     let is : max end base ≡ length w.contents = kept.size in
-    let large : inline_limit block_size < max end base = kept.fits.large in
+    let large : inline_limit profile block_size < max end base = kept.fits.large in
     let one = list_block_count_for_size-more block_size end (length w.contents) (omega arith) in
-    let e = held_once block_size w kept.fits.dirty (omega arith) in
+    let e = held_once profile block_size w kept.fits.dirty (omega arith) in
     omega arith
 
 -- room for what a writer holds is room for going on, or for a list over the base
-pub room_grown : (block_size end base : ℕ) (flying : Bool) (v : FileWriter) (used all : ℕ) → IsStorageFormOfWriterContents block_size (InHand end base flying) v → used + reserved_block_count_of_writer block_size v ≤ all
+pub room_grown : (profile : Profile) (block_size end base : ℕ) (flying : Bool) (v : FileWriter) (used all : ℕ) → IsStorageFormOfWriterContents profile block_size (InHand end base flying) v → used + reserved_block_count_of_writer profile block_size v ≤ all
     → used + list_block_count_for_size block_size end + (if flying then list_block_count_for_size block_size base else 0) ≤ all
-room_grown block_size end base flying v used all kept room =
-    let covers = held_covers block_size (InHand end base flying) v kept in
+room_grown profile block_size end base flying v used all kept room =
+    let covers = held_covers profile block_size (InHand end base flying) v kept in
     let is : max end base ≡ length v.contents = kept.size in
-    let large : inline_limit block_size < max end base = kept.fits.large in
-    let e = held_once block_size v kept.fits.dirty (omega arith) in
+    let large : inline_limit profile block_size < max end base = kept.fits.large in
+    let e = held_once profile block_size v kept.fits.dirty (omega arith) in
     omega arith
 
 -- for a list that ends and another one over it
-pub room_turned : (block_size end base : ℕ) (v : FileWriter) (used all : ℕ) → IsStorageFormOfWriterContents block_size (InHand end base true) v → used + reserved_block_count_of_writer block_size v ≤ all
+pub room_turned : (profile : Profile) (block_size end base : ℕ) (v : FileWriter) (used all : ℕ) → IsStorageFormOfWriterContents profile block_size (InHand end base true) v → used + reserved_block_count_of_writer profile block_size v ≤ all
     → used + 2 * list_block_count_for_size block_size (max base end) ≤ all
-room_turned block_size end base v used all kept room =
+room_turned profile block_size end base v used all kept room =
     let is : max end base ≡ length v.contents = kept.size in
-    let large : inline_limit block_size < max end base = kept.fits.large in
-    let e = held_turned block_size v kept.fits.dirty (omega arith) (kept.fits.turned refl) in
+    let large : inline_limit profile block_size < max end base = kept.fits.large in
+    let e = held_turned profile block_size v kept.fits.dirty (omega arith) (kept.fits.turned refl) in
     let same : list_block_count_for_size block_size (max base end) ≡ list_block_count_for_size block_size (length v.contents) = ap (list_block_count_for_size block_size) (let m : max base end ≡ length v.contents = omega arith in m) in
     omega arith
 
 -- for ending a list as it is
-pub room_ended : (block_size end base : ℕ) (flying : Bool) (w : FileWriter) (used all : ℕ) → IsStorageFormOfWriterContents block_size (InHand end base flying) w → used + reserved_block_count_of_writer block_size w ≤ all
+pub room_ended : (profile : Profile) (block_size end base : ℕ) (flying : Bool) (w : FileWriter) (used all : ℕ) → IsStorageFormOfWriterContents profile block_size (InHand end base flying) w → used + reserved_block_count_of_writer profile block_size w ≤ all
     → used + (if flying then list_block_count_for_size block_size base else 0) + list_block_count_for_size block_size base ≤ all
-room_ended block_size end base true w used all kept room =
+room_ended profile block_size end base true w used all kept room =
     let is : max end base ≡ length w.contents = kept.size in
-    let large : inline_limit block_size < max end base = kept.fits.large in
+    let large : inline_limit profile block_size < max end base = kept.fits.large in
     let two = list_block_count_for_size-more block_size base (length w.contents) (omega arith) in
-    let e = held_turned block_size w kept.fits.dirty (omega arith) (kept.fits.turned refl) in
+    let e = held_turned profile block_size w kept.fits.dirty (omega arith) (kept.fits.turned refl) in
     omega arith
-room_ended block_size end base false w used all kept room =
+room_ended profile block_size end base false w used all kept room =
     let is : max end base ≡ length w.contents = kept.size in
-    let large : inline_limit block_size < max end base = kept.fits.large in
+    let large : inline_limit profile block_size < max end base = kept.fits.large in
     let two = list_block_count_for_size-more block_size base (length w.contents) (omega arith) in
-    let e = held_once block_size w kept.fits.dirty (omega arith) in
+    let e = held_once profile block_size w kept.fits.dirty (omega arith) in
     omega arith
 
 -- ---- which form a write leaves

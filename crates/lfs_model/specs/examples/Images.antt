@@ -4,8 +4,9 @@ use Rattle.std.specs.List.{flat_map}
 use Rattle.std.specs.Option.{option_map}
 use Rattle.byteorder.specs.Endian.{little_bytes}
 use Rattle.lfs_model.specs.declared.order.NameOrder.TheVariants.{ShorterFirst}
+use Rattle.lfs_model.specs.declared.limits.AcceptedVersions.{AcceptedVersions}
 use Rattle.lfs_model.specs.Blocks.{Blocks}
-use Rattle.lfs_model.specs.Disk.{Disk, file_size_limit}
+use Rattle.lfs_model.specs.Disk.{Disk, default_profile, file_size_limit}
 use Rattle.lfs_model.specs.Slots.{Gstate, zero_gstate}
 use Rattle.lfs_model.specs.Log.{LogEntry}
 use Rattle.lfs_model.specs.Content.{RawSlot, RawPairContent}
@@ -64,7 +65,7 @@ fresh_commit_of_small_image =
     unwritten_storage_bytes 76  -- padding to the page
 
 abbrev pub small_disk_with_first_block : List ℕ → Disk
-small_disk_with_first_block block = record { block_size = 1024; page = 128; order = ShorterFirst; blocks = block ∷ unwritten_storage_bytes 1024 ∷ [] }
+small_disk_with_first_block block = record { block_size = 1024; page = 128; order = ShorterFirst; profile = default_profile; blocks = block ∷ unwritten_storage_bytes 1024 ∷ [] }
 
 abbrev pub fresh_block_of_small_image : List ℕ
 fresh_block_of_small_image = bytes_padded_to_block_size 1024 fresh_commit_of_small_image
@@ -90,7 +91,7 @@ fresh_commit_of_large_image =
 
 -- a disk of 16 blocks of 4,096 bytes that begins with these blocks
 abbrev pub large_disk_with_blocks : Blocks → Disk
-large_disk_with_blocks blocks = record { block_size = 4096; page = 256; order = ShorterFirst; blocks = blocks ++ replicate (16 - length blocks) (unwritten_storage_bytes 4096) }
+large_disk_with_blocks blocks = record { block_size = 4096; page = 256; order = ShorterFirst; profile = default_profile; blocks = blocks ++ replicate (16 - length blocks) (unwritten_storage_bytes 4096) }
 
 abbrev pub large_fresh_image : Disk
 large_fresh_image = large_disk_with_blocks (bytes_padded_to_block_size 4096 fresh_commit_of_large_image ∷ [])
@@ -142,7 +143,7 @@ abbrev pub raw_slot_of_empty_file : Name → RawSlot
 raw_slot_of_empty_file name = record { name = Some (file_name_type, name); struct = Some (inline_struct_type, []); attributes = [] }
 
 abbrev pub raw_slot_of_superblock : RawSlot
-raw_slot_of_superblock = record { name = Some (superblock_name_type, codes "littlefs"); struct = Some (inline_struct_type, superblock_struct_bytes 4096 16); attributes = [] }
+raw_slot_of_superblock = record { name = Some (superblock_name_type, codes "littlefs"); struct = Some (inline_struct_type, superblock_struct_bytes default_profile 4096 16); attributes = [] }
 
 abbrev pub raw_pair_content_of_slots : List RawSlot → RawPairContent
 raw_pair_content_of_slots slots = record { slots = slots; tail = None; move = zero_gstate }
@@ -171,13 +172,13 @@ block_over_storage_erased_to_zeros =
     replicate 3584 0
 
 abbrev pub image_over_storage_erased_to_zeros : Disk
-image_over_storage_erased_to_zeros = record { block_size = 4096; page = 256; order = ShorterFirst; blocks = block_over_storage_erased_to_zeros ∷ replicate 15 (replicate 4096 0) }
+image_over_storage_erased_to_zeros = record { block_size = 4096; page = 256; order = ShorterFirst; profile = default_profile; blocks = block_over_storage_erased_to_zeros ∷ replicate 15 (replicate 4096 0) }
 
 -- ---- other images of 16 blocks, by their entries
 
 -- a block of the root: the superblock, these entries, the checksum and its padding
 abbrev pub root_block_with_entries : List LogEntry → ℕ → ℕ → List ℕ
-root_block_with_entries entries number padding = metadata_block_bytes 4096 1 (superblock_name_and_struct_entries 4096 16 ++ entries ++ checksum_entry number padding ∷ [])
+root_block_with_entries entries number padding = metadata_block_bytes 4096 1 (superblock_name_and_struct_entries default_profile 4096 16 ++ entries ++ checksum_entry number padding ∷ [])
 
 -- a block of another pair
 abbrev pub pair_block_with_entries : List LogEntry → ℕ → ℕ → List ℕ
@@ -189,14 +190,21 @@ image_of_first_block_and_others root blocks = large_disk_with_blocks (root ∷ u
 
 -- the fresh image cut or lengthened to so many blocks
 abbrev pub fresh_image_resized_to_block_count : ℕ → Disk
-fresh_image_resized_to_block_count count = record { block_size = 4096; page = 256; order = ShorterFirst; blocks = bytes_padded_to_block_size 4096 fresh_commit_of_large_image ∷ replicate (count - 1) (unwritten_storage_bytes 4096) }
+fresh_image_resized_to_block_count count = record { block_size = 4096; page = 256; order = ShorterFirst; profile = default_profile; blocks = bytes_padded_to_block_size 4096 fresh_commit_of_large_image ∷ replicate (count - 1) (unwritten_storage_bytes 4096) }
+
+-- the same disk, where these versions are accepted
+abbrev pub disk_with_accepted_versions : AcceptedVersions → Disk → Disk
+disk_with_accepted_versions versions disk = record disk { profile = record disk.profile { versions = versions } }
 
 -- a superblock's struct with another version, block size or limit of names, and a fresh root with it
 abbrev pub superblock_struct_bytes_with_fields : ℕ → ℕ → ℕ → List ℕ
 superblock_struct_bytes_with_fields version block_size name_limit = flat_map (little_bytes 4) (version ∷ block_size ∷ 16 ∷ name_limit ∷ file_size_limit ∷ 1022 ∷ [])
 
+abbrev pub superblock_entries_with_struct : List ℕ → List LogEntry
+superblock_entries_with_struct struct = superblock_name_log_entry ∷ log_entry_of_type_id_and_bytes inline_struct_type 0 struct ∷ []
+
 abbrev pub root_block_with_superblock_struct : List ℕ → ℕ → List ℕ
-root_block_with_superblock_struct struct number = metadata_block_bytes 4096 1 (superblock_name_log_entry ∷ log_entry_of_type_id_and_bytes inline_struct_type 0 struct ∷ checksum_entry number 204 ∷ [])
+root_block_with_superblock_struct struct number = metadata_block_bytes 4096 1 (superblock_entries_with_struct struct ++ checksum_entry number 204 ∷ [])
 
 -- ---- a skip list
 

@@ -1,5 +1,6 @@
 -- Sessions for contracts that show their replies.
 use Rattle.std.specs.Prelude.{ℕ, true, false, List, [], ◌∷◌, map, replicate}
+use Rattle.lfs_model.specs.Disk.{default_profile}
 use Rattle.lfs_model.specs.Slots.{zero_gstate}
 use Rattle.lfs_model.specs.Operations.{Operation, Reply, FlagsOfOpen}
 use Rattle.lfs_model.specs.Session.{Session, DiskSummary}
@@ -9,7 +10,7 @@ use Rattle.lfs_model.specs.Fresh.{empty_tree}
 
 -- a disk of this geometry in the writing profile, with so many blocks in use
 abbrev pub writable_disk_summary : ℕ → ℕ → ℕ → ℕ → DiskSummary
-writable_disk_summary block_size page block_count used = record { writable = true; block_size = block_size; page = page; block_count = block_count; used = replicate used 0; gstate = zero_gstate }
+writable_disk_summary block_size page block_count used = record { writable = true; profile = default_profile; block_size = block_size; page = page; block_count = block_count; used = replicate used 0; gstate = zero_gstate }
 
 -- the replies to operations, each with the number of blocks in use before it
 abbrev pub replies_to_operations : (ℕ → DiskSummary) → Session → List (ℕ × Operation) → List Reply

@@ -13,10 +13,10 @@ use Rattle.lfs_fs.proofs.checks.check_mkdir.Goals as goal
 
 pub returns : goal.returns
 returns g c =
-    mkdir_checked (session_view_of_tree_and_files c.args.tree.now c.args.files.now) c.args.bytes.now c.in-Some.path c.in_ok-found.found _ c.name_len.result c.name_len-2.result c.is_nothing.result c.is_new_entry_too_large.result c.has_too_few_free_blocks.result
+    mkdir_checked (session_view_of_tree_and_files c.args.tree.now c.args.files.now) c.args.bytes.now c.in-Some.path c.in_ok-found.found _ c.name_len.result c.name_len-2.result c.is_name_too_long.result c.is_nothing.result c.is_new_entry_too_large.result c.has_too_few_free_blocks.result
     c.refuse_if.result c.refuse_if-2.result c.refuse_if-3.result c.refuse_if-4.result c.value_unless_checks_refuse.result
     c.if-has_failed.ensures c.if-not-is_writable.ensures c.in-Some.ensures c.in_ok-found.ensures.asks.asked c.in_ok-found.ensures.found
-    c.name_len.ensures.len c.refuse_if.ensures c.is_nothing.ensures c.refuse_if-2.ensures c.name_len-2.ensures.len c.is_new_entry_too_large.ensures c.refuse_if-3.ensures
+    c.name_len.ensures.len c.is_name_too_long.ensures c.refuse_if.ensures c.is_nothing.ensures c.refuse_if-2.ensures c.name_len-2.ensures.len c.is_new_entry_too_large.ensures c.refuse_if-3.ensures
     (c.has_too_few_free_blocks.ensures ∙ lacks_is c.look_up.new.self c.args.files.now 4 (ready_later _ _ c.args.files.now (c.requires (sym c.if-has_failed.ensures)) c.in_ok-found.ensures.asks.asked) ∙ ap (λ z. lacks_free_blocks (disk_summary_of_tree c.look_up.new.self) (open_files_view z c.args.files.now) 4) c.in_ok-found.ensures.asks.asked.same) c.refuse_if-4.ensures c.value_unless_checks_refuse.ensures
 
 pub returns-in_err-found : goal.returns-in_err-found

@@ -24,11 +24,11 @@ pub returns : goal.returns
 returns g c =
     let asked = asked_twice _ _ _ c.in_ok-found.ensures.asks.asked c.in_ok-taken.ensures.asks.asked in
     set_attr_checked (session_view_of_tree_and_files c.args.tree.now c.args.files.now) c.args.bytes.now c.args.kind c.args.value.now c.in-Some.path c.in_ok-found.found.finding c.get_attr.new.self c.attributes_size.new.self
-    c.in_ok-found.found.bytes c.in_ok-taken.taken c.attributes_size_after_replacement-size.result c.name_len.result c.is_nothing.result c.is_entry_with_attributes_too_large.result c.has_too_few_free_blocks.result
+    c.in_ok-found.found.bytes c.in_ok-taken.taken c.attributes_size_after_replacement-size.result c.name_len.result c.is_nothing.result c.is_attribute_too_long.result c.is_entry_with_attributes_too_large.result c.has_too_few_free_blocks.result
     c.refuse_if.result c.refuse_if-2.result c.refuse_if-3.result c.refuse_if-4.result c.value_unless_checks_refuse.result
     c.if-has_failed.ensures c.if-not-is_writable.ensures c.in-Some.ensures c.in_ok-found.ensures.asks.asked asked c.in_ok-found.ensures.found
     c.in_ok-found.ensures.bytes.0 c.in_ok-taken.ensures.size c.attributes_size_after_replacement-size.ensures
-    c.is_nothing.ensures c.refuse_if.ensures c.refuse_if-2.ensures c.name_len.ensures.len c.is_entry_with_attributes_too_large.ensures c.refuse_if-3.ensures
+    c.is_nothing.ensures c.refuse_if.ensures c.is_attribute_too_long.ensures c.refuse_if-2.ensures c.name_len.ensures.len c.is_entry_with_attributes_too_large.ensures c.refuse_if-3.ensures
     (c.has_too_few_free_blocks.ensures ∙ lacks_is c.attributes_size.new.self c.args.files.now 2 (ready_later _ _ c.args.files.now (c.requires (sym c.if-has_failed.ensures)) asked) ∙ ap (λ z. lacks_free_blocks (disk_summary_of_tree c.attributes_size.new.self) (open_files_view z c.args.files.now) 2) asked.same) c.refuse_if-4.ensures c.value_unless_checks_refuse.ensures
 
 pub returns-in_err-found : goal.returns-in_err-found

@@ -1,7 +1,7 @@
 use Rattle.lfs_model.specs.Operations as ops
 use Rattle.lfs_model.specs.Session.{refuse_if}
-use Rattle.std.proofs.Common.{refl, sym, ap, ◌∙◌, arith}
-use Rattle.lfs_fs.proofs.WriterChecks.{above_limit, no_bytes, some_bytes, within_limit, write_fits, write_no_writer, write_nothing, write_too_big, writer_there, written_at}
+use Rattle.std.proofs.Common.{refl, sym, ap, ◌∙◌}
+use Rattle.lfs_fs.proofs.WriterChecks.{no_bytes, some_bytes, write_fits, write_no_writer, write_nothing, write_too_big, writer_there, written_at}
 use Rattle.lfs_fs.proofs.checks.check_write.Goals as goal
 
 pub returns-in_default : goal.returns-in_default
@@ -11,20 +11,20 @@ pub returns-then-is_empty : goal.returns-then-is_empty
 returns-then-is_empty g c =
     (write_nothing c.args.tree.now c.args.files.now c.args.fd c.args.bytes.now c.in-Some.writer.now c.if-has_failed.ensures c.in-Some.ensures (no_bytes _ (sym c.is_empty.ensures ∙ c.if-is_empty.true)), writer_there c.args.files.now c.args.fd c.in-Some.writer.now c.in-Some.ensures)
 
-pub returns-then-place-bytes : goal.returns-then-place-bytes
-returns-then-place-bytes g c =
-    (refl, write_too_big c.args.tree.now c.args.files.now c.args.fd c.args.bytes.now c.in-Some.writer.now c.place-place.result c.if-has_failed.ensures (written_at c.args.tree.now c.args.files.now c.args.fd c.in-Some.writer.now (c.requires (sym c.if-has_failed.ensures)).written c.in-Some.ensures) c.in-Some.ensures (some_bytes _ (sym c.is_empty.ensures ∙ c.if-is_empty.false)).0 c.place-place.ensures (above_limit _ c.if-place-bytes.true))
+pub returns-then-is_file_too_long : goal.returns-then-is_file_too_long
+returns-then-is_file_too_long g c =
+    (refl, write_too_big c.args.tree.now c.args.files.now c.args.fd c.args.bytes.now c.in-Some.writer.now c.place-place.result c.if-has_failed.ensures (written_at c.args.tree.now c.args.files.now c.args.fd c.in-Some.writer.now (c.requires (sym c.if-has_failed.ensures)).written c.in-Some.ensures) c.in-Some.ensures (some_bytes _ (sym c.is_empty.ensures ∙ c.if-is_empty.false)).0 c.place-place.ensures (sym c.is_file_too_long.ensures.longer ∙ c.if-is_file_too_long.true))
 
 pub returns-then-lacks_room_for_writer_blocks : goal.returns-then-lacks_room_for_writer_blocks
 returns-then-lacks_room_for_writer_blocks g c = (
   refl,
   write_fits c.args.tree.now c.args.files.now c.args.fd c.args.bytes.now c.in-Some.writer.now c.place-place.result c.min.result c.max-size.result c.is_nonsequential_after_change_at.result c.lacks_room_for_writer_blocks.result c.if-has_failed.ensures (written_at c.args.tree.now c.args.files.now c.args.fd c.in-Some.writer.now (c.requires (sym c.if-has_failed.ensures)).written c.in-Some.ensures) c.in-Some.ensures (some_bytes _ (sym c.is_empty.ensures ∙ c.if-is_empty.false)).0 (some_bytes _ (sym c.is_empty.ensures ∙ c.if-is_empty.false)).1 c.place-place.ensures
-      (within_limit _ (omega (arith, c.if-place-bytes.false))) c.min.ensures c.is_nonsequential_after_change_at.ensures c.max-size.ensures c.lacks_room_for_writer_blocks.ensures ∙ ap (λ b. refuse_if b ops.NoSpace) c.if-lacks_room_for_writer_blocks.true,
+      (sym c.is_file_too_long.ensures.longer ∙ c.if-is_file_too_long.false) c.min.ensures c.is_nonsequential_after_change_at.ensures c.max-size.ensures c.lacks_room_for_writer_blocks.ensures ∙ ap (λ b. refuse_if b ops.NoSpace) c.if-lacks_room_for_writer_blocks.true,
 )
 
 pub returns : goal.returns
 returns g c = (
   write_fits c.args.tree.now c.args.files.now c.args.fd c.args.bytes.now c.in-Some.writer.now c.place-place.result c.min.result c.max-size.result c.is_nonsequential_after_change_at.result c.lacks_room_for_writer_blocks.result c.if-has_failed.ensures (written_at c.args.tree.now c.args.files.now c.args.fd c.in-Some.writer.now (c.requires (sym c.if-has_failed.ensures)).written c.in-Some.ensures) c.in-Some.ensures (some_bytes _ (sym c.is_empty.ensures ∙ c.if-is_empty.false)).0 (some_bytes _ (sym c.is_empty.ensures ∙ c.if-is_empty.false)).1 c.place-place.ensures
-      (within_limit _ (omega (arith, c.if-place-bytes.false))) c.min.ensures c.is_nonsequential_after_change_at.ensures c.max-size.ensures c.lacks_room_for_writer_blocks.ensures ∙ ap (λ b. refuse_if b ops.NoSpace) c.if-lacks_room_for_writer_blocks.false,
+      (sym c.is_file_too_long.ensures.longer ∙ c.if-is_file_too_long.false) c.min.ensures c.is_nonsequential_after_change_at.ensures c.max-size.ensures c.lacks_room_for_writer_blocks.ensures ∙ ap (λ b. refuse_if b ops.NoSpace) c.if-lacks_room_for_writer_blocks.false,
   writer_there c.args.files.now c.args.fd c.in-Some.writer.now c.in-Some.ensures,
 )

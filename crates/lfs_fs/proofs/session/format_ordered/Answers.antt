@@ -31,6 +31,7 @@ returns-in-Err-clause-back g c =
         block_size = ap (λ (k : Geometry). k.block_size) b.writes.geometry;
         page = ap (λ (k : Geometry). k.page) b.writes.geometry;
         order = refl;
+        profile = ap (λ (k : Geometry). k.profile) b.writes.geometry;
         count = b.writes.others.count;
       };
       at_worst = b.writes.at_worst;

@@ -30,7 +30,7 @@ loop-slot-preserved c all is shaped =
     let n = complete_count slot_view c.args.slots.now all is in
     let there = complete_there slot_view c.args.slots.now all c.loop-slot.slot-index c.slot-item.result no_slot is c.loop-slot-test.true c.slot-item.is in
     let l : c.loop-slot.slot-index < length all = omega (arith, n, c.loop-slot-test.true) in
-    fits_next c.args.geometry.now.block_size c.args.geometry.now.page all c.loop-slot.slot-index l (c.loop-slot.invariant all is shaped)
+    fits_next c.args.geometry.now.profile c.args.geometry.now.block_size c.args.geometry.now.page all c.loop-slot.slot-index l (c.loop-slot.invariant all is shaped)
     ((c.is_slot_in_writing_profile.ensures (slice_index_or all c.loop-slot.slot-index no_slot) there (shaped c.loop-slot.slot-index no_slot l)).0 c.if-not-is_slot_in_writing_profile.false)
 
 pub returns : goal.returns

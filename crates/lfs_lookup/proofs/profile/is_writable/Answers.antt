@@ -1,8 +1,6 @@
-use Rattle.std.proofs.Common.{◌≡◌, ◌∙◌, All, List, slice_index_or, Ok, ap, false, length, refl, subst, sym, arith}
+use Rattle.std.proofs.Common.{◌≡◌, All, List, slice_index_or, Ok, false, length, refl, subst, sym, arith}
 use Rattle.std.proofs.lemmas.Result.{err_from_is_err_and}
-use Rattle.lfs_model.specs.Disk.{Disk}
 use Rattle.lfs_model.specs.Thread.{Pair}
-use Rattle.lfs_device.specs.declared.geometry.Geometry.{Geometry}
 use Rattle.lfs_thread.specs.Steps.{empty_pair_at_anchor}
 use Rattle.lfs_lookup.specs.Profile.{HasSuperblockStructOf24Bytes}
 use Rattle.lfs_lookup.proofs.Profiled.{EachFits, IsAtPair, as_before, fits_each, fits_more, shaped_all, writable_from}
@@ -36,10 +34,8 @@ returns-then-not-branch-clause-is g c =
     let n = inv.end in
     let disk = c.args.thread.now.kept.disk in
     let ps = c.args.thread.now.kept.pairs in
-    let size = ap (λ (x : Geometry). x.block_size) c.geometry-geometry.ensures ∙ ap (λ (d : Disk). d.block_size) c.device.ensures.disk in
-    let page = ap (λ (x : Geometry). x.page) c.geometry-geometry.ensures ∙ ap (λ (d : Disk). d.page) c.device.ensures.disk in
-    let is = as_before disk c.args.root c.loop-index.thread.kept.pairs ps c.loop-index.index c.geometry-geometry.result.block_size c.geometry-geometry.result.page c.is_pair_after_hard_tail-follows.result
-    size page inv.read.only.pairs c.is_pair_after_hard_tail-follows.ensures c.in_ok-is_pair_at_index_in_profile.field-0 c.in_ok-is_pair_at_index_in_profile.ensures.is in (
+    let is = as_before disk c.args.root c.loop-index.thread.kept.pairs ps c.loop-index.index c.geometry-geometry.result c.is_pair_after_hard_tail-follows.result
+    c.geometry-geometry.ensures inv.read.only.pairs c.is_pair_after_hard_tail-follows.ensures c.in_ok-is_pair_at_index_in_profile.field-0 c.in_ok-is_pair_at_index_in_profile.ensures.is in (
       λ e. absurd (cc),
       λ w.
           let fits = is.1 (subst (λ root. IsAtPair disk root ps c.loop-index.index) (sym c.requires.root) (fits_each disk ps w c.loop-index.index (omega (arith, n, c.loop-index-test.true)))) in
@@ -55,10 +51,8 @@ loop-index-preserved g c =
     let inv = c.loop-index.invariant in
     let disk = c.args.thread.now.kept.disk in
     let ps = c.args.thread.now.kept.pairs in
-    let size = ap (λ (x : Geometry). x.block_size) c.geometry-geometry.ensures ∙ ap (λ (d : Disk). d.block_size) c.device.ensures.disk in
-    let page = ap (λ (x : Geometry). x.page) c.geometry-geometry.ensures ∙ ap (λ (d : Disk). d.page) c.device.ensures.disk in
-    let is = as_before disk c.args.root c.loop-index.thread.kept.pairs ps c.loop-index.index c.geometry-geometry.result.block_size c.geometry-geometry.result.page c.is_pair_after_hard_tail-follows.result
-    size page inv.read.only.pairs c.is_pair_after_hard_tail-follows.ensures c.in_ok-is_pair_at_index_in_profile.field-0 c.in_ok-is_pair_at_index_in_profile.ensures.is in
+    let is = as_before disk c.args.root c.loop-index.thread.kept.pairs ps c.loop-index.index c.geometry-geometry.result c.is_pair_after_hard_tail-follows.result
+    c.geometry-geometry.ensures inv.read.only.pairs c.is_pair_after_hard_tail-follows.ensures c.in_ok-is_pair_at_index_in_profile.field-0 c.in_ok-is_pair_at_index_in_profile.ensures.is in
     record {
       end = inv.end;
       within = omega (arith, c.loop-index-test.true);

@@ -1,6 +1,7 @@
 use Rattle.std.proofs.Common.{ℕ, ◌≡◌, ◌≤◌, ap, ◌∙◌, List, [], ◌∷◌, None, refl, arith, replicate, drop}
 use Rattle.std.specs.Prelude.{codes}
 use Rattle.byteorder.specs.Endian.{little_number}
+use Rattle.lfs_model.specs.Disk.{default_profile}
 use Rattle.lfs_model.specs.Crc.{crc_of, next_bits}
 use Rattle.lfs_model.specs.Log.{chain_of, chain_within, commit_within, entry_at, closes}
 use Rattle.lfs_model.specs.Slots.{Slot, Inline, zero_gstate}
@@ -20,10 +21,10 @@ long_pair = pair (0, 1) (large_superblock ∷ long ∷ []) None zero_gstate
 
 pub returns-clause-long_entry : goal.returns-clause-long_entry
 unfolding chain_of chain_within commit_within entry_at closes crc_of next_bits
-returns-clause-long_entry c = image_shows _ (long_pair ∷ []) (superblock_struct_bytes 4096 16) 2
+returns-clause-long_entry c = image_shows _ (long_pair ∷ []) (superblock_struct_bytes default_profile 4096 16) 2
     (record { links = (refl, refl); contents = (refl, tt); first = refl; named = refl; lists = (tt, (tt, tt)); pass = refl }) _ _ _ refl refl refl
 
-too_long : IsSlotWithinWritableLimits 4096 256 long → ⊥
+too_long : IsSlotWithinWritableLimits default_profile 4096 256 long → ⊥
 too_long fits = let inline : 600 ≤ 512 = (fits.1 refl).inline in omega arith
 
 pub returns-clause-long_entry_read_only : goal.returns-clause-long_entry_read_only
@@ -42,7 +43,7 @@ unfolding chain_of chain_within commit_within entry_at closes crc_of next_bits
 returns-clause-name_limit c = image_shows _ (limited_pair ∷ []) (superblock_struct_bytes_with_fields 0x00020000 4096 32) 1
     (record { links = (refl, refl); contents = (refl, tt); first = refl; named = refl; lists = (tt, tt); pass = refl }) _ _ _ refl refl refl
 
-other_limit : IsSlotWithinWritableLimits 4096 256 limited → ⊥
+other_limit : IsSlotWithinWritableLimits default_profile 4096 256 limited → ⊥
 other_limit fits =
     let limits = fits.0 refl in
     let same : superblock_struct_bytes_with_fields 0x00020000 4096 32 ≡ limits.0 = cc in
@@ -52,3 +53,15 @@ other_limit fits =
 pub returns-clause-name_limit_read_only : goal.returns-clause-name_limit_read_only
 unfolding chain_of chain_within commit_within entry_at closes crc_of next_bits
 returns-clause-name_limit_read_only c = read_only_with _ (limited_pair ∷ []) (refl, refl) (refl, tt) (fails_slot _ (limited_pair ∷ []) 0 0 limited_pair limited refl refl other_limit)
+
+-- the version is 2.1
+abbrev newer : Slot
+newer = record large_superblock { struct = Inline (superblock_struct_bytes_with_fields 0x00020001 4096 255) }
+
+abbrev newer_pair : Pair
+newer_pair = pair (0, 1) (newer ∷ []) None zero_gstate
+
+pub returns-clause-newer : goal.returns-clause-newer
+unfolding chain_of chain_within commit_within entry_at closes crc_of next_bits
+returns-clause-newer c = image_shows _ (newer_pair ∷ []) (superblock_struct_bytes_with_fields 0x00020001 4096 255) 1
+    (record { links = (refl, refl); contents = (refl, tt); first = refl; named = refl; lists = (tt, tt); pass = refl }) _ _ _ refl refl refl

@@ -1,5 +1,6 @@
 use Rattle.std.proofs.Common.{◌≡◌, sym, ap, ◌∙◌, [], ◌∷◌, None, refl}
 use Rattle.std.specs.Prelude.{codes}
+use Rattle.lfs_model.specs.Disk.{default_profile}
 use Rattle.lfs_model.specs.Crc.{crc_of, next_bits}
 use Rattle.lfs_model.specs.Log.{chain_of, chain_within, commit_within, entry_at, closes}
 use Rattle.lfs_model.specs.Slots.{zero_gstate}
@@ -17,22 +18,22 @@ use Rattle.lfs_model.proofs.images.image_shows_its_only_file.Goals as goal
 
 pub returns-clause-shifted : goal.returns-clause-shifted
 unfolding chain_of chain_within commit_within entry_at closes crc_of next_bits
-returns-clause-shifted c = image_shows _ (pair (0, 1) (large_superblock ∷ record (file (codes "b") []) { attributes = (0x41, codes "x") ∷ [] } ∷ []) None zero_gstate ∷ []) (superblock_struct_bytes 4096 16) 2
+returns-clause-shifted c = image_shows _ (pair (0, 1) (large_superblock ∷ record (file (codes "b") []) { attributes = (0x41, codes "x") ∷ [] } ∷ []) None zero_gstate ∷ []) (superblock_struct_bytes default_profile 4096 16) 2
     (record { links = (refl, refl); contents = (refl, tt); first = refl; named = refl; lists = (tt, (tt, tt)); pass = refl }) _ _ _ refl refl refl
 
 pub returns-clause-inline : goal.returns-clause-inline
 unfolding chain_of chain_within commit_within entry_at closes crc_of next_bits
-returns-clause-inline c = image_shows _ (pair (0, 1) (large_superblock ∷ file (codes "a") (codes "hello") ∷ []) None zero_gstate ∷ []) (superblock_struct_bytes 4096 16) 2
+returns-clause-inline c = image_shows _ (pair (0, 1) (large_superblock ∷ file (codes "a") (codes "hello") ∷ []) None zero_gstate ∷ []) (superblock_struct_bytes default_profile 4096 16) 2
     (record { links = (refl, refl); contents = (refl, tt); first = refl; named = refl; lists = (tt, (tt, tt)); pass = refl }) _ _ _ refl refl refl
 
 pub returns-clause-list : goal.returns-clause-list
 unfolding chain_of chain_within commit_within entry_at closes crc_of next_bits lib.Count.count_trailing_zeros
-returns-clause-list c = image_shows _ (pair (0, 1) (large_superblock ∷ long_file (codes "a") 4 8189 ∷ []) None zero_gstate ∷ []) (superblock_struct_bytes 4096 16) 2
+returns-clause-list c = image_shows _ (pair (0, 1) (large_superblock ∷ long_file (codes "a") 4 8189 ∷ []) None zero_gstate ∷ []) (superblock_struct_bytes default_profile 4096 16) 2
     (record { links = (refl, refl); contents = (refl, tt); first = refl; named = refl; lists = (tt, (list_from _ 4096 4 8189 refl, tt)); pass = refl }) _ _ _ refl refl refl
 
 pub returns-clause-zeroed : goal.returns-clause-zeroed
 unfolding chain_of chain_within commit_within entry_at closes crc_of next_bits
-returns-clause-zeroed c = image_shows _ (pair (0, 1) (large_superblock ∷ file (codes "b") [] ∷ []) None zero_gstate ∷ []) (superblock_struct_bytes 4096 16) 2
+returns-clause-zeroed c = image_shows _ (pair (0, 1) (large_superblock ∷ file (codes "b") [] ∷ []) None zero_gstate ∷ []) (superblock_struct_bytes default_profile 4096 16) 2
     (record { links = (refl, refl); contents = (refl, tt); first = refl; named = refl; lists = (tt, (tt, tt)); pass = refl }) _ _ _ refl refl refl
 
 pub returns-clause-appended : goal.returns-clause-appended

@@ -1,4 +1,5 @@
 use Rattle.std.proofs.Common.{[], ◌∷◌, None, refl}
+use Rattle.lfs_model.specs.Disk.{default_profile}
 use Rattle.lfs_model.specs.Crc.{crc_of, next_bits}
 use Rattle.lfs_model.specs.Log.{chain_of, chain_within, commit_within, entry_at, closes}
 use Rattle.lfs_model.specs.Slots.{zero_gstate}
@@ -8,5 +9,5 @@ use Rattle.lfs_model.proofs.images.null_tail_ends_thread.Goals as goal
 
 pub returns : goal.returns
 unfolding chain_of chain_within commit_within entry_at closes crc_of next_bits
-returns c = image_shows _ (pair (0, 1) (large_superblock ∷ []) None zero_gstate ∷ []) (superblock_struct_bytes 4096 16) 1
+returns c = image_shows _ (pair (0, 1) (large_superblock ∷ []) None zero_gstate ∷ []) (superblock_struct_bytes default_profile 4096 16) 1
     (record { links = (refl, refl); contents = (refl, tt); first = refl; named = refl; lists = (tt, tt); pass = refl }) _ _ _ refl refl refl

@@ -1,4 +1,5 @@
 use Rattle.std.proofs.Common.{[], ◌∷◌, None, true, refl}
+use Rattle.lfs_model.specs.Disk.{default_profile}
 use Rattle.lfs_model.specs.Crc.{crc_of, next_bits}
 use Rattle.lfs_model.specs.Log.{chain_of, chain_within, commit_within, entry_at, closes}
 use Rattle.lfs_model.specs.Slots.{zero_gstate}
@@ -9,7 +10,7 @@ use Rattle.lfs_model.proofs.images.unreached_pair_needs_sync_bit.Goals as goal
 
 pub returns-clause-with_it : goal.returns-clause-with_it
 unfolding chain_of chain_within commit_within entry_at closes crc_of next_bits
-returns-clause-with_it c = image_shows _ (pair (0, 1) (large_superblock ∷ []) (soft (2, 3)) (record { sync = true; kind = 0; id = 0; pair = (0, 0) }) ∷ pair (2, 3) [] None zero_gstate ∷ []) (superblock_struct_bytes 4096 16) 1
+returns-clause-with_it c = image_shows _ (pair (0, 1) (large_superblock ∷ []) (soft (2, 3)) (record { sync = true; kind = 0; id = 0; pair = (0, 0) }) ∷ pair (2, 3) [] None zero_gstate ∷ []) (superblock_struct_bytes default_profile 4096 16) 1
     (record { links = (refl, (refl, refl)); contents = (refl, (refl, tt)); first = refl; named = refl; lists = (tt, tt); pass = refl }) _ _ _ refl refl refl
 
 pub returns-clause-without : goal.returns-clause-without

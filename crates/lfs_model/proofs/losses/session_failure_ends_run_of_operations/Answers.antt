@@ -19,7 +19,7 @@ cut = record {
   performed = (fresh_system_state, (asked, refl));
   fails = record {
     failed = refl;
-    geometry = record { block_size = refl; page = refl; order = refl; count = refl };
+    geometry = record { block_size = refl; page = refl; order = refl; profile = refl; count = refl };
     calls = [];
     called = refl;
     asks = λ s e f. absurd (cc);

@@ -1,5 +1,6 @@
 use Rattle.std.proofs.Common.{[], ◌∷◌, None, true, refl}
 use Rattle.std.specs.Prelude.{codes}
+use Rattle.lfs_model.specs.Disk.{default_profile}
 use Rattle.lfs_model.specs.Crc.{crc_of, next_bits}
 use Rattle.lfs_model.specs.Log.{chain_of, chain_within, commit_within, entry_at, closes}
 use Rattle.lfs_model.specs.Slots.{zero_gstate}
@@ -9,5 +10,5 @@ use Rattle.lfs_model.proofs.more_images.gstate_deltas_of_pairs_are_xored.Goals a
 
 pub returns : goal.returns
 unfolding chain_of chain_within commit_within entry_at closes crc_of next_bits
-returns c = image_shows _ (pair (0, 1) (large_superblock ∷ folder (codes "d") (2, 3) ∷ []) (soft (2, 3)) (record zero_gstate { sync = true }) ∷ pair (2, 3) [] None (record zero_gstate { sync = true }) ∷ []) (superblock_struct_bytes 4096 16) 2
+returns c = image_shows _ (pair (0, 1) (large_superblock ∷ folder (codes "d") (2, 3) ∷ []) (soft (2, 3)) (record zero_gstate { sync = true }) ∷ pair (2, 3) [] None (record zero_gstate { sync = true }) ∷ []) (superblock_struct_bytes default_profile 4096 16) 2
     (record { links = (refl, (refl, refl)); contents = (refl, (refl, tt)); first = refl; named = refl; lists = (tt, (tt, tt)); pass = refl }) _ _ _ refl refl refl

@@ -1,5 +1,6 @@
 use Rattle.std.proofs.Common.{◌≤◌, [], ◌∷◌, None, refl, arith, replicate}
 use Rattle.std.specs.Prelude.{codes}
+use Rattle.lfs_model.specs.Disk.{default_profile}
 use Rattle.lfs_model.specs.Crc.{crc_of, next_bits}
 use Rattle.lfs_model.specs.Log.{chain_of, chain_within, commit_within, entry_at, closes}
 use Rattle.lfs_model.specs.Slots.{zero_gstate, Slot}
@@ -15,7 +16,7 @@ charged = record (file (codes "a") []) { attributes = (0x41, replicate 1022 1) �
 abbrev charged_pair : Pair
 charged_pair = pair (0, 1) (large_superblock ∷ charged ∷ []) None zero_gstate
 
-too_much : IsSlotWithinWritableLimits 4096 256 charged → ⊥
+too_much : IsSlotWithinWritableLimits default_profile 4096 256 charged → ⊥
 too_much fits = let charge : 1951 ≤ 1900 = (fits.1 refl).charge in omega arith
 
 pub returns-clause-charge : goal.returns-clause-charge

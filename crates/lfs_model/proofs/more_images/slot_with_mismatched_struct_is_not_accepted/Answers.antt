@@ -1,5 +1,6 @@
 use Rattle.std.proofs.Common.{[], ◌∷◌, None, false, refl}
 use Rattle.std.specs.Prelude.{codes}
+use Rattle.lfs_model.specs.Disk.{default_profile}
 use Rattle.lfs_model.specs.Crc.{crc_of, next_bits}
 use Rattle.lfs_model.specs.Log.{chain_of, chain_within, commit_within, entry_at, closes}
 use Rattle.lfs_model.specs.Slots.{zero_gstate, File, Directory}
@@ -18,8 +19,8 @@ returns-clause-move_elsewhere c = refused_with _ (pair (0, 1) (large_superblock 
 
 pub returns-clause-file_branch : goal.returns-clause-file_branch
 unfolding chain_of chain_within commit_within entry_at closes crc_of next_bits
-returns-clause-file_branch c = refused_with _ (pair (0, 1) (large_superblock ∷ record (folder (codes "a") (2, 3)) { kind = File } ∷ []) None zero_gstate ∷ []) (refl, refl) (refl, tt) (fails_superblock _ _ _ _ (superblock_struct_bytes 4096 16) refl (λ held h. h.1) refl)
+returns-clause-file_branch c = refused_with _ (pair (0, 1) (large_superblock ∷ record (folder (codes "a") (2, 3)) { kind = File } ∷ []) None zero_gstate ∷ []) (refl, refl) (refl, tt) (fails_superblock _ _ _ _ (superblock_struct_bytes default_profile 4096 16) refl (λ held h. h.1) refl)
 
 pub returns-clause-directory_inline : goal.returns-clause-directory_inline
 unfolding chain_of chain_within commit_within entry_at closes crc_of next_bits
-returns-clause-directory_inline c = refused_with _ (pair (0, 1) (large_superblock ∷ record (file (codes "a") []) { kind = Directory } ∷ []) None zero_gstate ∷ []) (refl, refl) (refl, tt) (fails_superblock _ _ _ _ (superblock_struct_bytes 4096 16) refl (λ held h. h.1) refl)
+returns-clause-directory_inline c = refused_with _ (pair (0, 1) (large_superblock ∷ record (file (codes "a") []) { kind = Directory } ∷ []) None zero_gstate ∷ []) (refl, refl) (refl, tt) (fails_superblock _ _ _ _ (superblock_struct_bytes default_profile 4096 16) refl (λ held h. h.1) refl)

@@ -11,7 +11,7 @@ use Rattle.lfs_model.specs.Operations as ops
 use Rattle.lfs_model.specs.Operations.{Reply}
 use Rattle.lfs_model.specs.Run.{IsSessionStep}
 use Rattle.lfs_model.specs.Fresh.{empty_tree}
-use Rattle.lfs_model.specs.Session.{DiskSummary, is_entry_over_charge_limit, lacks_free_blocks}
+use Rattle.lfs_model.specs.Session.{DiskSummary, has_too_long_last_name, is_entry_over_charge_limit, lacks_free_blocks}
 use Rattle.lfs_model.specs.State.{Healthy, SessionHealth, reply_and_session_health_after_operation, session_after_mount}
 use Rattle.lfs_model.specs.Thread.{AreLinkedByTails, Pair, anchor_pair_address}
 use Rattle.lfs_model.specs.examples.Images.{large_fresh_image, small_fresh_image}
@@ -64,18 +64,19 @@ abbrev is_opened : Option Reply → Bool
 is_opened (Some (ops.Opened fd)) = true
 is_opened _ = false
 
-refused : (around : DiskSummary) (shown : Option Tree) (after : SessionHealth) → lacks_free_blocks around [] 2 ≡ true → (w : Bool) → around.writable ≡ w → (o : Bool) → is_entry_over_charge_limit around (codes "b") [] ≡ o
+refused : (around : DiskSummary) (shown : Option Tree) (after : SessionHealth) → lacks_free_blocks around [] 2 ≡ true → (w : Bool) → around.writable ≡ w → (t : Bool) → has_too_long_last_name around (codes "b" ∷ []) ≡ t → (o : Bool) → is_entry_over_charge_limit around (codes "b") [] ≡ o
     → reply_and_session_health_after_operation around shown (Healthy (session_after_mount empty_tree)) op ≡ (Some (ops.Opened 0), after) → ⊥
-refused around shown after lack w is o over e = absurd (let z : false ≡ true = sym (go w is o over) ∙ ap (λ (x : Option Reply × SessionHealth). is_opened x.0) e in cc)
+refused around shown after lack w is t long o over e = absurd (let z : false ≡ true = sym (go w is t long o over) ∙ ap (λ (x : Option Reply × SessionHealth). is_opened x.0) e in cc)
   where
-    go : (w : Bool) → around.writable ≡ w → (o : Bool) → is_entry_over_charge_limit around (codes "b") [] ≡ o → is_opened (reply_and_session_health_after_operation around shown (Healthy (session_after_mount empty_tree)) op).0 ≡ false
-    go false f o g = rw f refl
-    go true f true g = rw f (rw g refl)
-    go true f false g = rw f (rw g (rw lack refl))
+    go : (w : Bool) → around.writable ≡ w → (t : Bool) → has_too_long_last_name around (codes "b" ∷ []) ≡ t → (o : Bool) → is_entry_over_charge_limit around (codes "b") [] ≡ o → is_opened (reply_and_session_health_after_operation around shown (Healthy (session_after_mount empty_tree)) op).0 ≡ false
+    go false f t h o g = rw f refl
+    go true f true h o g = rw f (rw h refl)
+    go true f false h true g = rw f (rw h (rw g refl))
+    go true f false h false g = rw f (rw h (rw g (rw lack refl)))
 
 pub returns-clause-no_space : goal.returns-clause-no_space
 returns-clause-no_space c = λ to h.
     let a = h.answered in
     let s = a.surrounds (session_after_mount empty_tree) refl in
     let some = subst (λ (bs : List ℕ). 1 ≤ length bs) (sym s.1.1.used) (some_used s.0 s.1.0.thread.links) in
-    refused a.around a.shown to.state (lacking a.around s.1.1.block_count some) a.around.writable refl (is_entry_over_charge_limit a.around (codes "b") []) refl a.answers
+    refused a.around a.shown to.state (lacking a.around s.1.1.block_count some) a.around.writable refl (has_too_long_last_name a.around (codes "b" ∷ [])) refl (is_entry_over_charge_limit a.around (codes "b") []) refl a.answers

@@ -1,5 +1,6 @@
 use Rattle.std.proofs.Common.{◌⊎◌, inl, inr, [], ◌∷◌, refl, arith}
 use Rattle.std.specs.Prelude.{codes, Any}
+use Rattle.lfs_model.specs.Disk.{default_profile}
 use Rattle.lfs_model.specs.Slots.{Slot}
 use Rattle.lfs_model.specs.SlotEdits.{new_file_slot}
 use Rattle.lfs_model.specs.Frame.{IsEntrySlotWithName}
@@ -21,8 +22,8 @@ pub returns-clause-other_pair : goal.returns-clause-other_pair
 returns-clause-other_pair c = λ h. none_named (new_file_slot (codes "z")) (λ k. absurd (let e = k.1 in cc)) h.1.2
 
 pub returns-clause-superblock : goal.returns-clause-superblock
-returns-clause-superblock c = λ h. go (among_from (IsEntrySlotWithName (codes "littlefs")) (superblock_slot 1024 2 ∷ []) h.1.2)
+returns-clause-superblock c = λ h. go (among_from (IsEntrySlotWithName (codes "littlefs")) (superblock_slot default_profile 1024 2 ∷ []) h.1.2)
   where
-    go : IsEntrySlotWithName (codes "littlefs") (superblock_slot 1024 2) ⊎ ⊥ → ⊥
+    go : IsEntrySlotWithName (codes "littlefs") (superblock_slot default_profile 1024 2) ⊎ ⊥ → ⊥
     go (inl k) = absurd (let e = k.0 in cc)
     go (inr k) = k

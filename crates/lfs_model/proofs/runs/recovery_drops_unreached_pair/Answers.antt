@@ -1,7 +1,7 @@
 use Rattle.std.proofs.Common.{◌≡◌, ◌≤◌, inl, inr, true, List, [], ◌∷◌, ◌++◌, None, refl, sym, ap, subst, ◌∙◌, arith, flat_map, length}
 use Rattle.std.specs.Prelude.{sum_by}
 use Rattle.std.proofs.lemmas.Option.{same_Some}
-use Rattle.lfs_model.specs.Disk.{Disk, pair_capacity, slots_per_pair_limit}
+use Rattle.lfs_model.specs.Disk.{Disk, pair_capacity, slots_per_pair_limit, default_profile}
 use Rattle.lfs_model.specs.Slots.{Gstate, slot_size, same_pair}
 use Rattle.lfs_model.specs.Thread.{Pair}
 use Rattle.lfs_model.specs.Shown.{IsDirectoryAddressReachedBySomePath}
@@ -24,7 +24,7 @@ root_stays (inr a) = among_from (λ at. same_pair (0, 1) at ≡ true) [] a
 abbrev root : Pair
 root = only_pair_of_fresh_disk large_fresh_image
 
-fits : (disk : Disk) (p : Pair) → p.content.slots ≡ superblock_slot 4096 16 ∷ [] → disk.block_size ≡ 4096 → disk.page ≡ 256 → IsContentFittingPairOnDisk disk p
+fits : (disk : Disk) (p : Pair) → p.content.slots ≡ superblock_slot default_profile 4096 16 ∷ [] → disk.block_size ≡ 4096 → disk.page ≡ 256 → IsContentFittingPairOnDisk disk p
 fits disk p e b g = record {
   size = subst (λ slots. sum_by slot_size slots ≤ pair_capacity disk.block_size disk.page) (sym e) (subst (λ x. 40 ≤ pair_capacity x disk.page) (sym b) (subst (λ x. 40 ≤ pair_capacity 4096 x) (sym g) (omega arith)));
   count = subst (λ slots. length slots ≤ slots_per_pair_limit) (sym e) (omega arith);

@@ -1,6 +1,7 @@
 use Rattle.std.proofs.Common.{ℕ, ◌≡◌, inl, inr, List, [], ◌∷◌, refl, sym, ap, arith}
 use Rattle.std.specs.Prelude.{codes, slice_index}
 use Rattle.std.proofs.lemmas.Option.{same_Some}
+use Rattle.lfs_model.specs.Disk.{default_profile}
 use Rattle.lfs_model.specs.Slots.{Slot, Struct, Inline}
 use Rattle.lfs_model.specs.Fresh.{superblock_slot}
 use Rattle.lfs_model.specs.SlotEdits.{new_file_slot, new_directory_slot, MovesSlotToPath}
@@ -11,7 +12,7 @@ use Rattle.lfs_model.proofs.slots.operations_edit_slots.Goals as goal
 use Rattle.lfs_model.specs.InDirectory.{slots_of_pairs_in_order}
 
 abbrev root : List Slot
-root = superblock_slot 4096 16 ∷ new_directory_slot (codes "d") (4, 5) ∷ []
+root = superblock_slot default_profile 4096 16 ∷ new_directory_slot (codes "d") (4, 5) ∷ []
 
 pub returns-clause-made : goal.returns-clause-made
 returns-clause-made c = (refl, record { before = []; pair = _; after = _; left = root; right = []; was = refl; held = refl; is = refl })
@@ -43,7 +44,7 @@ returns-clause-committed c = (
     (
       new_file_slot (codes "a"),
       record (new_file_slot (codes "a")) { struct = Inline (codes "hi") },
-      (refl, (refl, (refl, omega arith)), record { before = []; pair = _; after = _; left = superblock_slot 4096 16 ∷ []; right = []; was = refl; held = refl; is = refl }),
+      (refl, (refl, (refl, omega arith)), record { before = []; pair = _; after = _; left = superblock_slot default_profile 4096 16 ∷ []; right = []; was = refl; held = refl; is = refl }),
     ),
   ),
 )

@@ -1,6 +1,7 @@
 use Rattle.std.proofs.Common.{ℕ, ◌+◌, ◌≡◌, ◌≤◌, inl, inr, true, List, [], ◌∷◌, length, refl, sym, ap, ◌∙◌, arith}
 use Rattle.std.specs.Prelude.{codes}
 use Rattle.std.proofs.lemmas.Option.{same_Some}
+use Rattle.lfs_model.specs.Disk.{default_profile}
 use Rattle.lfs_model.specs.Slots.{Slot, Struct, Inline, Ctz, Branch}
 use Rattle.lfs_model.specs.Content.{attributes_with_attribute}
 use Rattle.lfs_model.specs.Fresh.{superblock_slot}
@@ -14,7 +15,7 @@ use Rattle.lfs_model.proofs.slots.slots_and_attributes_are_replaced.Goals as goa
 use Rattle.lfs_model.specs.InDirectory.{slots_of_pairs_in_order}
 
 abbrev root : List Slot
-root = superblock_slot 4096 16 ∷ new_directory_slot (codes "d") (4, 5) ∷ []
+root = superblock_slot default_profile 4096 16 ∷ new_directory_slot (codes "d") (4, 5) ∷ []
 
 pub returns-clause-onto : goal.returns-clause-onto
 returns-clause-onto c = (
@@ -52,7 +53,7 @@ unset (u, v, (at, is, spliced)) = go (comes v (u ∷ []) root_and_directory_of_t
     none s e f = absurd (let k = ap (λ (t : Slot). length t.attributes) f in omega (arith, some))
 
     go : IsTrueOfSomeElement (λ s. s ≡ v) (slots_of_pairs_in_order root_and_directory_of_two_pairs) → ⊥
-    go (inl e) = none (superblock_slot 4096 16) refl e
+    go (inl e) = none (superblock_slot default_profile 4096 16) refl e
     go (inr (inl e)) = none (new_directory_slot (codes "d") (4, 5)) refl e
     go (inr (inr (inl e))) = none (new_file_slot (codes "a")) refl e
     go (inr (inr (inr (inl e)))) = none (new_file_slot (codes "z")) refl e
@@ -83,7 +84,7 @@ uncommitted (u, v, (at, (is, said), spliced)) = go (comes v (u ∷ []) (root_pai
     other s n e f = sym e ∙ ap (λ (t : Slot). size t.struct) f ∙ two
 
     go : IsTrueOfSomeElement (λ s. s ≡ v) (slots_of_pairs_in_order (root_pair_with_file (codes "a") [])) → ⊥
-    go (inl e) = absurd (let k : 24 ≡ 2 = other (superblock_slot 4096 16) 24 refl e in omega arith)
+    go (inl e) = absurd (let k : 24 ≡ 2 = other (superblock_slot default_profile 4096 16) 24 refl e in omega arith)
     go (inr (inl e)) = absurd (let k : 0 ≡ 2 = other (new_file_slot (codes "a")) 0 refl e in omega arith)
     go (inr (inr e)) = e
 

@@ -5,7 +5,7 @@ use Rattle.std.proofs.lemmas.Result.{err_from_is_err_and}
 use Rattle.lfs_device.specs.declared.geometry.Geometry.{Geometry}
 use Rattle.lfs_device.specs.Shown.{disk_with_name_order}
 use Rattle.lfs_thread.specs.Kept.{PairHeader, disk_of_device}
-use Rattle.lfs_mount.proofs.Heads.{active_within, begun, ends, fails, halts, head_is, last_is, more, passes, refused_first, refused_none, same_block, step_at, within}
+use Rattle.lfs_mount.proofs.Heads.{active_within, begun, ends, fails, found_length, halts, head_is, last_is, more, passes, refused_first, refused_none, same_block, step_at, within}
 use Rattle.lfs_mount.proofs.InOrders.{has_headers_in}
 use Rattle.lfs_mount.proofs.Reported.{same_error, reports_error, reports_ok, then_reads}
 use Rattle.lfs_mount.proofs.superblock_chain.superblock_chain_length.Goals as goal
@@ -75,7 +75,12 @@ read_whether_block_repeats_superblock-requires g c =
     let at = ap (λ (h : PairHeader). h.active) next.is in
     let count = (g.met.D.BlockDevice.shape c.args.dev.now).count in
     let same = ap (λ (k : Geometry). k.block_count) c.loop-index.invariant.device.geometry in
-    omega (arith, small, at, count, same)
+    record {
+      block = omega (arith, small, at, count, same);
+      bytes = ap length c.deref.ensures.value
+          ∙ found_length (disk_of_device g.D.BlockDevice c.args.dev.now) (g.D.BlockDevice.history c.args.dev.now) c.args.pairs.now c.requires c.in_ok-first.first c.in_ok-first.ensures.ok c.index-pairs-first.result c.index-pairs-first.is c.in_ok-bytes.bytes.items
+          c.in_ok-bytes.ensures.found;
+    }
 
 pub returns-in_err-read_whether_block_repeats_superblock-clause-corrupt : goal.returns-in_err-read_whether_block_repeats_superblock-clause-corrupt
 returns-in_err-read_whether_block_repeats_superblock-clause-corrupt g c = λ is order a.
@@ -86,7 +91,7 @@ returns-in_err-read_whether_block_repeats_superblock-clause-corrupt g c = λ is 
     let this = c.index-pairs-index in
     let next = c.index-pairs-index-in-loop-index-2 in
     let step = step_at c.args.pairs.now c.loop-index.index this.result next.result (omega (arith, low)) c.loop-index-test.true this.is next.is in
-    let none = same_block _ _ _ _ _ _ None c.loop-index.invariant.device.same c.deref.ensures.value next.is (c.in_err-read_whether_block_repeats_superblock.ensures.corrupt (ap Err (same_error e.1 e.2 is))) in
+    let none = same_block _ _ _ _ _ _ _ _ None c.loop-index.invariant.device.geometry c.loop-index.invariant.device.same c.deref.ensures.value next.is (c.in_err-read_whether_block_repeats_superblock.ensures.corrupt (ap Err (same_error e.1 e.2 is))) in
     fails (disk_with_name_order order disk) (g.D.BlockDevice.history c.args.dev.now) c.args.pairs.now has c.in_ok-bytes.bytes.items c.loop-index.root c.loop-index.index this.result next.result step c.loop-index.invariant.walked
     (sym c.can_superblock_chain_continue.ensures ∙ c.if-not-can_superblock_chain_continue.false) none a
 
@@ -107,7 +112,7 @@ returns-then-not-branch-clause-head g c =
     let next = c.index-pairs-index-in-loop-index-2 in
     let step = step_at c.args.pairs.now c.loop-index.index this.result next.result (omega (arith, low)) c.loop-index-test.true this.is next.is in
     let not_more : c.in_ok-read_whether_block_repeats_superblock.field-0 ≡ false = search rules in
-    let ended = same_block _ _ _ _ _ _ (Some false) c.loop-index.invariant.device.same c.deref.ensures.value next.is (c.in_ok-read_whether_block_repeats_superblock.ensures.ok ∙ ap (λ b. Some b) not_more) in
+    let ended = same_block _ _ _ _ _ _ _ _ (Some false) c.loop-index.invariant.device.geometry c.loop-index.invariant.device.same c.deref.ensures.value next.is (c.in_ok-read_whether_block_repeats_superblock.ensures.ok ∙ ap (λ b. Some b) not_more) in
     head_is disk history c.args.pairs.now c.requires c.in_ok-first.first c.in_ok-first.ensures.ok c.index-pairs-first.result c.index-pairs-first.is c.in_ok-bytes.bytes.items c.loop-index.root (c.loop-index.index - 1)
     c.in_ok-bytes.ensures.found c.loop-index.invariant.walked
     (ends disk history c.args.pairs.now c.requires c.in_ok-bytes.bytes.items c.loop-index.root c.loop-index.index this.result next.result step c.loop-index.invariant.walked
@@ -126,7 +131,7 @@ loop-index-preserved g c =
     let next = c.index-pairs-index-in-loop-index-2 in
     let step = step_at c.args.pairs.now c.loop-index.index this.result next.result (omega (arith, low)) c.loop-index-test.true this.is next.is in
     let is_more : c.in_ok-read_whether_block_repeats_superblock.field-0 ≡ true = search rules in
-    let went = same_block _ _ _ _ _ _ (Some true) c.loop-index.invariant.device.same c.deref.ensures.value next.is (c.in_ok-read_whether_block_repeats_superblock.ensures.ok ∙ ap (λ b. Some b) is_more) in
+    let went = same_block _ _ _ _ _ _ _ _ (Some true) c.loop-index.invariant.device.geometry c.loop-index.invariant.device.same c.deref.ensures.value next.is (c.in_ok-read_whether_block_repeats_superblock.ensures.ok ∙ ap (λ b. Some b) is_more) in
     let one = c.in_ok-read_whether_block_repeats_superblock.ensures.reads in
     let others = c.loop-index.invariant.read in
     let below = c.loop-index.invariant.walked.below in

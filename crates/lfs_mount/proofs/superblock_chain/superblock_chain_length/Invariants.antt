@@ -7,7 +7,7 @@ use Rattle.lfs_mount.proofs.superblock_chain.superblock_chain_length.Given as go
 
 abbrev pub invariant-loop-index : goal.invariant-loop-index
 invariant-loop-index g l = record {
-  walked : IsWalked l.bytes.items (pairs_of_headers (disk_of_device g.D.BlockDevice l.fn.dev) l.pairs) l.root (l.index - 1);
+  walked : IsWalked (g.D.BlockDevice.geometry l.fn.dev).profile.versions l.bytes.items (pairs_of_headers (disk_of_device g.D.BlockDevice l.fn.dev) l.pairs) l.root (l.index - 1);
   device : ReadsOnly g.D.BlockDevice l.fn.dev l.dev;
   no_fault : fault_count_of_history (g.D.BlockDevice.history l.dev) ≡ fault_count_of_history (g.D.BlockDevice.history l.fn.dev);
   read : read_count_of_history (g.D.BlockDevice.history l.dev) ≤ read_count_of_history (g.D.BlockDevice.history l.fn.dev) + 1 + l.root;

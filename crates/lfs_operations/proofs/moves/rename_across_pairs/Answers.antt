@@ -9,10 +9,17 @@ use Rattle.lfs_operations.specs.MovingSteps.{CanEndMoveAfterFirstCommit, IsSlotP
 use Rattle.lfs_operations.specs.MovingAcross.{rename_across_pairs_changes, tree_with_moved_entry}
 use Rattle.lfs_operations.specs.RenamingSlots.{slot_creation_changes}
 use Rattle.lfs_operations.proofs.AlteredLater.{altered_later}
-use Rattle.lfs_operations.proofs.MovLater.{can_put_later, changes_later, ends_later, parts_later, renamed_later, survives_later, reports_after_read, reports_unmade, writes_after_read, writes_read}
+use Rattle.lfs_operations.proofs.MovLater.{can_put_later, changes_later, ends_later, parts_later, renamed_later, survives_later, reports_after_read, reports_unmade, reports_unread, writes_after_read, writes_read}
 use Rattle.lfs_operations.proofs.Putting.{not_both}
 use Rattle.lfs_operations.proofs.RenameRead.{read_survives}
 use Rattle.lfs_operations.proofs.moves.rename_across_pairs.Goals as goal
+
+pub returns-in_err-copy-clause-errors : goal.returns-in_err-copy-clause-errors
+returns-in_err-copy-clause-errors g c =
+    let from = c.from_residual in
+    let p = err_from_is_err_and from.result from.ensures.1 in
+    reports_unread c.args.thread.now c.copy_slot_of_pair.new.thread c.args.new_pair (rename_across_pairs_changes c.args.thread.now.kept c.args.old_pair c.args.old_id c.args.new_pair c.args.new_id c.args.name.now) p.0 c.copy_slot_of_pair.result from.result
+    (c.in_err-copy.was ∙ ap Err (sym p.2)) p.1 c.copy_slot_of_pair.ensures.works c.copy_slot_of_pair.ensures.only c.copy_slot_of_pair.ensures.errors
 
 pub returns-in_err-copy-clause-device : goal.returns-in_err-copy-clause-device
 returns-in_err-copy-clause-device g c = writes_read c.args.thread.now.kept c.copy_slot_of_pair.new.thread.kept (pair_written_by_second_move_commit c.args.thread.now.kept c.args.old_pair c.args.first) c.args.new_pair c.copy_slot_of_pair.ensures.only

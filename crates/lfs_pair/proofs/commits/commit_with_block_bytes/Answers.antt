@@ -40,7 +40,9 @@ returns-clause-stops g c =
     let stops = subst (λ d. IsTrueOfEachCallSince LeavesNoNewLogIfSuccessfulErase (g.D.BlockDevice.history d) (g.D.BlockDevice.history c.compact.new.dev)
     → IsTrueAfterAnyPowerLossSince AreBlocksLeftByPowerLossInCall (g.D.BlockDevice.history d) (g.D.BlockDevice.history c.compact.new.dev) (PowerLossLeavesOldOrNewContent (disk_of_geometry_and_blocks (g.D.BlockDevice.geometry d) (g.D.BlockDevice.blocks d)) (pair_address_in_header c.args.pair.now) (content_view c.in_ok-content.content)))
     (c.in_ok-append_changes_to_log.ensures.no_room (ap Ok c.if-branch.false)).device moved in
-    let fits : IsRawContentFittingPair (g.D.BlockDevice.geometry c.args.dev.now).block_size (g.D.BlockDevice.geometry c.args.dev.now).page (content_view c.in_ok-content.content) = search rules in
+    let fits : IsRawContentFittingPair (g.D.BlockDevice.geometry c.args.dev.now).block_size (g.D.BlockDevice.geometry c.args.dev.now).page (content_view c.in_ok-content.content) =
+    subst (λ (k : Geometry). IsRawContentFittingPair k.block_size k.page (content_view c.in_ok-content.content)) c.geometry-geometry.ensures
+    (c.is_content_within_pair_limits.ensures.0 (search rules)) in
     λ cleanly. IsTrueAfterAnyPowerLossSince-weaker (λ disk left. left_by_change (disk_of_geometry_and_blocks (g.D.BlockDevice.geometry c.args.dev.now) (g.D.BlockDevice.blocks c.args.dev.now)) (pair_address_in_header c.args.pair.now) (changes_view c.args.changes.now) (content_view c.in_ok-content.content) disk made fits c.in_ok-content.ensures.logged left) (stops cleanly)
 
 pub returns-in_err-append_changes_to_log-clause-stops : goal.returns-in_err-append_changes_to_log-clause-stops
@@ -74,7 +76,9 @@ returns-then-branch-clause-done g c done =
 pub returns-clause-done : goal.returns-clause-done
 returns-clause-done g c done =
     let made = made_here _ _ c.args.pair.now c.requires.can.held c.args.block.now (changes_view c.args.changes.now) (Some (content_view c.in_ok-content.content)) c.requires.can.is_pair c.requires.block c.in_ok-content.ensures.content in
-    let fits : IsRawContentFittingPair (g.D.BlockDevice.geometry c.args.dev.now).block_size (g.D.BlockDevice.geometry c.args.dev.now).page (content_view c.in_ok-content.content) = search rules in
+    let fits : IsRawContentFittingPair (g.D.BlockDevice.geometry c.args.dev.now).block_size (g.D.BlockDevice.geometry c.args.dev.now).page (content_view c.in_ok-content.content) =
+    subst (λ (k : Geometry). IsRawContentFittingPair k.block_size k.page (content_view c.in_ok-content.content)) c.geometry-geometry.ensures
+    (c.is_content_within_pair_limits.ensures.0 (search rules)) in
     let holds = subst (λ p. PairHasContent (disk_of_geometry_and_blocks (g.D.BlockDevice.geometry c.compact.new.dev) (g.D.BlockDevice.blocks c.compact.new.dev)) (g.D.BlockDevice.history c.compact.new.dev) (pair_address_in_header p) c.compact.new.pair (content_view c.in_ok-content.content))
     (c.in_ok-append_changes_to_log.ensures.no_room (ap Ok c.if-branch.false)).pair c.in_ok-compact.ensures.done.holds in
     let moved = subst (λ p. KeepsFirstEntryOfPairLog (disk_of_geometry_and_blocks (g.D.BlockDevice.geometry c.append_changes_to_log.new.dev) (g.D.BlockDevice.blocks c.append_changes_to_log.new.dev)) (pair_address_in_header p) (Some (content_view c.in_ok-content.content)) (disk_of_geometry_and_blocks (g.D.BlockDevice.geometry c.compact.new.dev) (g.D.BlockDevice.blocks c.compact.new.dev)))

@@ -70,7 +70,7 @@ returns-clause-form g c =
     (can_be_opened t mid.history c.args.path.now c.in-Some.slot c.in-Some.contents f sound.accepted sound.used idle) in
     let sized = sized_on g.D.BlockDevice device t.disk (g.D.BlockDevice.geometry device).block_count (c.device-device.ensures.disk ∙ c.lookup_result_at_path.ensures.reading.only.disk)
     (g.D.BlockDevice.geometry device).valid.no_smaller (g.met.D.BlockDevice.shape device) in
-    form_of_opened c.open_contents.new.thread.kept f.held.struct (form_of_opened_storage c.in-Some.contents) c.open_contents.result (IsFormOfOpenedContents t.disk.block_size (length (file_bytes_of_node (tree_on_disk t.disk t.pairs c.args.path.now))))
+    form_of_opened c.open_contents.new.thread.kept f.held.struct (form_of_opened_storage c.in-Some.contents) c.open_contents.result (IsFormOfOpenedContents t.disk.profile t.disk.block_size (length (file_bytes_of_node (tree_on_disk t.disk t.pairs c.args.path.now))))
     (λ shape e. form_opened t c.args.path.now c.in-Some.slot c.in-Some.contents f (f.inline (sound.fits refl)) sized shape e) (c.open_contents.ensures.opened f.held can)
 
 pub returns-clause-reading : goal.returns-clause-reading

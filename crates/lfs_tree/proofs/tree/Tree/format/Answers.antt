@@ -15,7 +15,7 @@ returns-in-Ok-clause-formatted g c = c.in-Ok.ensures.formatted
 pub returns-in-Ok-clause-geometry : goal.returns-in-Ok-clause-geometry
 returns-in-Ok-clause-geometry g c =
     let s = c.in-Ok.ensures.writes.shape in
-    record { block_size = s.block_size; page = s.page; order = s.order; count = s.count }
+    record { block_size = s.block_size; page = s.page; order = s.order; profile = s.profile; count = s.count }
 
 pub returns-in-Ok-clause-calls : goal.returns-in-Ok-clause-calls
 returns-in-Ok-clause-calls g c = record { calls = c.in-Ok.ensures.calls; writes = c.in-Ok.ensures.writes }

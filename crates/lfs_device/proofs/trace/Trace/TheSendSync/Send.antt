@@ -1,0 +1,7 @@
+-- A trace owns nothing, so it may go to another thread.
+use denote.RattleType.{RattleType}
+use denote.Param.Send.{IsSend, owning_send}
+use Rattle.lfs_device.specs.contracts.trace.Trace.{the_row, the_type}
+
+pub send : IsSend the_row
+send = owning_send the_type tt (λ d. tt) (λ k x w. tt)

@@ -1,0 +1,80 @@
+// A device with another profile.
+
+ghost use Rattle.std.specs.Prelude.{◌≡◌};
+ghost use Rattle.lfs_device.specs.declared.geometry.Geometry.{Geometry};
+
+use crate::{BlockDevice, Error, Geometry};
+use lfs_model::Profile;
+
+/// A device whose images are accepted and written by a given profile. Its blocks and calls are those
+/// of the device below.
+#[derive(Drop)]
+pub struct Profiled<D: BlockDevice> {
+    inner: D,
+    profile: Profile,
+}
+
+impl<D: BlockDevice> Profiled<D> {
+    pub fn new(inner: D, profile: Profile) -> Profiled<D>
+        ensures inner { result.inner ≡ inner }
+        ensures profile { result.profile ≡ profile }
+    {
+        Profiled { inner, profile }
+    }
+
+    /// Borrows the device below.
+    pub fn inner(&self) -> &D
+        ensures { result.now ≡ self.now.inner }
+    {
+        &self.inner
+    }
+
+    /// Returns the device below.
+    pub fn into_inner(self) -> D
+        ensures { result ≡ self.inner }
+    {
+        self.inner
+    }
+
+    /// Returns the profile.
+    pub fn profile(&self) -> Profile
+        ensures { result ≡ self.now.profile }
+    {
+        self.profile
+    }
+}
+
+impl<D: BlockDevice> BlockDevice for Profiled<D> {
+    ghost geometry = { λ d. record (D.geometry d.inner) { profile = d.profile } };
+
+    ghost blocks = { λ d. D.blocks d.inner };
+
+    ghost history = { λ d. D.history d.inner };
+
+    ghost shape = { λ d. D.shape d.inner };
+
+    ghost bytes = { λ d. D.bytes d.inner };
+
+    ghost newest = { λ d. D.newest d.inner };
+
+    ghost conforms = { λ d. D.conforms d.inner };
+
+    fn geometry(&self) -> Geometry {
+        self.inner.geometry().with_profile(self.profile)
+    }
+
+    fn read(&mut self, block: u32, off: u32, buf: &mut [u8]) -> Result<(), Error> {
+        let outcome = self.inner.read(block, off, buf);
+        outcome
+    }
+
+    fn prog(&mut self, block: u32, off: u32, bytes: &[u8]) -> Result<(), Error> {
+        let outcome = self.inner.prog(block, off, bytes);
+        outcome
+    }
+
+    fn erase(&mut self, block: u32) -> Result<(), Error> {
+        let outcome = self.inner.erase(block);
+        outcome
+    }
+}

@@ -1,0 +1,81 @@
+// A mount by the limits of the image.
+
+ghost use Rattle.std.specs.Prelude.{◌≡◌, ◌↔◌, ◌⊎◌, IsTrue, List, IfErr, IfOk};
+ghost use Rattle.lfs_device.specs.Shown.{disk_with_name_order, disk_with_profile};
+ghost use Rattle.lfs_model.specs.RepeatedPowerLoss.{IsJustMounted};
+ghost use Rattle.lfs_model.specs.Thread.{Pair};
+ghost use Rattle.lfs_model.specs.View.{IsAcceptedImage};
+ghost use Rattle.lfs_model.specs.declared.order.NameOrder.{NameOrder};
+ghost use Rattle.lfs_model.specs.declared.order.NameOrder.TheVariants.{LongerFirst, ShorterFirst};
+ghost use Rattle.lfs_thread.specs.Kept.{disk_of_device};
+ghost use Rattle.lfs_fs.specs.ImageLimits.{IsSessionBegunWithLimits, ReturnsUnchangedDeviceByAnyProfile};
+ghost use Rattle.lfs_fs.specs.SessionView.{IsSessionBegunByMount, system_state_of_session_view};
+
+use crate::session::{Session, mount};
+use lfs_device::{BlockDevice, Error, Profile, Profiled};
+use std::alloc::Global;
+
+// Returns whether both profiles have the same limits of names, files and attributes.
+fn have_same_limits(one: &Profile, other: &Profile) -> bool
+    ensures { IsTrue result ↔ ((one.now.name_max ≡ other.now.name_max) × (one.now.file_max ≡ other.now.file_max) × (one.now.attr_max ≡ other.now.attr_max)) }
+{
+    one.name_max == other.name_max
+        && one.file_max == other.file_max
+        && one.attr_max == other.attr_max
+}
+
+// Begins a session over the image of a device, with that profile.
+fn mount_with_profile<D: BlockDevice>(
+    alloc: Global,
+    device: D,
+    profile: Profile,
+) -> Result<Session<Profiled<D>>, (D, Error)>
+    ensures begun { IfOk result (λ s. IsSessionBegunByMount (disk_with_name_order s.tree.disk.order (disk_with_profile profile (disk_of_device D.BlockDevice device))) (D.history device) s) }
+    ensures state { IfOk result (λ s. IsJustMounted (disk_with_name_order s.tree.disk.order (disk_with_profile profile (disk_of_device D.BlockDevice device))) (system_state_of_session_view s)) }
+    ensures longer { IfOk result (λ s. s.tree.disk.order ≡ ShorterFirst → (ps : List Pair) → ¬ IsAcceptedImage (disk_with_name_order LongerFirst (disk_with_profile profile (disk_of_device D.BlockDevice device))) ps) }
+    ensures corrupt { IfErr result (λ e. e.1 ≡ Error.Corrupt → (order : NameOrder) (ps : List Pair) → ¬ IsAcceptedImage (disk_with_name_order order (disk_with_profile profile (disk_of_device D.BlockDevice device))) ps) }
+    ensures errors { IfErr result (λ e. (e.1 ≡ Error.Io) ⊎ (e.1 ≡ Error.Corrupt) ⊎ (e.1 ≡ Error.NoMemory)) }
+    ensures back { IfErr result (λ e. ReturnsUnchangedDeviceByAnyProfile D.BlockDevice device e.0 e.1) }
+{
+    match mount(alloc, Profiled::new(device, profile)) {
+        Ok(session) => Ok(session),
+        Err((device, error)) => Err((device.into_inner(), error)),
+    }
+}
+
+/// Begins a session over the image of a device, as [`mount`] does, with a profile and the limits of
+/// the image. Where the superblock's limits are others than the profile's, they take the profile's
+/// place. So an image that was made with lower limits may be changed, and stays within them.
+///
+/// A superblock may have limits that can't be used, 0 or above the format's own. Then the profile's
+/// limits stay, and the image isn't in the writing profile. Only reads are made.
+///
+/// # Errors
+///
+/// `Corrupt` exactly where the device has no accepted image in either order, by the profile's
+/// versions. `Io` where a read failed. `NoMemory` where memory isn't granted. An error comes with
+/// the device.
+pub fn mount_with_limits<D: BlockDevice>(
+    alloc: Global,
+    device: D,
+    profile: Profile,
+) -> Result<Session<Profiled<D>>, (D, Error)>
+    ensures begun { IfOk result (IsSessionBegunWithLimits (disk_of_device D.BlockDevice device) (D.history device) profile) }
+    ensures state { IfOk result (λ s. IsJustMounted (disk_with_name_order s.tree.disk.order (disk_with_profile s.tree.disk.profile (disk_of_device D.BlockDevice device))) (system_state_of_session_view s)) }
+    ensures longer { IfOk result (λ s. s.tree.disk.order ≡ ShorterFirst → (ps : List Pair) → ¬ IsAcceptedImage (disk_with_name_order LongerFirst (disk_with_profile s.tree.disk.profile (disk_of_device D.BlockDevice device))) ps) }
+    ensures corrupt { IfErr result (λ e. e.1 ≡ Error.Corrupt → (order : NameOrder) (ps : List Pair) → ¬ IsAcceptedImage (disk_with_name_order order (disk_with_profile profile (disk_of_device D.BlockDevice device))) ps) }
+    ensures errors { IfErr result (λ e. (e.1 ≡ Error.Io) ⊎ (e.1 ≡ Error.Corrupt) ⊎ (e.1 ≡ Error.NoMemory)) }
+    ensures back { IfErr result (λ e. ReturnsUnchangedDeviceByAnyProfile D.BlockDevice device e.0 e.1) }
+{
+    let mut session = mount_with_profile(alloc, device, profile)?;
+    match session.superblock(alloc) {
+        Ok(superblock) => {
+            let limits = superblock.limits_over(profile);
+            if have_same_limits(&limits, &profile) {
+                return Ok(session);
+            }
+            mount_with_profile(alloc, session.unmount().into_inner(), limits)
+        }
+        Err(error) => Err((session.unmount().into_inner(), error)),
+    }
+}

@@ -1,8 +1,9 @@
 -- An excerpt of an accepted disk is accepted, with the same pairs.
 use Rattle.std.proofs.Common.{AllPairs, Less, ℕ, ◌≡◌, List, ◌++◌, flat_map, option_and_then, refl, sym, ap, subst, ◌∙◌}
-use Rattle.std.specs.Prelude.{nat_eq}
+use Rattle.std.specs.Prelude.{nat_eq, All}
 use Rattle.std.specs.List.{IsDistinct}
 use Rattle.std.proofs.lemmas.List.Elements.{All-weaker}
+use Rattle.lfs_model.specs.declared.limits.Profile.{Profile}
 use Rattle.lfs_model.specs.Tree.{names_of_directory_at_address}
 use Rattle.lfs_model.specs.Names.{name_cmp}
 use Rattle.lfs_model.specs.Content.{current_block_of_pair_at, content_of_pair_at, content_after_log_entries, empty_raw_pair_content, pair_content_if_slots_complete}
@@ -12,7 +13,8 @@ use Rattle.lfs_model.specs.Shown.{entries_by_directory_in_thread, all_slots_not_
 use Rattle.lfs_model.specs.SkipLists.{list_block_count_for_size, list_blocks_from_head, IsSkipList}
 use Rattle.lfs_model.specs.Slots.{Slot, Struct, Inline, Ctz, Branch}
 use Rattle.lfs_model.specs.Thread.{Pair, IsThreadOfMetadataPairs, blocks_of_pairs, first_pair_address, pairs_from_first_with_slots}
-use Rattle.lfs_model.specs.View.{BeginsWithLogEntry, IsAcceptedImage, IsSkipListIfCtzStruct, IsSuperblockStruct, superblock_name_log_entry}
+use Rattle.lfs_model.specs.EntryTypes.{superblock_fields_of_struct_bytes}
+use Rattle.lfs_model.specs.View.{is_accepted_version, BeginsWithLogEntry, HasSuperblockIfAnySlot, pairs_of_superblock_chain, IsAcceptedImage, IsSkipListIfCtzStruct, IsSuperblockStruct, superblock_name_log_entry}
 use Rattle.lfs_tool.specs.Excerpt.{IsDiskOfExcerptsKeepingSizesPointersAndLogs}
 use Rattle.lfs_tool.proofs.ExcerptsAlike.{count_same, block_excerpt, holder_same, back_same, list_same}
 
@@ -29,7 +31,7 @@ module _ (disk excerpt : Disk) (is : IsDiskOfExcerptsKeepingSizesPointersAndLogs
   count = count_same disk.blocks excerpt.blocks is.blocks
 
   superblock_struct : (bytes : List ℕ) → IsSuperblockStruct disk bytes → IsSuperblockStruct excerpt bytes
-  superblock_struct bytes h = record { len = h.len; version = h.version; block_size = h.block_size ∙ sym is.block_size; block_count = h.block_count ∙ sym count }
+  superblock_struct bytes h = record { len = h.len; version = ap (λ (k : Profile). is_accepted_version k.versions (superblock_fields_of_struct_bytes bytes).version) is.profile ∙ h.version; block_size = h.block_size ∙ sym is.block_size; block_count = h.block_count ∙ sym count }
 
   is_list : (s : Struct) → IsSkipListIfCtzStruct disk s → IsSkipListIfCtzStruct excerpt s
   is_list (Inline bytes) ok = tt
@@ -52,7 +54,7 @@ module _ (disk excerpt : Disk) (is : IsDiskOfExcerptsKeepingSizesPointersAndLogs
     first = subst (λ current_block_of_pair. BeginsWithLogEntry (current_block_of_pair (first_pair_address (pairs_from_first_with_slots ps))) superblock_name_log_entry) (sym holders) ok.first;
     named = ok.named;
     root = ok.root;
-    superblock = (let (bytes, (struct, same)) = ok.superblock in (bytes, (superblock_struct bytes struct, same)));
+    superblock = (let (bytes, (struct, same)) = ok.superblock in (bytes, (superblock_struct bytes struct, subst (λ (k : Profile). All (λ p. HasSuperblockIfAnySlot k.versions bytes p.content.slots) (pairs_of_superblock_chain ps)) (sym is.profile) same)));
     slots = ok.slots;
     order = λ path at l. subst (λ o. AllPairs (λ a b. name_cmp o a b ≡ Less) (names_of_directory_at_address (entries_by_directory_in_thread ps) at)) (sym is.order) (ok.order path at l);
     branches = ok.branches;

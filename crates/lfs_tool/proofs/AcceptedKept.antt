@@ -12,7 +12,8 @@ use Rattle.lfs_model.specs.Names.{name_cmp}
 use Rattle.lfs_model.specs.Shown.{IsDirectoryAddressReachedBySomePath, all_slots_not_moved, directories_in_thread}
 use Rattle.lfs_model.specs.Slots.{Inline, Slot, same_pair}
 use Rattle.lfs_model.specs.Thread.{IsAddressOfDirectoryFirstPair, Pair, ThreadDirectory, gstate_of_pairs, pair_count_before_root}
-use Rattle.lfs_model.specs.View.{BeginsWithLogEntry, HasSuperblockWithInlineBytesIfAnySlot, HasValidMoveOrNone, IsAcceptedImage, IsEntrySlotInThread, IsFileOrDirectoryEntry, IsSkipListIfCtzStruct, IsSomeSlotButNotSuperblock, IsSuperblockStruct, superblock_name_log_entry}
+use Rattle.lfs_model.specs.declared.limits.AcceptedVersions.{AcceptedVersions}
+use Rattle.lfs_model.specs.View.{BeginsWithLogEntry, HasSuperblockIfAnySlot, HasSuperblockStruct, HasValidMoveOrNone, IsAcceptedImage, IsEntrySlotInThread, IsFileOrDirectoryEntry, IsSkipListIfCtzStruct, IsSomeSlotButNotSuperblock, IsSuperblockStruct, superblock_name_log_entry}
 use Rattle.lfs_model.specs.declared.order.NameOrder.{NameOrder}
 use Rattle.lfs_tool.specs.KeptRules.{AreDirectoriesInTree, AreRequiredSlotsEntries, HasDistinctBlocksInRange, HasListsWithOwnBlocks, HasSameSuperblocksInChain, KeepsAllRules}
 use Rattle.lfs_tool.specs.OwnedSlots.{pair_without_attributes, pairs_without_attributes, slot_without_attributes}
@@ -34,14 +35,14 @@ holds_in_drop P (y ∷ xs) (suc m) (suc i) x h e l = holds_in_drop P xs m i x h 
 
 -- ---- the slots of a pair of the superblock's chain
 
-struct_of_first : (bytes : List ℕ) (slots : List Slot) (s : Slot) → HasSuperblockWithInlineBytesIfAnySlot bytes slots → slice_get slots 0 ≡ Some s → s.struct ≡ Inline bytes
-struct_of_first bytes [] s h e = absurd (cc)
-struct_of_first bytes (t ∷ slots) s h e = ap (λ (x : Slot). x.struct) (sym (same_Some t s e)) ∙ h.1
+struct_of_first : (v : AcceptedVersions) (bytes : List ℕ) (slots : List Slot) (s : Slot) → HasSuperblockIfAnySlot v bytes slots → slice_get slots 0 ≡ Some s → HasSuperblockStruct v bytes s
+struct_of_first v bytes [] s h e = absurd (cc)
+struct_of_first v bytes (t ∷ slots) s h e = subst (HasSuperblockStruct v bytes) (same_Some t s e) h.1
 
-entry_behind : (bytes : List ℕ) (slots : List Slot) (id : ℕ) (s : Slot) → HasSuperblockWithInlineBytesIfAnySlot bytes slots → slice_get slots id ≡ Some s → 0 < id → IsFileOrDirectoryEntry s
-entry_behind bytes [] id s h e l = absurd (cc)
-entry_behind bytes (t ∷ slots) zero s h e l = absurd (omega (arith, l))
-entry_behind bytes (t ∷ slots) (suc id) s h e l = holds_there IsFileOrDirectoryEntry slots id s h.2 e
+entry_behind : (v : AcceptedVersions) (bytes : List ℕ) (slots : List Slot) (id : ℕ) (s : Slot) → HasSuperblockIfAnySlot v bytes slots → slice_get slots id ≡ Some s → 0 < id → IsFileOrDirectoryEntry s
+entry_behind v bytes [] id s h e l = absurd (cc)
+entry_behind v bytes (t ∷ slots) zero s h e l = absurd (omega (arith, l))
+entry_behind v bytes (t ∷ slots) (suc id) s h e l = holds_there IsFileOrDirectoryEntry slots id s h.2 e
 
 -- ---- the same without attributes
 
@@ -75,9 +76,9 @@ move_without ps h = subst (HasValidMoveOrNone (pairs_without_attributes ps)) (sy
 -- ---- the rules on slots
 
 module _ (disk : Disk) (order : NameOrder) (ps : List Pair) (ok : IsAcceptedImage (disk_with_name_order order disk) ps) where
-  chain_pair : (index : ℕ) (p : Pair) → slice_get ps index ≡ Some p → index ≤ pair_count_before_root ps → HasSuperblockWithInlineBytesIfAnySlot ok.superblock.0 p.content.slots
+  chain_pair : (index : ℕ) (p : Pair) → slice_get ps index ≡ Some p → index ≤ pair_count_before_root ps → HasSuperblockIfAnySlot disk.profile.versions ok.superblock.0 p.content.slots
   chain_pair index p there l =
-      holds_in_take (λ (q : Pair). HasSuperblockWithInlineBytesIfAnySlot ok.superblock.0 q.content.slots) ps (pair_count_before_root ps + 1) index p ok.superblock.1.1 there (omega (arith, l))
+      holds_in_take (λ (q : Pair). HasSuperblockIfAnySlot disk.profile.versions ok.superblock.0 q.content.slots) ps (pair_count_before_root ps + 1) index p ok.superblock.1.1 there (omega (arith, l))
 
   entry_there : (index : ℕ) (p : Pair) (id : ℕ) (s : Slot) → slice_get ps index ≡ Some p → slice_get p.content.slots id ≡ Some s → (pair_count_before_root ps < index) ⊎ (0 < id) → IsFileOrDirectoryEntry s
   entry_there index p id s there slot required = go (cases_lt (pair_count_before_root ps) index) required
@@ -87,7 +88,7 @@ module _ (disk : Disk) (order : NameOrder) (ps : List Pair) (ok : IsAcceptedImag
           let entries = holds_in_drop (λ (q : Pair). All IsFileOrDirectoryEntry q.content.slots) ps (pair_count_before_root ps + 1) index p ok.slots there (omega (arith, behind)) in
           holds_there IsFileOrDirectoryEntry p.content.slots id s entries slot
       go (inr within) (inl behind) = absurd (omega (arith, within, behind))
-      go (inr within) (inr later) = entry_behind ok.superblock.0 p.content.slots id s (chain_pair index p there within) slot later
+      go (inr within) (inr later) = entry_behind disk.profile.versions ok.superblock.0 p.content.slots id s (chain_pair index p there within) slot later
 
   -- a slot without attributes is that of a slot with them
   whole_slot : (index : ℕ) (pair : Pair) (id : ℕ) (s : Slot) → slice_get (pairs_without_attributes ps) index ≡ Some pair → slice_get pair.content.slots id ≡ Some s
@@ -104,11 +105,12 @@ module _ (disk : Disk) (order : NameOrder) (ps : List Pair) (ok : IsAcceptedImag
       subst IsFileOrDirectoryEntry bare (record { name = e.name; struct = e.struct })
 
   same_structs : (index : ℕ) (pair : Pair) (s : Slot) → slice_get (pairs_without_attributes ps) index ≡ Some pair → index ≤ pair_count_before_root (pairs_without_attributes ps) → slice_get pair.content.slots 0 ≡ Some s
-      → s.struct ≡ Inline ok.superblock.0
+      → HasSuperblockStruct disk.profile.versions ok.superblock.0 s
   same_structs index pair s there l slot =
       let (p, t, (at_index, at_id, bare)) = whole_slot index pair 0 s there slot in
       let n = root_number_alike ps in
-      sym (ap (λ (x : Slot). x.struct) bare) ∙ struct_of_first ok.superblock.0 p.content.slots t (chain_pair index p at_index (omega (arith, l, n))) at_id
+      let (own, (is, same)) = struct_of_first disk.profile.versions ok.superblock.0 p.content.slots t (chain_pair index p at_index (omega (arith, l, n))) at_id in
+      (own, (sym (ap (λ (x : Slot). x.struct) bare) ∙ is, same))
 
   -- ---- all rules
 

@@ -1,5 +1,5 @@
 -- Pairs that keep all rules break none.
-use Rattle.std.proofs.Common.{ℕ, ◌≡◌, ◌+◌, ◌++◌, ◌∷◌, [], ◌∙◌, List, get_or, length, length-append, map, option_map, Less, Some, refl, sym, ap, subst, subst₂, true≢false, arith}
+use Rattle.std.proofs.Common.{ℕ, ◌≡◌, ◌+◌, ◌++◌, ◌∷◌, [], ◌∙◌, List, drop, get_or, length, length-append, map, option_map, Less, Some, refl, sym, ap, subst, subst₂, true≢false, arith}
 use Rattle.std.specs.Prelude.{codes, slice_get}
 use Rattle.std.proofs.lemmas.Option.{get_or_from_slice_get, same_Some, slice_get-map, slice_get_within}
 use Rattle.lfs_model.specs.Content.{current_block_of_pair_at}
@@ -17,19 +17,39 @@ use Rattle.lfs_tool.specs.BrokenDirectories.{AreEntriesThatLeadToOneDirectory, I
 use Rattle.lfs_tool.specs.BrokenOrder.{AreNamesInTwoOrders, IsNameBehindNameInDirectory, IsNameOutOfOrder}
 use Rattle.lfs_tool.specs.BrokenRules.{BreaksRuleOfFinding, HasSuperblockFields, IsFirstPairWithOtherFirstEntry, IsFirstSlotWithOtherName, IsFirstStructOfSuperblockChainPair, IsTrueOfNamedEntrySlot, IsWrongSuperblockFieldForDisk}
 use Rattle.lfs_tool.specs.KeptRules.{AreDirectoriesInTree, AreNamesOfEntriesSorted, AreRequiredSlotsEntries, BeginsWithSuperblockName, HasSameSuperblocksInChain, HasSuperblockNameInFirstSlot, KeepsAllRules}
+use Rattle.lfs_tool.specs.KeptSuperblocks.{HaveSameNumbersIfInline}
 use Rattle.lfs_tool.specs.declared.findings.Finding.{Finding}
 use Rattle.lfs_tool.specs.declared.findings.Finding.TheVariants as finding
 use Rattle.lfs_tool.specs.declared.findings.NameBehindName.{NameBehindName}
 use Rattle.lfs_tool.specs.declared.findings.NamedSlot.{NamedSlot}
 use Rattle.lfs_tool.specs.declared.findings.WrongNumber.{WrongNumber}
 use Rattle.lfs_tool.proofs.BrokenFileLists.{bad_list, in_pair_and_file, in_two_files}
+use Rattle.lfs_tool.proofs.KeptSuperblocks.{other_struct}
 use Rattle.lfs_tool.proofs.NoWrongNumbers.{right_fields}
 
 -- ---- superblocks
 
--- a struct in the superblock's chain has the same bytes as all of them
-chain_struct : (disk : Disk) (ps : List Pair) (at : ℕ × ℕ) (s : Struct) (kept : HasSameSuperblocksInChain disk ps) → IsFirstStructOfSuperblockChainPair ps at s → s ≡ Inline kept.bytes
-chain_struct disk ps at s kept h = sym h.struct ∙ kept.each h.index h.pair h.slot h.there h.in_chain h.first
+-- a struct in the superblock's chain is the disk's, and the same as all of them but for the version
+record IsStructOfChain (disk : Disk) (bytes : List ℕ) (s : Struct) : Type 0 where
+  own : List ℕ
+  inline : s ≡ Inline own
+  struct : IsSuperblockStruct disk own
+  rest : drop 4 own ≡ drop 4 bytes
+
+chain_struct : (disk : Disk) (ps : List Pair) (at : ℕ × ℕ) (s : Struct) (kept : HasSameSuperblocksInChain disk ps) → IsFirstStructOfSuperblockChainPair ps at s → IsStructOfChain disk kept.bytes s
+chain_struct disk ps at s kept h =
+    let (own, (is, same)) = kept.each h.index h.pair h.slot h.there h.in_chain h.first in
+    record { own = own; inline = sym h.struct ∙ is; struct = other_struct disk kept.bytes own kept.struct same; rest = same.rest }
+
+-- two of them have the same bytes behind the version
+same_numbers : (disk : Disk) (bytes : List ℕ) (s t : Struct) → IsStructOfChain disk bytes s → IsStructOfChain disk bytes t → HaveSameNumbersIfInline s t
+same_numbers disk bytes s t a b one other is_one is_other =
+    let first : a.own ≡ one = same_inline a.own one (sym a.inline ∙ is_one) in
+    let second : b.own ≡ other = same_inline b.own other (sym b.inline ∙ is_other) in
+    ap (drop 4) (sym first) ∙ (a.rest ∙ sym b.rest) ∙ ap (drop 4) second
+  where
+    same_inline : (x y : List ℕ) → Inline x ≡ Inline y → x ≡ y
+    same_inline x y e = cc
 
 -- these bytes have fields
 no_fields : (disk : Disk) (bytes : List ℕ) (s : Struct) → s ≡ Inline bytes → IsSuperblockStruct disk bytes → ((fields : SuperblockFields) → ¬ HasSuperblockFields s fields) → ⊥
@@ -40,7 +60,7 @@ no_fields disk bytes s is right none =
 -- the disk's struct has no wrong number
 wrong_number : (disk : Disk) (bytes : List ℕ) (number : WrongNumber) → IsSuperblockStruct disk bytes → IsWrongSuperblockFieldForDisk disk (superblock_fields_of_struct_bytes bytes) number → ⊥
 wrong_number disk bytes number right wrong =
-    right_fields disk.block_size (block_count disk) (superblock_fields_of_struct_bytes bytes) number (record { same_size = right.block_size; same_count = right.block_count; version = right.version }) wrong
+    right_fields disk.block_size (block_count disk) disk.profile.versions (superblock_fields_of_struct_bytes bytes) number (record { same_size = right.block_size; same_count = right.block_count; version = right.version }) wrong
 
 other_fields : (disk : Disk) (bytes : List ℕ) (s : Struct) (fields : SuperblockFields) (number : WrongNumber) → s ≡ Inline bytes → IsSuperblockStruct disk bytes → HasSuperblockFields s fields → IsWrongSuperblockFieldForDisk disk fields number → ⊥
 other_fields disk bytes s fields number is right has wrong =
@@ -114,13 +134,15 @@ pub broken_not_kept : (disk : Disk) (order : NameOrder) (ps : List Pair) (f : Fi
 broken_not_kept disk order ps finding.NoSuperblock h kept = true≢false (sym kept.pairs.superblocks.root ∙ h)
 broken_not_kept disk order ps (finding.NoFields pair) (s, (there, none)) kept =
     let superblocks = kept.pairs.superblocks in
-    no_fields disk superblocks.bytes s (chain_struct disk ps (pair_address_of_array pair) s superblocks there) superblocks.struct none
+    let c = chain_struct disk ps (pair_address_of_array pair) s superblocks there in
+    no_fields disk c.own s c.inline c.struct none
 broken_not_kept disk order ps (finding.OtherFields pair number) (s, (there, (fields, (has, wrong)))) kept =
     let superblocks = kept.pairs.superblocks in
-    other_fields disk superblocks.bytes s fields number (chain_struct disk ps (pair_address_of_array pair) s superblocks there) superblocks.struct has wrong
+    let c = chain_struct disk ps (pair_address_of_array pair) s superblocks there in
+    other_fields disk c.own s fields number c.inline c.struct has wrong
 broken_not_kept disk order ps (finding.OtherSuperblock pair root) (s, (there, (t, (there_root, at_root, other)))) kept =
     let superblocks = kept.pairs.superblocks in
-    other (chain_struct disk ps (pair_address_of_array pair) s superblocks there ∙ sym (chain_struct disk ps (pair_address_of_array root) t superblocks there_root))
+    other (same_numbers disk superblocks.bytes s t (chain_struct disk ps (pair_address_of_array pair) s superblocks there) (chain_struct disk ps (pair_address_of_array root) t superblocks there_root))
 broken_not_kept disk order ps (finding.OtherName place) h kept = other_name ps place kept.pairs.named h
 broken_not_kept disk order ps (finding.SecondSuperblock place) (begins, h) kept = no_entry _ (λ s entry is. true≢false (sym is ∙ entry_is_other s entry)) ps place kept.pairs.slots h
 broken_not_kept disk order ps (finding.OtherStruct place) h kept = no_entry _ (λ s entry other. other.1 entry.struct) ps place kept.pairs.slots h

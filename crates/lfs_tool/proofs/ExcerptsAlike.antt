@@ -28,7 +28,7 @@ all_back (b ∷ bs) (e ∷ es) h = (block_back b e h.0, all_back bs es h.1)
 
 -- a disk is an excerpt of its excerpt
 pub excerpt_back : {disk excerpt : Disk} → IsDiskOfExcerptsKeepingSizesPointersAndLogs disk excerpt → IsDiskOfExcerptsKeepingSizesPointersAndLogs excerpt disk
-excerpt_back {disk} {excerpt} is = record { block_size = sym is.block_size; order = sym is.order; blocks = all_back disk.blocks excerpt.blocks is.blocks }
+excerpt_back {disk} {excerpt} is = record { block_size = sym is.block_size; order = sym is.order; profile = sym is.profile; blocks = all_back disk.blocks excerpt.blocks is.blocks }
 
 -- ---- each block
 

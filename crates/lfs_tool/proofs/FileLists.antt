@@ -81,8 +81,8 @@ slots_with_lists_are_files disk order ps kept index pair id s head size there at
     go : (n : ℕ) → id ≡ n → (pair_count_before_root ps < index) ⊎ (index ≤ pair_count_before_root ps) → s.kind ≡ File
     go n e (inl behind) = of_entry (inl behind)
     go zero e (inr in_chain) =
-        let bytes : s.struct ≡ Inline kept.superblocks.bytes = kept.superblocks.each index pair s there in_chain (subst (λ (i : ℕ). slice_get pair.content.slots i ≡ Some s) e at) in
-        absurd (let clash : Ctz head size ≡ Inline kept.superblocks.bytes = sym list ∙ bytes in cc)
+        let has = kept.superblocks.each index pair s there in_chain (subst (λ (i : ℕ). slice_get pair.content.slots i ≡ Some s) e at) in
+        absurd (let clash : Ctz head size ≡ Inline has.0 = sym list ∙ has.1.0 in cc)
     go (suc n) e (inr in_chain) = of_entry (inr (omega (arith, e)))
 
 -- ---- places

@@ -46,18 +46,19 @@ begins g d h is fresh state same = record {
   block_size = same.block_size ∙ ap (λ (x : Geometry). x.block_size) is;
   page = same.page ∙ ap (λ (x : Geometry). x.page) is;
   order = same.order;
+  profile = same.profile ∙ ap (λ (x : Geometry). x.profile) is;
   count = same.count ∙ length-cut (geometry_of_new_image_device d).block_size (geometry_of_new_image_device d).block_count (bytes_of_new_image_device d) ∙ ap (λ (x : Geometry). x.block_count) is;
   mounts = state;
 }
 
 session_steps_geometry : (operations : List Operation) (replies : List Reply) (a b : SystemState) → AreSessionSteps a operations replies b → SameGeometry a.disk b.disk
-session_steps_geometry [] [] a b e = subst (λ (m : SystemState). SameGeometry a.disk m.disk) e (record { block_size = refl; page = refl; order = refl; count = refl })
+session_steps_geometry [] [] a b e = subst (λ (m : SystemState). SameGeometry a.disk m.disk) e (record { block_size = refl; page = refl; order = refl; profile = refl; count = refl })
 session_steps_geometry [] (reply ∷ replies) a b e = absurd e
 session_steps_geometry (op ∷ operations) [] a b e = absurd e
 session_steps_geometry (op ∷ operations) (reply ∷ replies) a b (next, (turn, rest)) =
     let s = session_steps_geometry operations replies next b rest in
     let t = turn.geometry in
-    record { block_size = s.block_size ∙ t.block_size; page = s.page ∙ t.page; order = s.order ∙ t.order; count = s.count ∙ t.count }
+    record { block_size = s.block_size ∙ t.block_size; page = s.page ∙ t.page; order = s.order ∙ t.order; profile = s.profile ∙ t.profile; count = s.count ∙ t.count }
 
 count_of : (size count : ℕ) (bytes : List ℕ) → 1 ≤ size → length bytes ≡ size * count → length bytes / size ≡ count
 count_of size count bytes some e =
@@ -81,6 +82,7 @@ left g from to es d bytes b c shown is =
     let size : (geometry_of_new_image_device d).block_size ≡ g.block_size = ap (λ (k : Disk). k.block_size) shown ∙ same.block_size ∙ b.block_size in
     let page : (geometry_of_new_image_device d).page ≡ g.page = ap (λ (k : Disk). k.page) shown ∙ same.page ∙ b.page in
     let order : to.disk.order ≡ g.order = same.order ∙ b.order in
+    let profile : (geometry_of_new_image_device d).profile ≡ g.profile = ap (λ (k : Disk). k.profile) shown ∙ same.profile ∙ b.profile in
     let count : (geometry_of_new_image_device d).block_count ≡ g.block_count = sym (length-cut (geometry_of_new_image_device d).block_size (geometry_of_new_image_device d).block_count (bytes_of_new_image_device d)) ∙ ap block_count shown ∙ same.count ∙ b.count in
     let len : length bytes ≡ g.block_size * g.block_count = ap length is ∙ length-padded (d.geometry.block_size * d.geometry.block_count) d.bytes.items d.within ∙ ap₂ (λ x y. x * y) size count in
     let blocks : (geometry_of_new_image_device d).block_count ≡ length bytes / g.block_size = count ∙ sym (count_of g.block_size g.block_count bytes (some_bytes g) len) in
@@ -90,8 +92,8 @@ left g from to es d bytes b c shown is =
       to = to;
       carried = c;
       len = len;
-      disk = sym shown ∙ (λ j. record { block_size = size j; page = page j; order = order j; blocks = cut (size j) (geometry_of_new_image_device d).block_count (bytes_of_new_image_device d) })
-          ∙ ap₂ (λ n xs. record { block_size = g.block_size; page = g.page; order = g.order; blocks = cut g.block_size n xs }) blocks (sym is);
+      disk = sym shown ∙ (λ j. record { block_size = size j; page = page j; order = order j; profile = profile j; blocks = cut (size j) (geometry_of_new_image_device d).block_count (bytes_of_new_image_device d) })
+          ∙ ap₂ (λ n xs. record { block_size = g.block_size; page = g.page; order = g.order; profile = g.profile; blocks = cut g.block_size n xs }) blocks (sym is);
     }
 
 -- ---- the image
@@ -130,7 +132,7 @@ made g known es bytes all l = record {
     after = same_session t.session (session_after_operations anywhere (session_after_mount empty_tree) (flat_map copying_operations_of_entry es) l.carried.replies)
         (sym t.healthy ∙ fresh_defined (copying_operations_of_entries es) l.carried.replies l.to anywhere (comes l.from l.to (copying_operations_of_entries es) (record { fresh = l.begins.fresh; mounts = l.begins.mounts }) l.carried))
 
-    shows : (k : Option TreeSource) → AreAllEntriesOfSource k es → IfSome k (λ src. IsTreeMadeFromSource src (tree_on_disk (disk_of_image g.block_size g.page g.order bytes) s.pairs))
+    shows : (k : Option TreeSource) → AreAllEntriesOfSource k es → IfSome k (λ src. IsTreeMadeFromSource src (tree_on_disk (disk_of_image g.block_size g.page g.profile g.order bytes) s.pairs))
     shows None a = tt
     shows (Some src) a =
         let whole = carried_tree src es a in

@@ -12,7 +12,7 @@ use Rattle.lfs_model.specs.Names.{name_cmp}
 use Rattle.lfs_model.specs.Shown.{IsDirectoryAddressReachedBySomePath, all_slots_not_moved, directories_in_thread}
 use Rattle.lfs_model.specs.Slots.{Inline, Slot, is_superblock}
 use Rattle.lfs_model.specs.Thread.{AreLinkedByTails, IsThreadOfMetadataPairs, Pair, ThreadDirectory, gstate_of_pairs, has_no_slot_or_only_superblock, has_superblock_in_first_nonempty_pair, is_hard_tail, may_superblock_chain_continue_after_pair, pair_address_named_by_tail, pair_count_before_root, pairs_from_root_directory_on, starts_with_superblock}
-use Rattle.lfs_model.specs.View.{BeginsWithLogEntry, HasSuperblockWithInlineBytesIfAnySlot, IsAcceptedImage, IsFileOrDirectoryEntry, IsSkipListIfCtzStruct, IsSuperblockStruct, first_pair_slots, pairs_after_superblock_chain, pairs_of_superblock_chain, superblock_name_log_entry}
+use Rattle.lfs_model.specs.View.{BeginsWithLogEntry, HasSuperblockIfAnySlot, HasSuperblockStruct, IsAcceptedImage, IsFileOrDirectoryEntry, IsSkipListIfCtzStruct, IsSuperblockStruct, first_pair_slots, pairs_after_superblock_chain, pairs_of_superblock_chain, superblock_name_log_entry}
 use Rattle.lfs_model.specs.declared.order.NameOrder.{NameOrder}
 use Rattle.lfs_tool.specs.KeptRules.{KeepsAllRules}
 use Rattle.lfs_tool.specs.OwnedSlots.{pair_without_attributes, pairs_without_attributes, slot_without_attributes}
@@ -94,15 +94,15 @@ module _ (disk : Disk) (order : NameOrder) (ps : List Pair) (kept : KeepsAllRule
       let e = kept.pairs.slots index (pair_without_attributes p) id (slot_without_attributes s) (pair_without index p there) (slot_without p id s slot) (subst (λ n. (n < index) ⊎ (0 < id)) (sym (root_number_alike ps)) required) in
       record { name = e.name; struct = e.struct }
 
-  struct_there : (index : ℕ) (p : Pair) (s : Slot) → slice_get ps index ≡ Some p → index < pair_count_before_root ps + 1 → slice_get p.content.slots 0 ≡ Some s → s.struct ≡ Inline kept.pairs.superblocks.bytes
+  struct_there : (index : ℕ) (p : Pair) (s : Slot) → slice_get ps index ≡ Some p → index < pair_count_before_root ps + 1 → slice_get p.content.slots 0 ≡ Some s → HasSuperblockStruct disk.profile.versions kept.pairs.superblocks.bytes s
   struct_there index p s there l slot =
       let n = root_number_alike ps in
       kept.pairs.superblocks.each index (pair_without_attributes p) (slot_without_attributes s) (pair_without index p there) (omega (arith, l, n)) (slot_without p 0 s slot)
 
-  chain_pair : (index : ℕ) (p : Pair) → slice_get ps index ≡ Some p → index < pair_count_before_root ps + 1 → HasSuperblockWithInlineBytesIfAnySlot kept.pairs.superblocks.bytes p.content.slots
+  chain_pair : (index : ℕ) (p : Pair) → slice_get ps index ≡ Some p → index < pair_count_before_root ps + 1 → HasSuperblockIfAnySlot disk.profile.versions kept.pairs.superblocks.bytes p.content.slots
   chain_pair index p there l = go p.content.slots refl
     where
-      go : (slots : List Slot) → p.content.slots ≡ slots → HasSuperblockWithInlineBytesIfAnySlot kept.pairs.superblocks.bytes slots
+      go : (slots : List Slot) → p.content.slots ≡ slots → HasSuperblockIfAnySlot disk.profile.versions kept.pairs.superblocks.bytes slots
       go [] are = tt
       go (s ∷ slots) are = (
         superblock_first ps index p s slots root_starts there l are,
@@ -110,7 +110,7 @@ module _ (disk : Disk) (order : NameOrder) (ps : List Pair) (kept : KeepsAllRule
         λ id d m. entry_there index p (suc id) (get_or slots id d) there (ap (λ xs. slice_get xs (suc id)) are ∙ slice_get-get_or slots id d m) (inr (omega arith)),
       )
 
-  chain_pairs : All (λ p. HasSuperblockWithInlineBytesIfAnySlot kept.pairs.superblocks.bytes p.content.slots) (pairs_of_superblock_chain ps)
+  chain_pairs : All (λ p. HasSuperblockIfAnySlot disk.profile.versions kept.pairs.superblocks.bytes p.content.slots) (pairs_of_superblock_chain ps)
   chain_pairs k d l = let (below, there) = in_take ps (pair_count_before_root ps + 1) k d l in chain_pair k (get_or (pairs_of_superblock_chain ps) k d) there below
 
   other_pairs : All (λ p. All IsFileOrDirectoryEntry p.content.slots) (pairs_after_superblock_chain ps)

@@ -1,21 +1,23 @@
 -- The superblocks of a chain in which nothing is wrong, and the first pair that has a slot.
-use Rattle.std.proofs.Common.{ℕ, zero, suc, ◌≡◌, ◌+◌, ◌<◌, ◌≤◌, ◌⊎◌, ◌&&◌, inl, inr, ◌∙◌, Bool, true, false, cond, List, [], ◌∷◌, drop, Option, Some, None, refl, sym, ap, subst, arith}
+use Rattle.std.proofs.Common.{ℕ, zero, suc, ◌≡◌, ◌+◌, ◌<◌, ◌≤◌, ◌⊎◌, ◌&&◌, inl, inr, ◌∙◌, Bool, true, false, cond, List, [], ◌∷◌, drop, Option, Some, None, refl, sym, ap, ap₂, subst, arith}
 use Rattle.std.specs.Prelude.{slice_get}
 use Rattle.std.specs.List.{AllByRecursion}
 use Rattle.std.specs.Option.{option_and_then}
 use Rattle.std.proofs.lemmas.Bool.{and_parts, cases_lt}
+use Rattle.std.proofs.lemmas.List.{drop-drop}
 use Rattle.std.proofs.lemmas.List.Elements.{recursion_from_All}
 use Rattle.std.proofs.lemmas.Option.{same_Some}
 use Rattle.lfs_model.specs.Content.{content_after_log_entries, content_of_pair_at, current_block_of_pair_at, empty_raw_pair_content, pair_content_if_slots_complete}
 use Rattle.lfs_model.specs.Disk.{Disk, block_count}
-use Rattle.lfs_model.specs.EntryTypes.{SuperblockFields}
+use Rattle.lfs_model.specs.EntryTypes.{SuperblockFields, pair_address_of_bytes}
 use Rattle.lfs_model.specs.Log.{log_entries_of_block}
 use Rattle.lfs_model.specs.Slots.{Branch, Ctz, Inline, PairContent, Slot, Struct, is_superblock}
 use Rattle.lfs_model.specs.Thread.{Pair, blocks_of_pairs, first_pair_address, has_no_slot_or_only_superblock, has_slots, has_superblock_in_first_nonempty_pair, is_hard_tail, may_superblock_chain_continue_after_pair, pair_count_before_root, pairs_from_first_with_slots, starts_with_superblock}
-use Rattle.lfs_model.specs.View.{first_pair_slots}
+use Rattle.lfs_model.specs.declared.limits.AcceptedVersions.{AcceptedVersions}
+use Rattle.lfs_model.specs.View.{HasSuperblockStruct, IsSameSuperblockStruct, IsSuperblockStruct, first_pair_slots, is_accepted_version}
 use Rattle.lfs_tool.specs.BrokenRules.{HasSuperblockFields}
 use Rattle.lfs_tool.specs.KeptRules.{BeginsRootWithSuperblock, HasDistinctBlocksInRange, HasSameSuperblocksInChain}
-use Rattle.lfs_tool.specs.KeptSuperblocks.{HasInlineSuperblockIfAnySlot, HasLogAtAddress, HasSizesAndVersion, HaveInlineSuperblocksUpTo, HaveSameBytesIfInline, HaveSameInlineBytesIfAnySlot, HaveSameInlineBytesUpTo, IsInlineSuperblockStruct}
+use Rattle.lfs_tool.specs.KeptSuperblocks.{HasInlineSuperblockIfAnySlot, HasLogAtAddress, HasSizesAndVersion, HaveInlineSuperblocksUpTo, HaveSameNumbersIfInline, HaveSameNumbersIfAnySlot, HaveSameNumbersUpTo, IsInlineSuperblockStruct}
 use Rattle.lfs_tool.specs.OwnedSlots.{pairs_without_attributes}
 use Rattle.lfs_tool.specs.OwnedSlotView.{owned_pairs_view}
 use Rattle.lfs_tool.specs.PairReads.{AreOwnedFirstPairsOfThread}
@@ -24,20 +26,29 @@ use Rattle.lfs_tool.specs.declared.owned_parts.OwnedPair.{OwnedPair}
 -- ---- one superblock
 
 -- fields with the disk's numbers are a superblock's of the disk
-pub kept_struct : (disk : Disk) (s : Struct) (block_size count : ℕ) (fields : SuperblockFields) → disk.block_size ≡ block_size → block_count disk ≡ count → HasSizesAndVersion block_size count fields → HasSuperblockFields s fields
+pub kept_struct : (disk : Disk) (s : Struct) (block_size count : ℕ) (versions : AcceptedVersions) (fields : SuperblockFields) → disk.block_size ≡ block_size → block_count disk ≡ count → disk.profile.versions ≡ versions → HasSizesAndVersion block_size count versions fields → HasSuperblockFields s fields
     → IsInlineSuperblockStruct disk s
-kept_struct disk (Inline bytes) block_size count fields size number right (len, are) = record {
+kept_struct disk (Inline bytes) block_size count versions fields size number accepts right (len, are) = record {
   bytes = bytes;
   inline = refl;
   struct = record {
     len = len;
-    version = ap (λ (f : SuperblockFields). f.version) are ∙ right.version;
+    version = ap₂ (λ v (f : SuperblockFields). is_accepted_version v f.version) accepts are ∙ right.version;
     block_size = ap (λ (f : SuperblockFields). f.block_size) are ∙ right.same_size ∙ sym size;
     block_count = ap (λ (f : SuperblockFields). f.block_count) are ∙ right.same_count ∙ sym number;
   };
 }
-kept_struct disk (Ctz head size) block_size count fields e number right has = absurd has
-kept_struct disk (Branch to) block_size count fields size number right has = absurd has
+kept_struct disk (Ctz head size) block_size count versions fields e number accepts right has = absurd has
+kept_struct disk (Branch to) block_size count versions fields size number accepts right has = absurd has
+
+-- a struct that is the same but for an accepted version is the disk's, too
+pub other_struct : (disk : Disk) (bytes own : List ℕ) → IsSuperblockStruct disk bytes → IsSameSuperblockStruct disk.profile.versions bytes own → IsSuperblockStruct disk own
+other_struct disk bytes own is same = record {
+  len = same.len ∙ is.len;
+  version = same.version;
+  block_size = ap (λ (b : List ℕ). (pair_address_of_bytes b).0) same.rest ∙ is.block_size;
+  block_count = ap (λ (b : List ℕ). (pair_address_of_bytes b).0) (sym (drop-drop 4 4 own) ∙ ap (drop 4) same.rest ∙ drop-drop 4 4 bytes) ∙ is.block_count;
+}
 
 -- ---- the chain
 
@@ -90,24 +101,25 @@ superblock_of_chain (p ∷ ps) index pair s begins there chained first =
     go later false continues is zero starts here below = begins_with p.content.slots s starts (at_first (same_Some p pair here))
     go later false continues is (suc i) starts here below = absurd (omega (arith, below))
 
-pub kept_chain : (disk : Disk) (ps : List Pair) (root : ℕ) → root ≡ pair_count_before_root ps → BeginsRootWithSuperblock ps → HaveInlineSuperblocksUpTo disk (root + 1) ps → HaveSameInlineBytesUpTo root root ps → HasSameSuperblocksInChain disk ps
+pub kept_chain : (disk : Disk) (ps : List Pair) (root : ℕ) → root ≡ pair_count_before_root ps → BeginsRootWithSuperblock ps → HaveInlineSuperblocksUpTo disk (root + 1) ps → HaveSameNumbersUpTo root root ps → HasSameSuperblocksInChain disk ps
 kept_chain disk ps root is begins inline same =
     let r = root_slot ps root (subst (λ n. starts_with_superblock (first_pair_slots (drop n ps)) ≡ true) (sym is) begins) in
     let one = inline root r.pair (omega arith) r.there r.slot r.first in
     record { root = begins; bytes = one.bytes; struct = one.struct; each = each r one }
   where
-    each : (r : IsRootSlot ps root) (one : IsInlineSuperblockStruct disk r.slot.struct) (index : ℕ) (pair : Pair) (s : Slot) → slice_get ps index ≡ Some pair → index ≤ pair_count_before_root ps → slice_get pair.content.slots 0 ≡ Some s → s.struct ≡ Inline one.bytes
+    each : (r : IsRootSlot ps root) (one : IsInlineSuperblockStruct disk r.slot.struct) (index : ℕ) (pair : Pair) (s : Slot) → slice_get ps index ≡ Some pair → index ≤ pair_count_before_root ps → slice_get pair.content.slots 0 ≡ Some s → HasSuperblockStruct disk.profile.versions one.bytes s
     each r one index pair s there chained first = go (cases_lt index root)
       where
-        go : (index < root) ⊎ (root ≤ index) → s.struct ≡ Inline one.bytes
+        go : (index < root) ⊎ (root ≤ index) → HasSuperblockStruct disk.profile.versions one.bytes s
         go (inl l) =
             let other = inline index pair (omega arith) there s first in
-            other.inline ∙ ap Inline (same index pair r.pair l there r.there s r.slot first r.first other.bytes one.bytes other.inline one.inline)
+            let rest = same index pair r.pair l there r.there s r.slot first r.first other.bytes one.bytes other.inline one.inline in
+            (other.bytes, (other.inline, record { len = other.struct.len ∙ sym one.struct.len; version = other.struct.version; rest = rest }))
         go (inr l) =
             let here : root ≡ index = omega arith in
             let pairs : r.pair ≡ pair = same_Some r.pair pair (sym r.there ∙ ap (slice_get ps) here ∙ there) in
             let slots : r.slot ≡ s = same_Some r.slot s (sym r.first ∙ ap (λ (p : Pair). slice_get p.content.slots 0) pairs ∙ first) in
-            ap (λ (t : Slot). t.struct) (sym slots) ∙ one.inline
+            (one.bytes, (ap (λ (t : Slot). t.struct) (sym slots) ∙ one.inline, record { len = refl; version = one.struct.version; rest = refl }))
 
 -- one more pair
 pub one_more_inline : (disk : Disk) (ps : List Pair) (index : ℕ) (p : Pair) → slice_get ps index ≡ Some p → HasInlineSuperblockIfAnySlot disk p → HaveInlineSuperblocksUpTo disk index ps → HaveInlineSuperblocksUpTo disk (index + 1) ps
@@ -120,10 +132,10 @@ one_more_inline disk ps index p here this before k pair below there s first = go
         let same : p ≡ pair = same_Some p pair (sym here ∙ ap (slice_get ps) number ∙ there) in
         this s (ap (λ (q : Pair). slice_get q.content.slots 0) same ∙ first)
 
-pub one_more_same : (ps : List Pair) (root index : ℕ) (p r : Pair) → slice_get ps index ≡ Some p → slice_get ps root ≡ Some r → HaveSameInlineBytesIfAnySlot p r → HaveSameInlineBytesUpTo root index ps → HaveSameInlineBytesUpTo root (index + 1) ps
+pub one_more_same : (ps : List Pair) (root index : ℕ) (p r : Pair) → slice_get ps index ≡ Some p → slice_get ps root ≡ Some r → HaveSameNumbersIfAnySlot p r → HaveSameNumbersUpTo root index ps → HaveSameNumbersUpTo root (index + 1) ps
 one_more_same ps root index p r here there_root this before k pair other below there last s t first of_root = go (cases_lt k index)
   where
-    go : (k < index) ⊎ (index ≤ k) → HaveSameBytesIfInline s.struct t.struct
+    go : (k < index) ⊎ (index ≤ k) → HaveSameNumbersIfInline s.struct t.struct
     go (inl l) = before k pair other l there last s t first of_root
     go (inr l) =
         let number : index ≡ k = omega arith in

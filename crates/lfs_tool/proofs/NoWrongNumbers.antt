@@ -1,5 +1,7 @@
 -- Where each superblock of two blocks has right numbers, none is wrong.
-use Rattle.std.proofs.Common.{ℕ, ◌/◌, ⊎_elim, List, length, subst, sym, ◌∙◌}
+use Rattle.std.proofs.Common.{ℕ, ◌≡◌, ◌/◌, ⊎_elim, List, length, true, false, ap, subst, sym, ◌∙◌}
+use Rattle.lfs_model.specs.declared.limits.AcceptedVersions.{AcceptedVersions}
+use Rattle.lfs_model.specs.View.{is_accepted_version}
 use Rattle.lfs_model.specs.EntryTypes.{SuperblockFields}
 use Rattle.lfs_tool.specs.KeptSuperblocks.{HasSizesAndVersion}
 use Rattle.lfs_tool.specs.WrongNumbers.{HasNoWrongNumberInImageBytes, IsSuperblockAtOffset, IsWrongSuperblockField}
@@ -7,14 +9,14 @@ use Rattle.lfs_tool.specs.declared.findings.WrongNumber.{WrongNumber}
 use Rattle.lfs_tool.specs.declared.findings.WrongNumber.TheVariants as stated
 
 -- fields with these sizes and version have no wrong number
-pub right_fields : (block_size count : ℕ) (fields : SuperblockFields) (number : WrongNumber) → HasSizesAndVersion block_size count fields → IsWrongSuperblockField block_size count fields number → ⊥
-right_fields block_size count fields (stated.BlockSize n) right (is, other) = other (sym is ∙ right.same_size)
-right_fields block_size count fields (stated.BlockCount n) right (is, other) = other (sym is ∙ right.same_count)
-right_fields block_size count fields (stated.Version n) right (is, other) = other (sym is ∙ right.version)
+pub right_fields : (block_size count : ℕ) (versions : AcceptedVersions) (fields : SuperblockFields) (number : WrongNumber) → HasSizesAndVersion block_size count versions fields → IsWrongSuperblockField block_size count versions fields number → ⊥
+right_fields block_size count versions fields (stated.BlockSize n) right (is, other) = other (sym is ∙ right.same_size)
+right_fields block_size count versions fields (stated.BlockCount n) right (is, other) = other (sym is ∙ right.same_count)
+right_fields block_size count versions fields (stated.Version n) right (is, other) = absurd (let e : true ≡ false = sym right.version ∙ ap (is_accepted_version versions) is ∙ other in cc)
 
-pub no_wrong_number : (bytes : List ℕ) (block_size : ℕ) → ((fields : SuperblockFields) → IsSuperblockAtOffset bytes 0 fields → HasSizesAndVersion block_size (length bytes / block_size) fields)
-    → ((fields : SuperblockFields) → IsSuperblockAtOffset bytes block_size fields → HasSizesAndVersion block_size (length bytes / block_size) fields) → HasNoWrongNumberInImageBytes bytes block_size
-no_wrong_number bytes block_size first second number wrong = ⊎_elim
-    (λ is. right_fields block_size (length bytes / block_size) wrong.fields number (first wrong.fields (subst (λ (from : ℕ). IsSuperblockAtOffset bytes from wrong.fields) is wrong.stands)) wrong.unlike)
-    (λ is. right_fields block_size (length bytes / block_size) wrong.fields number (second wrong.fields (subst (λ (from : ℕ). IsSuperblockAtOffset bytes from wrong.fields) is wrong.stands)) wrong.unlike)
+pub no_wrong_number : (bytes : List ℕ) (block_size : ℕ) (versions : AcceptedVersions) → ((fields : SuperblockFields) → IsSuperblockAtOffset bytes 0 fields → HasSizesAndVersion block_size (length bytes / block_size) versions fields)
+    → ((fields : SuperblockFields) → IsSuperblockAtOffset bytes block_size fields → HasSizesAndVersion block_size (length bytes / block_size) versions fields) → HasNoWrongNumberInImageBytes bytes block_size versions
+no_wrong_number bytes block_size versions first second number wrong = ⊎_elim
+    (λ is. right_fields block_size (length bytes / block_size) versions wrong.fields number (first wrong.fields (subst (λ (from : ℕ). IsSuperblockAtOffset bytes from wrong.fields) is wrong.stands)) wrong.unlike)
+    (λ is. right_fields block_size (length bytes / block_size) versions wrong.fields number (second wrong.fields (subst (λ (from : ℕ). IsSuperblockAtOffset bytes from wrong.fields) is wrong.stands)) wrong.unlike)
     wrong.block

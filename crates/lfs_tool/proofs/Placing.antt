@@ -1,6 +1,8 @@
 -- What is done at paths.
 use Rattle.std.proofs.Common.{◌≡◌, ◌≢◌, ◌⊎◌, ◌∙◌, ℕ, suc, List, ◌∷◌, Option, ap, ap₂, inl, inr, refl, subst, sym, Err, Ok}
 use Rattle.std.specs.Prelude.{IfErr, IfSome, IsErrOf, Result}
+use Rattle.lfs_tool.specs.FileLimits.{file_limits_of_line}
+use Rattle.lfs_tool.specs.declared.image_layout.ImageLayout.{ImageLayout}
 use Rattle.lfs_device.specs.declared.error.Error.{Error}
 use Rattle.lfs_device.specs.declared.error.Error.TheVariants as fs
 use Rattle.lfs_model.specs.Listing.{UnpackingAction}
@@ -42,17 +44,17 @@ folder_fails X folder_of faults shown line folder old new Output at reports othe
 folder_fails X folder_of faults shown line folder old new (Fs e) at reports other = let is : Fs e ≡ Fs fs.NoMemory = other (λ is. (cc)) in inl (cc)
 
 -- why an image isn't unpacked
-pub refused_known : {X : Type 0} (r : Result X ToolError) (block_size page : ℕ) (known : Option (List ℕ)) (old new : Option (List UnpackingAction)) (e : Error) → IsErrOf r (Fs e) → IfErr r (FailsToUnpackKnownImage block_size page known old new)
-    → IfSome known (λ bytes. RefusesToList block_size page bytes e)
-refused_known {X} r block_size page known old new e is fails =
-    let at : FailsToUnpackKnownImage block_size page known old new (Fs e) = subst (λ (s : Result X ToolError). IfErr s (FailsToUnpackKnownImage block_size page known old new)) is fails in
+pub refused_known : {X : Type 0} (r : Result X ToolError) (layout : ImageLayout) (known : Option (List ℕ)) (old new : Option (List UnpackingAction)) (e : Error) → IsErrOf r (Fs e) → IfErr r (FailsToUnpackKnownImage layout known old new)
+    → IfSome known (λ bytes. RefusesToList layout bytes e)
+refused_known {X} r layout known old new e is fails =
+    let at : FailsToUnpackKnownImage layout known old new (Fs e) = subst (λ (s : Result X ToolError). IfErr s (FailsToUnpackKnownImage layout known old new)) is fails in
     at.refused e refl
 
 -- ---- what an image ends in
 
 module _ {P I N F T R : Type 0} (places : Ghosts P I N F T R) (output : ToolOutputGhosts N) (source : SourceGhosts F) (line : Line) (old opens begins ends new : P) (folder : List ℕ) (f : F) (i after : N) (before told : Option (List ProgressCall))
     (opened : places.history opens ≡ ImageOpened line.image.now ∷ places.history old) (began : places.history begins ≡ WorkBegan ∷ places.history opens) (ended : places.history ends ≡ WorkEnded told ∷ places.history begins) (nothing : IsToldOfNothing before)
-    (at : places.folder_path f ≡ folder) (limit : places.folder_limit f ≡ line.size) (path : places.new_image_path i ≡ line.image.now) where
+    (at : places.folder_path f ≡ folder) (limit : places.folder_limits f ≡ file_limits_of_line line line.size) (path : places.new_image_path i ≡ line.image.now) where
   history_with : (event : PlaceEvent) → places.history new ≡ event ∷ places.history ends → places.history new ≡ event ∷ WorkEnded told ∷ WorkBegan ∷ ImageOpened line.image.now ∷ places.history old
   history_with event adds = adds ∙ ap (λ events. event ∷ events) (ended ∙ ap (λ events. WorkEnded told ∷ events) (began ∙ ap (λ events. WorkBegan ∷ events) opened))
 

@@ -5,6 +5,7 @@ use Rattle.std.proofs.lemmas.List.{take-append-drop}
 use Rattle.std.proofs.lemmas.List.Elements.{recursion_from_All}
 use Rattle.lfs_device.specs.declared.error.Error.{Error}
 use Rattle.lfs_device.specs.declared.error.Error.TheVariants.{Io, NoMemory, Corrupt}
+use Rattle.lfs_model.specs.Disk.{default_profile}
 use Rattle.lfs_model.specs.Fresh.{IsFreshDisk, empty_tree}
 use Rattle.lfs_model.specs.Headline.{IsStateReachedFromFreshDisk, session_after_operations}
 use Rattle.lfs_model.specs.History.{fault_count_of_history}
@@ -36,7 +37,7 @@ comes from to operations f c = record { from = from; fresh = f.fresh; mounts = f
 
 -- any surroundings: what accepted operations leave doesn't depend on them
 abbrev pub anywhere : DiskSummary
-anywhere = record { writable = true; block_size = 0; page = 0; block_count = 0; used = []; gstate = zero_gstate }
+anywhere = record { writable = true; profile = default_profile; block_size = 0; page = 0; block_count = 0; used = []; gstate = zero_gstate }
 
 pub has_carried : (from to : SystemState) (es : List SourceEntry) (f : IsFromFresh from) (c : AreOperationsApplied from (flat_map copying_operations_of_entry es) to) →
     HasCarried (session_after_operations anywhere (session_after_mount empty_tree) (flat_map copying_operations_of_entry es) c.replies) es empty_tree

@@ -1,6 +1,7 @@
 -- What is done of an image that is unpacked.
 use Rattle.std.proofs.Common.{ℕ, ◌≡◌, ◌⊎◌, ◌∙◌, inl, inr, List, [], ◌∷◌, Option, Some, None, Result, Ok, Err, ap, ap₂, map, refl, subst, sym, take}
 use Rattle.std.specs.Prelude.{◌≢◌, IfErr, IfSome, OnErr, OnOk}
+use Rattle.lfs_tool.specs.declared.image_layout.ImageLayout.{ImageLayout}
 use Rattle.lfs_model.specs.Disk.{Disk, IsImageOfWholeBlocks, disk_of_image}
 use Rattle.lfs_model.specs.Listing.{UnpackingAction, PathAndNode, unpacking_action_of_node, unpacking_action_of_entry}
 use Rattle.lfs_model.specs.Slots.{Branch, Ctz, Inline, Struct}
@@ -132,79 +133,79 @@ fails_begun disk old new was now (Err e) begun h to reports = absurd reports
 -- ---- of an image
 
 -- the disk is that of the bytes, in each order of names
-abbrev IsDiskOf : ℕ → ℕ → List ℕ → Disk → Type 0
-IsDiskOf block_size page image disk = (order : NameOrder) → disk_with_name_order order disk ≡ disk_of_image block_size page order image
+abbrev IsDiskOf : ImageLayout → List ℕ → Disk → Type 0
+IsDiskOf layout image disk = (order : NameOrder) → disk_with_name_order order disk ≡ disk_of_image layout.block_size layout.page layout.profile order image
 
-unpacks_image : (block_size page : ℕ) (image : List ℕ) (disk : Disk) (actions : List UnpackingAction) → IsImageOfWholeBlocks block_size page image → IsDiskOf block_size page image disk → AreActionsUnpackingDisk disk actions → AreActionsUnpackingImage block_size page image actions
-unpacks_image block_size page image disk actions is same (view, ((order, shows), unpacking)) = (is, (view, ((order, subst (λ d. HasDiskView d view) (same order) shows), unpacking)))
+unpacks_image : (layout : ImageLayout) (image : List ℕ) (disk : Disk) (actions : List UnpackingAction) → IsImageOfWholeBlocks layout.block_size layout.page image → IsDiskOf layout image disk → AreActionsUnpackingDisk disk actions → AreActionsUnpackingImage layout image actions
+unpacks_image layout image disk actions is same (view, ((order, shows), unpacking)) = (is, (view, ((order, subst (λ d. HasDiskView d view) (same order) shows), unpacking)))
 
-pub done_image : (block_size page : ℕ) (image : List ℕ) (disk : Disk) (old new : Option (List UnpackingAction)) → IsImageOfWholeBlocks block_size page image → IsDiskOf block_size page image disk
-    → HasUnpackedDisk disk old new → HasUnpackedImage block_size page image old new
-done_image block_size page image disk old new is same (actions, (unpacked, h)) = (actions, (unpacks_image block_size page image disk actions is same unpacked, h))
+pub done_image : (layout : ImageLayout) (image : List ℕ) (disk : Disk) (old new : Option (List UnpackingAction)) → IsImageOfWholeBlocks layout.block_size layout.page image → IsDiskOf layout image disk
+    → HasUnpackedDisk disk old new → HasUnpackedImage layout image old new
+done_image layout image disk old new is same (actions, (unpacked, h)) = (actions, (unpacks_image layout image disk actions is same unpacked, h))
 
-pub told_image : {X : Type 0} (block_size page : ℕ) (image : List ℕ) (disk : Disk) (r : Result X ToolError) (was now : Option (List UnpackingAction)) (old new : Option (List ProgressCall)) → IsImageOfWholeBlocks block_size page image → IsDiskOf block_size page image disk
-    → IsToldOfActionsDone (AreActionsUnpackingDisk disk) was now old new r → IsToldOfActionsDone (AreActionsUnpackingImage block_size page image) was now old new r
-told_image block_size page image disk r was now old new is same told =
-    told_alike (AreActionsUnpackingDisk disk) (AreActionsUnpackingImage block_size page image) (λ actions unpacked. unpacks_image block_size page image disk actions is same unpacked) r was now old new told
+pub told_image : {X : Type 0} (layout : ImageLayout) (image : List ℕ) (disk : Disk) (r : Result X ToolError) (was now : Option (List UnpackingAction)) (old new : Option (List ProgressCall)) → IsImageOfWholeBlocks layout.block_size layout.page image → IsDiskOf layout image disk
+    → IsToldOfActionsDone (AreActionsUnpackingDisk disk) was now old new r → IsToldOfActionsDone (AreActionsUnpackingImage layout image) was now old new r
+told_image layout image disk r was now old new is same told =
+    told_alike (AreActionsUnpackingDisk disk) (AreActionsUnpackingImage layout image) (λ actions unpacked. unpacks_image layout image disk actions is same unpacked) r was now old new told
 
-begun_image : (block_size page : ℕ) (image : List ℕ) (disk : Disk) (old new : Option (List UnpackingAction)) → IsImageOfWholeBlocks block_size page image → IsDiskOf block_size page image disk
-    → HasBegunUnpackingDisk disk old new → HasBegunUnpackingImage block_size page image old new
-begun_image block_size page image disk old new is same (actions, (unpacked, h)) = (actions, (unpacks_image block_size page image disk actions is same unpacked, h))
+begun_image : (layout : ImageLayout) (image : List ℕ) (disk : Disk) (old new : Option (List UnpackingAction)) → IsImageOfWholeBlocks layout.block_size layout.page image → IsDiskOf layout image disk
+    → HasBegunUnpackingDisk disk old new → HasBegunUnpackingImage layout image old new
+begun_image layout image disk old new is same (actions, (unpacked, h)) = (actions, (unpacks_image layout image disk actions is same unpacked, h))
 
-pub fails_image : (block_size page : ℕ) (image : List ℕ) (disk : Disk) (old new : Option (List UnpackingAction)) (e : ToolError) → IsImageOfWholeBlocks block_size page image → IsDiskOf block_size page image disk
-    → FailsToUnpackDisk disk old new e → FailsToUnpackImage block_size page image old new e
-fails_image block_size page image disk old new (Fs Corrupt) is same (wrong, undone) =
+pub fails_image : (layout : ImageLayout) (image : List ℕ) (disk : Disk) (old new : Option (List UnpackingAction)) (e : ToolError) → IsImageOfWholeBlocks layout.block_size layout.page image → IsDiskOf layout image disk
+    → FailsToUnpackDisk disk old new e → FailsToUnpackImage layout image old new e
+fails_image layout image disk old new (Fs Corrupt) is same (wrong, undone) =
     ((is, λ view (order, (ps, (accepted, shows))). wrong order ps (subst (λ d. IsAcceptedImage d ps) (sym (same order)) accepted)), undone)
-fails_image block_size page image disk old new (Fs NoMemory) is same (inl undone) = inl undone
-fails_image block_size page image disk old new (Fs NoMemory) is same (inr begun) = inr (begun_image block_size page image disk old new is same begun)
-fails_image block_size page image disk old new Output is same begun = begun_image block_size page image disk old new is same begun
-fails_image block_size page image disk old new e is same h = absurd h
+fails_image layout image disk old new (Fs NoMemory) is same (inl undone) = inl undone
+fails_image layout image disk old new (Fs NoMemory) is same (inr begun) = inr (begun_image layout image disk old new is same begun)
+fails_image layout image disk old new Output is same begun = begun_image layout image disk old new is same begun
+fails_image layout image disk old new e is same h = absurd h
 
 -- ---- of what was read
 
-pub done_read : (known : Option (List ℕ)) (block_size page : ℕ) (items : List ℕ) (old new : Option (List UnpackingAction)) → IfSome known (λ bytes. items ≡ take most bytes)
-    → HasUnpackedImage block_size page items old new → IfSome known (λ bytes. HasUnpackedImage block_size page bytes old new)
-done_read None block_size page items old new read h = tt
-done_read (Some bytes) block_size page items old new read h = subst (λ (i : List ℕ). HasUnpackedImage block_size page i old new) (all_read block_size page bytes items read h.1.0.0) h
+pub done_read : (known : Option (List ℕ)) (layout : ImageLayout) (items : List ℕ) (old new : Option (List UnpackingAction)) → IfSome known (λ bytes. items ≡ take most bytes)
+    → HasUnpackedImage layout items old new → IfSome known (λ bytes. HasUnpackedImage layout bytes old new)
+done_read None layout items old new read h = tt
+done_read (Some bytes) layout items old new read h = subst (λ (i : List ℕ). HasUnpackedImage layout i old new) (all_read layout.block_size layout.page bytes items read h.1.0.0) h
 
-pub told_read : {X : Type 0} (known : Option (List ℕ)) (block_size page : ℕ) (items : List ℕ) (r : Result X ToolError) (was now : Option (List UnpackingAction)) (old new : Option (List ProgressCall)) → IfSome known (λ bytes. items ≡ take most bytes)
-    → IsToldOfActionsDone (AreActionsUnpackingImage block_size page items) was now old new r → IfSome known (λ bytes. IsToldOfActionsDone (AreActionsUnpackingImage block_size page bytes) was now old new r)
-told_read None block_size page items r was now old new read told = tt
-told_read (Some bytes) block_size page items r was now old new read told =
-    told_alike (AreActionsUnpackingImage block_size page items) (AreActionsUnpackingImage block_size page bytes)
-    (λ actions are. subst (λ (i : List ℕ). AreActionsUnpackingImage block_size page i actions) (all_read block_size page bytes items read are.0) are) r was now old new told
+pub told_read : {X : Type 0} (known : Option (List ℕ)) (layout : ImageLayout) (items : List ℕ) (r : Result X ToolError) (was now : Option (List UnpackingAction)) (old new : Option (List ProgressCall)) → IfSome known (λ bytes. items ≡ take most bytes)
+    → IsToldOfActionsDone (AreActionsUnpackingImage layout items) was now old new r → IfSome known (λ bytes. IsToldOfActionsDone (AreActionsUnpackingImage layout bytes) was now old new r)
+told_read None layout items r was now old new read told = tt
+told_read (Some bytes) layout items r was now old new read told =
+    told_alike (AreActionsUnpackingImage layout items) (AreActionsUnpackingImage layout bytes)
+    (λ actions are. subst (λ (i : List ℕ). AreActionsUnpackingImage layout i actions) (all_read layout.block_size layout.page bytes items read are.0) are) r was now old new told
 
-begun_read : (known : Option (List ℕ)) (block_size page : ℕ) (items : List ℕ) (old new : Option (List UnpackingAction)) → IfSome known (λ bytes. items ≡ take most bytes)
-    → HasBegunUnpackingImage block_size page items old new → IfSome known (λ bytes. HasBegunUnpackingImage block_size page bytes old new)
-begun_read None block_size page items old new read h = tt
-begun_read (Some bytes) block_size page items old new read h = subst (λ (i : List ℕ). HasBegunUnpackingImage block_size page i old new) (all_read block_size page bytes items read h.1.0.0) h
+begun_read : (known : Option (List ℕ)) (layout : ImageLayout) (items : List ℕ) (old new : Option (List UnpackingAction)) → IfSome known (λ bytes. items ≡ take most bytes)
+    → HasBegunUnpackingImage layout items old new → IfSome known (λ bytes. HasBegunUnpackingImage layout bytes old new)
+begun_read None layout items old new read h = tt
+begun_read (Some bytes) layout items old new read h = subst (λ (i : List ℕ). HasBegunUnpackingImage layout i old new) (all_read layout.block_size layout.page bytes items read h.1.0.0) h
 
-begun_at_error : (known : Option (List ℕ)) (block_size page : ℕ) (items : List ℕ) (old new : Option (List UnpackingAction)) (e : ToolError) → IfSome known (λ bytes. items ≡ take most bytes)
-    → FailsToUnpackImage block_size page items old new e → (new ≡ old) ⊎ IfSome known (λ bytes. HasBegunUnpackingImage block_size page bytes old new)
-begun_at_error known block_size page items old new (Fs Corrupt) read h = inl h.1
-begun_at_error known block_size page items old new (Fs Invalid) read h = inl h.1
-begun_at_error known block_size page items old new (Fs NoMemory) read (inl undone) = inl undone
-begun_at_error known block_size page items old new (Fs NoMemory) read (inr begun) = inr (begun_read known block_size page items old new read begun)
-begun_at_error known block_size page items old new Output read h = inr (begun_read known block_size page items old new read h)
-begun_at_error known block_size page items old new e read h = absurd h
+begun_at_error : (known : Option (List ℕ)) (layout : ImageLayout) (items : List ℕ) (old new : Option (List UnpackingAction)) (e : ToolError) → IfSome known (λ bytes. items ≡ take most bytes)
+    → FailsToUnpackImage layout items old new e → (new ≡ old) ⊎ IfSome known (λ bytes. HasBegunUnpackingImage layout bytes old new)
+begun_at_error known layout items old new (Fs Corrupt) read h = inl h.1
+begun_at_error known layout items old new (Fs Invalid) read h = inl h.1
+begun_at_error known layout items old new (Fs NoMemory) read (inl undone) = inl undone
+begun_at_error known layout items old new (Fs NoMemory) read (inr begun) = inr (begun_read known layout items old new read begun)
+begun_at_error known layout items old new Output read h = inr (begun_read known layout items old new read h)
+begun_at_error known layout items old new e read h = absurd h
 
-refused_at : (block_size page : ℕ) (items : List ℕ) (old new : Option (List UnpackingAction)) (e : Error) → FailsToUnpackImage block_size page items old new (Fs e) → RefusesToList block_size page items e
-refused_at block_size page items old new Corrupt h = h.0
-refused_at block_size page items old new Invalid h = h.0
-refused_at block_size page items old new NoMemory h = tt
-refused_at block_size page items old new e h = absurd h
+refused_at : (layout : ImageLayout) (items : List ℕ) (old new : Option (List UnpackingAction)) (e : Error) → FailsToUnpackImage layout items old new (Fs e) → RefusesToList layout items e
+refused_at layout items old new Corrupt h = h.0
+refused_at layout items old new Invalid h = h.0
+refused_at layout items old new NoMemory h = tt
+refused_at layout items old new e h = absurd h
 
-undone_at_error : (block_size page : ℕ) (items : List ℕ) (old new : Option (List UnpackingAction)) (e : ToolError) → FailsToUnpackImage block_size page items old new e → e ≢ Output → e ≢ Fs NoMemory → new ≡ old
-undone_at_error block_size page items old new (Fs Corrupt) h target memory = h.1
-undone_at_error block_size page items old new (Fs Invalid) h target memory = h.1
-undone_at_error block_size page items old new (Fs NoMemory) h target memory = absurd (memory refl)
-undone_at_error block_size page items old new Output h target memory = absurd (target refl)
-undone_at_error block_size page items old new e h target memory = absurd h
+undone_at_error : (layout : ImageLayout) (items : List ℕ) (old new : Option (List UnpackingAction)) (e : ToolError) → FailsToUnpackImage layout items old new e → e ≢ Output → e ≢ Fs NoMemory → new ≡ old
+undone_at_error layout items old new (Fs Corrupt) h target memory = h.1
+undone_at_error layout items old new (Fs Invalid) h target memory = h.1
+undone_at_error layout items old new (Fs NoMemory) h target memory = absurd (memory refl)
+undone_at_error layout items old new Output h target memory = absurd (target refl)
+undone_at_error layout items old new e h target memory = absurd h
 
-pub fails_known : (known : Option (List ℕ)) (block_size page : ℕ) (items : List ℕ) (old new : Option (List UnpackingAction)) (e : ToolError) → IfSome known (λ bytes. items ≡ take most bytes)
-    → FailsToUnpackImage block_size page items old new e → FailsToUnpackKnownImage block_size page known old new e
-fails_known known block_size page items old new e read h = record {
-  refused = λ f is. refuses_read known block_size page items f read (refused_at block_size page items old new f (subst (FailsToUnpackImage block_size page items old new) is h));
-  undone = undone_at_error block_size page items old new e h;
-  begun = begun_at_error known block_size page items old new e read h;
+pub fails_known : (known : Option (List ℕ)) (layout : ImageLayout) (items : List ℕ) (old new : Option (List UnpackingAction)) (e : ToolError) → IfSome known (λ bytes. items ≡ take most bytes)
+    → FailsToUnpackImage layout items old new e → FailsToUnpackKnownImage layout known old new e
+fails_known known layout items old new e read h = record {
+  refused = λ f is. refuses_read known layout items f read (refused_at layout items old new f (subst (FailsToUnpackImage layout items old new) is h));
+  undone = undone_at_error layout items old new e h;
+  begun = begun_at_error known layout items old new e read h;
 }

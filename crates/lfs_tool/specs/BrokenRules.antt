@@ -11,6 +11,7 @@ use Rattle.lfs_tool.specs.BrokenLists.{IsBlockInPairAndFile, IsBlockInTwoFiles, 
 use Rattle.lfs_tool.specs.BrokenDirectories.{AreEntriesThatLeadToOneDirectory, IsEntryThatLeadsToNoDirectory, IsEntryThatLeadsToRoot, IsUnreachedDirectory}
 use Rattle.lfs_tool.specs.BrokenOrder.{AreNamesInTwoOrders, IsNameOutOfOrder}
 use Rattle.lfs_tool.specs.KeptRules.{BeginsRootWithSuperblock}
+use Rattle.lfs_tool.specs.KeptSuperblocks.{HaveSameNumbersIfInline}
 use Rattle.lfs_tool.specs.declared.findings.Finding.{Finding}
 use Rattle.lfs_tool.specs.declared.findings.Finding.TheVariants as finding
 use Rattle.lfs_tool.specs.declared.findings.NamedSlot.{NamedSlot}
@@ -21,7 +22,7 @@ use Rattle.lfs_tool.specs.declared.findings.WrongNumber.{WrongNumber}
 
 -- a number of a superblock's struct is wrong
 abbrev pub IsWrongSuperblockFieldForDisk : Disk → SuperblockFields → WrongNumber → Type 0
-IsWrongSuperblockFieldForDisk disk fields stated = IsWrongSuperblockField disk.block_size (block_count disk) fields stated
+IsWrongSuperblockFieldForDisk disk fields stated = IsWrongSuperblockField disk.block_size (block_count disk) disk.profile.versions fields stated
 
 -- a superblock's struct: 24 bytes in the slot
 abbrev pub HasSuperblockFields : Struct → SuperblockFields → Type 0
@@ -80,7 +81,7 @@ BreaksRuleOfFinding disk ps (finding.NoFields pair) = (s : Struct) × (IsFirstSt
 BreaksRuleOfFinding disk ps (finding.OtherFields pair stated) =
     (s : Struct) × (IsFirstStructOfSuperblockChainPair ps (pair_address_of_array pair) s × ((fields : SuperblockFields) × (HasSuperblockFields s fields × IsWrongSuperblockFieldForDisk disk fields stated)))
 BreaksRuleOfFinding disk ps (finding.OtherSuperblock pair root) =
-    (s : Struct) × (IsFirstStructOfSuperblockChainPair ps (pair_address_of_array pair) s × ((t : Struct) × (IsFirstStructOfSuperblockChainPair ps (pair_address_of_array root) t × (root_directory_address_of_pairs ps ≡ pair_address_of_array root) × (s ≢ t))))
+    (s : Struct) × (IsFirstStructOfSuperblockChainPair ps (pair_address_of_array pair) s × ((t : Struct) × (IsFirstStructOfSuperblockChainPair ps (pair_address_of_array root) t × (root_directory_address_of_pairs ps ≡ pair_address_of_array root) × ¬ HaveSameNumbersIfInline s t)))
 BreaksRuleOfFinding disk ps (finding.OtherName place) = IsFirstSlotWithOtherName ps place
 BreaksRuleOfFinding disk ps (finding.SecondSuperblock place) = IsSecondSuperblock ps place
 BreaksRuleOfFinding disk ps (finding.OtherStruct place) = IsTrueOfNamedEntrySlot (λ s. (is_superblock s ≡ false) × ¬ IsStructOfKind s.kind s.struct) ps place

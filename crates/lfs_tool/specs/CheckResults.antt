@@ -1,5 +1,6 @@
 -- The result of a check of an image.
 use Rattle.std.specs.Prelude.{ℕ, ◌≡◌, ◌<◌, ◌≤◌, ◌/◌, Bool, true, false, List, length, Option, Some, None}
+use Rattle.lfs_tool.specs.declared.image_layout.ImageLayout.{ImageLayout}
 use Rattle.lfs_tool.specs.Findings.{IsTrueFindingOfDisk}
 use Rattle.lfs_tool.specs.WrongNumbers.{HasNoWrongNumberInImageBytes, IsWrongNumberInImageBytes}
 use Rattle.lfs_tool.specs.Verdict.{IsAcceptedWithSummary, IsAcceptedInNoNameOrder, IsVerdictOnDisk}
@@ -14,48 +15,48 @@ use Rattle.lfs_tool.specs.declared.check_result.RefusalReason.{RefusalReason}
 use Rattle.lfs_tool.specs.declared.check_result.RefusalReason.TheVariants as reason
 
 -- the bytes are an image, and this holds of its disk, whatever its order of names
-abbrev pub IsTrueOfDiskOfImage : ℕ → ℕ → List ℕ → (Disk → Type 0) → Type 0
-IsTrueOfDiskOfImage block_size page image P = IsImageOfWholeBlocks block_size page image × ((order : NameOrder) → P (disk_of_image block_size page order image))
+abbrev pub IsTrueOfDiskOfImage : ImageLayout → List ℕ → (Disk → Type 0) → Type 0
+IsTrueOfDiskOfImage layout image P = IsImageOfWholeBlocks layout.block_size layout.page image × ((order : NameOrder) → P (disk_of_image layout.block_size layout.page layout.profile order image))
 
 -- the bytes are no more than an image may have
 abbrev pub IsShortEnoughForImage : List ℕ → Type 0
 IsShortEnoughForImage image = length image ≤ 268435456
 
 -- no number is wrong, unless the bytes are more than an image may have
-abbrev pub HasNoWrongNumberUnlessTooLong : ℕ → List ℕ → Type 0
-HasNoWrongNumberUnlessTooLong block_size image = IsShortEnoughForImage image → HasNoWrongNumberInImageBytes image block_size
+abbrev pub HasNoWrongNumberUnlessTooLong : ImageLayout → List ℕ → Type 0
+HasNoWrongNumberUnlessTooLong layout image = IsShortEnoughForImage image → HasNoWrongNumberInImageBytes image layout.block_size layout.profile.versions
 
 -- the number is wrong there; without one, none is
-abbrev pub IsWrongNumberIfAny : ℕ → List ℕ → Option WrongNumber → Type 0
-IsWrongNumberIfAny block_size image None = HasNoWrongNumberUnlessTooLong block_size image
-IsWrongNumberIfAny block_size image (Some stated) = IsShortEnoughForImage image × IsWrongNumberInImageBytes image block_size stated
+abbrev pub IsWrongNumberIfAny : ImageLayout → List ℕ → Option WrongNumber → Type 0
+IsWrongNumberIfAny layout image None = HasNoWrongNumberUnlessTooLong layout image
+IsWrongNumberIfAny layout image (Some stated) = IsShortEnoughForImage image × IsWrongNumberInImageBytes image layout.block_size layout.profile.versions stated
 
 -- why the bytes are refused; a wrong number comes before any other reason
-abbrev pub IsReasonForRefusedBytes : ℕ → ℕ → List ℕ → RefusalReason → Type 0
-IsReasonForRefusedBytes block_size page image (reason.WrongNumber stated) = IsWrongNumberIfAny block_size image (Some stated)
-IsReasonForRefusedBytes block_size page image reason.NoImage = IsWrongNumberIfAny block_size image None × ¬ IsImageOfWholeBlocks block_size page image
-IsReasonForRefusedBytes block_size page image (reason.Broken finding) = IsWrongNumberIfAny block_size image None × IsTrueOfDiskOfImage block_size page image (λ disk. IsTrueFindingOfDisk disk finding)
+abbrev pub IsReasonForRefusedBytes : ImageLayout → List ℕ → RefusalReason → Type 0
+IsReasonForRefusedBytes layout image (reason.WrongNumber stated) = IsWrongNumberIfAny layout image (Some stated)
+IsReasonForRefusedBytes layout image reason.NoImage = IsWrongNumberIfAny layout image None × ¬ IsImageOfWholeBlocks layout.block_size layout.page image
+IsReasonForRefusedBytes layout image (reason.Broken finding) = IsWrongNumberIfAny layout image None × IsTrueOfDiskOfImage layout image (λ disk. IsTrueFindingOfDisk disk finding)
 
 -- the sizes are those that were given; there are so many whole blocks, unless the bytes are more than an image may have
-pub record AreReportedSizesThoseGivenToCheck (block_size page : ℕ) (image : List ℕ) (given : GivenSizes) : Type 0 where
-  pub size_is : given.block_size ≡ block_size
-  pub page_is : given.page ≡ page
-  pub count_is : 0 < block_size → IsShortEnoughForImage image → given.blocks ≡ length image / block_size
+pub record AreReportedSizesThoseGivenToCheck (layout : ImageLayout) (image : List ℕ) (given : GivenSizes) : Type 0 where
+  pub size_is : given.block_size ≡ layout.block_size
+  pub page_is : given.page ≡ layout.page
+  pub count_is : 0 < layout.block_size → IsShortEnoughForImage image → given.blocks ≡ length image / layout.block_size
 
 -- the bytes aren't an image that is accepted, in either order of names
-abbrev pub AreBytesNoAcceptedImage : ℕ → ℕ → List ℕ → Type 0
-AreBytesNoAcceptedImage block_size page image = IsImageOfWholeBlocks block_size page image → (order : NameOrder) → IsAcceptedInNoNameOrder (disk_of_image block_size page order image)
+abbrev pub AreBytesNoAcceptedImage : ImageLayout → List ℕ → Type 0
+AreBytesNoAcceptedImage layout image = IsImageOfWholeBlocks layout.block_size layout.page image → (order : NameOrder) → IsAcceptedInNoNameOrder (disk_of_image layout.block_size layout.page layout.profile order image)
 
 -- The bytes are an accepted image, in these orders of names, and have that; or they are refused, and why.
-abbrev pub IsCheckResultOfBytes : ℕ → ℕ → List ℕ → CheckResult → Type 0
-IsCheckResultOfBytes block_size page image (checked.Accepted summary orders) = IsTrueOfDiskOfImage block_size page image (λ disk. IsAcceptedWithSummary disk summary orders)
-IsCheckResultOfBytes block_size page image (checked.Refused reason given) = AreBytesNoAcceptedImage block_size page image × IsReasonForRefusedBytes block_size page image reason × AreReportedSizesThoseGivenToCheck block_size page image given
+abbrev pub IsCheckResultOfBytes : ImageLayout → List ℕ → CheckResult → Type 0
+IsCheckResultOfBytes layout image (checked.Accepted summary orders) = IsTrueOfDiskOfImage layout image (λ disk. IsAcceptedWithSummary disk summary orders)
+IsCheckResultOfBytes layout image (checked.Refused reason given) = AreBytesNoAcceptedImage layout image × IsReasonForRefusedBytes layout image reason × AreReportedSizesThoseGivenToCheck layout image given
 
 abbrev pub is_accepted_check_result : CheckResult → Bool
 is_accepted_check_result (checked.Accepted summary orders) = true
 is_accepted_check_result (checked.Refused reason given) = false
 
 -- the verdict on an image, where the bytes are one
-abbrev pub IsVerdictOnBytes : ℕ → ℕ → List ℕ → Option ImageVerdict → Type 0
-IsVerdictOnBytes block_size page image None = ¬ IsImageOfWholeBlocks block_size page image
-IsVerdictOnBytes block_size page image (Some verdict) = IsTrueOfDiskOfImage block_size page image (λ disk. IsVerdictOnDisk disk verdict)
+abbrev pub IsVerdictOnBytes : ImageLayout → List ℕ → Option ImageVerdict → Type 0
+IsVerdictOnBytes layout image None = ¬ IsImageOfWholeBlocks layout.block_size layout.page image
+IsVerdictOnBytes layout image (Some verdict) = IsTrueOfDiskOfImage layout image (λ disk. IsVerdictOnDisk disk verdict)

@@ -1,5 +1,5 @@
 -- The lines of a check.
-use Rattle.std.specs.Prelude.{ℕ, ◌-◌, ◌/◌, ◌%◌, ◌++◌, Bool, true, false, List, codes}
+use Rattle.std.specs.Prelude.{ℕ, ◌-◌, ◌/◌, ◌%◌, ◌++◌, Bool, true, false, List, Option, Some, None, codes}
 use Rattle.std.specs.Fmt.{decimal}
 use Rattle.lfs_tool.specs.declared.findings.Finding.{Finding}
 use Rattle.lfs_tool.specs.declared.findings.Finding.TheVariants as finding
@@ -17,6 +17,8 @@ use Rattle.lfs_tool.specs.declared.check_result.RefusalReason.TheVariants as rea
 use Rattle.lfs_tool.specs.declared.verdict.ImageSummary.{ImageSummary}
 use Rattle.lfs_tool.specs.declared.verdict.WritingProfile.{WritingProfile}
 use Rattle.lfs_tool.specs.declared.verdict.WritingProfile.TheVariants as profile
+use Rattle.lfs_tool.specs.declared.verdict.OtherLimit.{OtherLimit}
+use Rattle.lfs_tool.specs.declared.verdict.OtherLimit.TheVariants as limit
 use Rattle.lfs_tool.specs.declared.check_result.CheckResult.{CheckResult}
 use Rattle.lfs_tool.specs.declared.check_result.CheckResult.TheVariants as checked
 
@@ -48,11 +50,23 @@ abbrev pub needs_recovery_line : Bool → List ℕ
 needs_recovery_line true = codes "recover yes" ++ newline
 needs_recovery_line false = codes "recover no" ++ newline
 
+-- `name_max N`
+abbrev pub other_limit_text : OtherLimit → List ℕ
+other_limit_text (limit.Name n) = codes "name_max " ++ decimal n
+other_limit_text (limit.File n) = codes "file_max " ++ decimal n
+other_limit_text (limit.Attr n) = codes "attr_max " ++ decimal n
+
+-- the profile's limit of a file that is inline, where it is less than an eighth of a block
+abbrev pub inline_limit_text : Option ℕ → List ℕ
+inline_limit_text None = codes "an eighth of a block"
+inline_limit_text (Some n) = codes "inline_max " ++ decimal n
+
 -- why an image isn't in the writing profile
 abbrev pub writing_profile_text : WritingProfile → List ℕ
 writing_profile_text profile.Within = codes "yes"
-writing_profile_text (profile.OtherLimits pair slot) = codes "no: " ++ (slot_text (pair_address_of_array pair) slot ++ codes ": a superblock with other limits than this library writes")
-writing_profile_text (profile.LongInline pair slot) = codes "no: " ++ (slot_text (pair_address_of_array pair) slot ++ codes ": more bytes inline than an eighth of a block")
+writing_profile_text (profile.OtherLimits pair slot limit) =
+    codes "no: " ++ (slot_text (pair_address_of_array pair) slot ++ codes ": a superblock with other limits than this library writes, ") ++ other_limit_text limit
+writing_profile_text (profile.LongInline pair slot inline_max) = codes "no: " ++ (slot_text (pair_address_of_array pair) slot ++ codes ": more bytes inline than ") ++ inline_limit_text inline_max
 writing_profile_text (profile.EmptyPair pair) = codes "no: " ++ (pair_text (pair_address_of_array pair) ++ codes ": no entry, but a directory goes on in it")
 writing_profile_text profile.TooLarge = codes "no: a pair or an entry is larger than this library writes"
 

@@ -17,3 +17,4 @@ pub record OnlyReadsDevice {D X : Type 0} (g : Ghosts D) (old new : D) (result :
 pub record HasSizesOfGeometry (disk : Disk) (geometry : Geometry) : Type 0 where
   pub block_size : disk.block_size ≡ geometry.block_size
   pub count : block_count disk ≡ geometry.block_count
+  pub profile : disk.profile ≡ geometry.profile

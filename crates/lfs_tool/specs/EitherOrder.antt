@@ -1,13 +1,14 @@
 -- What holds with the names in one of the two orders.
 use Rattle.std.specs.Prelude.{ℕ, List}
+use Rattle.lfs_tool.specs.declared.image_layout.ImageLayout.{ImageLayout}
 use Rattle.lfs_device.specs.Shown.{disk_with_name_order}
 use Rattle.lfs_model.specs.Disk.{Disk, disk_of_image}
 use Rattle.lfs_model.specs.View.{HasDiskView, DiskView}
 use Rattle.lfs_model.specs.declared.order.NameOrder.{NameOrder}
 
 -- the disk of these bytes is accepted with its names in one of the orders, and shows that
-abbrev pub IsViewOfImageInSomeNameOrder : ℕ → ℕ → List ℕ → DiskView → Type 0
-IsViewOfImageInSomeNameOrder block_size page image view = (order : NameOrder) × HasDiskView (disk_of_image block_size page order image) view
+abbrev pub IsViewOfImageInSomeNameOrder : ImageLayout → List ℕ → DiskView → Type 0
+IsViewOfImageInSomeNameOrder layout image view = (order : NameOrder) × HasDiskView (disk_of_image layout.block_size layout.page layout.profile order image) view
 
 -- the same of a disk, whatever its own order
 abbrev pub IsViewOfDiskInSomeNameOrder : Disk → DiskView → Type 0

@@ -26,6 +26,7 @@ AreExcerptsKeepingSizesPointersAndLogs (b ∷ blocks) (e ∷ excerpts) = IsExcer
 pub record IsDiskOfExcerptsKeepingSizesPointersAndLogs (disk excerpt : Disk) : Type 0 where
   pub block_size : excerpt.block_size ≡ disk.block_size
   pub order : excerpt.order ≡ disk.order
+  pub profile : excerpt.profile ≡ disk.profile
   pub blocks : AreExcerptsKeepingSizesPointersAndLogs disk.blocks excerpt.blocks
 
 -- these bytes, and then erased ones up to a size

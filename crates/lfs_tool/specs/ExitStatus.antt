@@ -4,6 +4,9 @@ use Rattle.clap.specs.Words.{kind_of}
 use Rattle.clap.specs.declared.error.ErrorKind.{ErrorKind}
 use Rattle.clap.specs.declared.error.ErrorKind.TheVariants as kind
 use Rattle.lfs_tool_line.specs.declared.line.LineError.TheVariants.{Modes, NotUtf8, Order, Parser}
+use Rattle.lfs_tool_line.specs.declared.line.LineError.TheVariants as line_error
+use Rattle.lfs_tool_line.specs.declared.limits.Limit.{Limit}
+use Rattle.lfs_tool_line.specs.Limits.{rule_of_limit}
 use Rattle.lfs_model.specs.Listing.{newline}
 use Rattle.lfs_tool.specs.Errors.{error_line, tool_error_line, tool_error_status}
 use Rattle.lfs_device.specs.declared.error.Error.TheVariants.{NoMemory}
@@ -30,6 +33,8 @@ status_of_parser_outcome mistake = 2
 abbrev pub exit_status_of_failure : Fault → ℕ
 exit_status_of_failure (Line Modes) = 2
 exit_status_of_failure (Line Order) = 2
+exit_status_of_failure (Line line_error.Board) = 2
+exit_status_of_failure (Line (line_error.Limit limit)) = 2
 exit_status_of_failure (Line NotUtf8) = 2
 exit_status_of_failure (Line (Parser e)) = status_of_parser_outcome (outcome_of_parser_error (kind_of e))
 exit_status_of_failure (Tool e) = tool_error_status e
@@ -39,10 +44,16 @@ error_line_of_parser_outcome memory = Some (error_line NoMemory)
 error_line_of_parser_outcome help = None
 error_line_of_parser_outcome mistake = None
 
+-- the line that says which rule a limit breaks
+abbrev pub broken_limit_line : Limit → List ℕ
+broken_limit_line limit = codes "error: " ++ rule_of_limit limit ++ newline
+
 -- the line on the standard error, where it is the tool's own
 abbrev pub standard_error_line_of_failure : Fault → Option (List ℕ)
 standard_error_line_of_failure (Line Modes) = Some (codes "error: give exactly one of -c, -u, -l" ++ newline)
 standard_error_line_of_failure (Line Order) = Some (codes "error: --order is longer-first or shorter-first" ++ newline)
+standard_error_line_of_failure (Line line_error.Board) = Some (codes "error: --board is esp8266, esp32, rp2040 or micropython" ++ newline)
+standard_error_line_of_failure (Line (line_error.Limit limit)) = Some (broken_limit_line limit)
 standard_error_line_of_failure (Line NotUtf8) = Some (codes "error: the command line is not UTF-8" ++ newline)
 standard_error_line_of_failure (Line (Parser e)) = error_line_of_parser_outcome (outcome_of_parser_error (kind_of e))
 standard_error_line_of_failure (Tool e) = Some (tool_error_line e)

@@ -14,8 +14,11 @@ use Rattle.lfs_tool_line.specs.declared.line.Mode.{Mode}
 use Rattle.lfs_tool_line.specs.declared.line.Mode.TheVariants as mode
 use Rattle.lfs_tool_line.specs.declared.sizes.SizeRule.{SizeRule}
 use Rattle.lfs_tool_line.specs.declared.sizes.Sizes.{Sizes}
+use Rattle.lfs_tool_folders.specs.declared.file_limits.FileLimits.{FileLimits}
+use Rattle.lfs_tool.specs.FileLimits.{file_limits_of_line}
+use Rattle.lfs_tool.specs.ImageLayouts.{layout_of_line}
 use Rattle.lfs_tool.specs.CheckResults.{IsCheckResultOfBytes}
-use Rattle.lfs_tool.specs.CheckedLines.{check_result_text}
+use Rattle.lfs_tool.specs.ExplainedChecks.{explained_check_text}
 use Rattle.lfs_tool.specs.Errors.{error_line, tool_error_line}
 use Rattle.lfs_tool.specs.Needed.{IsTrueOfEnoughBlocks}
 use Rattle.lfs_tool.specs.PlaceEvents.{FaultAnswered}
@@ -61,7 +64,7 @@ needed_blocks_text n = decimal n.blocks ++ enough_blocks_text n.enough
 
 abbrev pub explanation_text : Explanation → List ℕ
 explanation_text (explanation.Place f) = text_of_fault_met_at_host_path f
-explanation_text (explanation.Checked checked) = check_result_text checked
+explanation_text (explanation.Checked checked) = explained_check_text checked
 explanation_text (explanation.Sizes sizes rule) = broken_size_rule_text sizes rule
 explanation_text (explanation.Blocks needed) = needed_blocks_text needed
 explanation_text explanation.Nothing = []
@@ -88,7 +91,7 @@ ExplainsBrokenSizeRule path_of bytes line other = ⊥
 
 abbrev pub ExplainsErrorByImageCheck : {I : Type 0} → (I → List ℕ) → (I → Option (List ℕ)) → Line → Explanation → Type 0
 ExplainsErrorByImageCheck path_of bytes line (explanation.Checked checked) =
-    IsTrueOfSomethingAtPath path_of line.image.now (λ i. IfSome (bytes i) (λ image. IsCheckResultOfBytes line.block_size line.page image checked))
+    IsTrueOfSomethingAtPath path_of line.image.now (λ i. IfSome (bytes i) (λ image. IsCheckResultOfBytes (layout_of_line line) image checked))
 ExplainsErrorByImageCheck path_of bytes line other = ⊥
 
 -- what is answered of a fault, as an explanation
@@ -103,23 +106,23 @@ IsFaultAnsweredByPlaces places old new result = (answer : Result (Option PathFau
 
 -- The blocks are those of the line's image, and what is said of how many are enough is true of what the folder has. Files are read up
 -- to the most that an image may have.
-abbrev pub ExplainsNeededBlocksOfFolder : {F : Type 0} → (F → List ℕ) → (F → ℕ) → (F → Option TreeSource) → Line → List ℕ → Explanation → Type 0
-ExplainsNeededBlocksOfFolder folder_of limit_of shown line folder (explanation.Blocks needed) =
+abbrev pub ExplainsNeededBlocksOfFolder : {F : Type 0} → (F → List ℕ) → (F → FileLimits) → (F → Option TreeSource) → Line → List ℕ → Explanation → Type 0
+ExplainsNeededBlocksOfFolder folder_of limits_of shown line folder (explanation.Blocks needed) =
     (needed.blocks ≡ line.size / line.block_size)
-    × IsTrueOfSomethingAtPath folder_of folder (λ f. (limit_of f ≡ 268435456)
+    × IsTrueOfSomethingAtPath folder_of folder (λ f. (limits_of f ≡ file_limits_of_line line 268435456)
     × ((entries : List SourceEntry) × (AreAllEntriesOfSource (shown f) entries × IsTrueOfEnoughBlocks line entries needed.blocks needed.enough)))
-ExplainsNeededBlocksOfFolder folder_of limit_of shown line folder other = ⊥
+ExplainsNeededBlocksOfFolder folder_of limits_of shown line folder other = ⊥
 
-abbrev pub ExplainsTooFewBlocks : {F : Type 0} → (F → List ℕ) → (F → ℕ) → (F → Option TreeSource) → Line → Explanation → Type 0
-ExplainsTooFewBlocks folder_of limit_of shown line e =
-    IsTrueForMode line.mode (e ≡ explanation.Nothing) (e ≡ explanation.Nothing) (λ folder. ExplainsNeededBlocksOfFolder folder_of limit_of shown line folder e) (λ _. e ≡ explanation.Nothing)
+abbrev pub ExplainsTooFewBlocks : {F : Type 0} → (F → List ℕ) → (F → FileLimits) → (F → Option TreeSource) → Line → Explanation → Type 0
+ExplainsTooFewBlocks folder_of limits_of shown line e =
+    IsTrueForMode line.mode (e ≡ explanation.Nothing) (e ≡ explanation.Nothing) (λ folder. ExplainsNeededBlocksOfFolder folder_of limits_of shown line folder e) (λ _. e ≡ explanation.Nothing)
 
 -- This explains the error: of sizes the rule that is broken, of an image what a check says, of too few blocks how many it takes. Of a
 -- path it is the fault that the places answer, which are asked for it at `Input` and `Output` alone.
 abbrev pub IsExplanationOfError : {P I N F T R : Type 0} → Ghosts P I N F T R → ImageInputGhosts I → SourceGhosts F → Line → P → P → ToolError → Explanation → Type 0
 IsExplanationOfError places input source line old new (Fs fs.Invalid) e = IsTrueForMakingOrReadingMode line.mode (places.history new ≡ places.history old) (OpensImageToRead places line old new) × ExplainsBrokenSizeRule places.image_path input.remaining line e
 IsExplanationOfError places input source line old new (Fs fs.Corrupt) e = OpensImageToRead places line old new × ExplainsErrorByImageCheck places.image_path input.remaining line e
-IsExplanationOfError places input source line old new (Fs fs.NoSpace) e = (new ≡ old) × ExplainsTooFewBlocks places.folder_path places.folder_limit source.shown line e
+IsExplanationOfError places input source line old new (Fs fs.NoSpace) e = (new ≡ old) × ExplainsTooFewBlocks places.folder_path places.folder_limits source.shown line e
 IsExplanationOfError places input source line old new (Fs other) e = (new ≡ old) × (e ≡ explanation.Nothing)
 IsExplanationOfError places input source line old new Input e = IsFaultAnsweredByPlaces places old new (Ok e)
 IsExplanationOfError places input source line old new Output e = IsFaultAnsweredByPlaces places old new (Ok e)

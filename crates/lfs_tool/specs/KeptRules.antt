@@ -6,10 +6,10 @@ use Rattle.lfs_model.specs.Content.{current_block_of_pair_at}
 use Rattle.lfs_model.specs.Disk.{Disk, block_count}
 use Rattle.lfs_model.specs.Names.{Name, name_cmp}
 use Rattle.lfs_model.specs.Shown.{IsDirectoryAddressReachedBySomePath, IsPathToDirectory, all_slots_not_moved, directories_in_thread, entries_by_directory_in_thread, used_blocks}
-use Rattle.lfs_model.specs.Slots.{Inline, Slot, same_pair}
+use Rattle.lfs_model.specs.Slots.{Slot, same_pair}
 use Rattle.lfs_model.specs.Thread.{IsAddressOfDirectoryFirstPair, Pair, blocks_of_pairs, first_pair_address, gstate_of_pairs, is_hard_tail, pair_count_before_root, pairs_from_first_with_slots, pairs_from_root_directory_on, starts_with_superblock}
 use Rattle.lfs_model.specs.Tree.{Path}
-use Rattle.lfs_model.specs.View.{BeginsWithLogEntry, HasValidMoveOrNone, IsFileOrDirectoryEntry, IsSkipListIfCtzStruct, IsSuperblockStruct, first_pair_slots, first_slot_name, superblock_name_log_entry}
+use Rattle.lfs_model.specs.View.{BeginsWithLogEntry, HasSuperblockStruct, HasValidMoveOrNone, IsFileOrDirectoryEntry, IsSkipListIfCtzStruct, IsSuperblockStruct, first_pair_slots, first_slot_name, superblock_name_log_entry}
 use Rattle.lfs_model.specs.declared.order.NameOrder.{NameOrder}
 
 -- ---- the thread and its superblocks
@@ -23,12 +23,12 @@ pub record HasDistinctBlocksInRange (count : ℕ) (ps : List Pair) : Type 0 wher
 abbrev pub BeginsRootWithSuperblock : List Pair → Type 0
 BeginsRootWithSuperblock ps = starts_with_superblock (first_pair_slots (pairs_from_root_directory_on ps)) ≡ true
 
--- the structs of the superblock's chain are the disk's, and the same
+-- the structs of the superblock's chain are the disk's, and the same but for an accepted version
 pub record HasSameSuperblocksInChain (disk : Disk) (ps : List Pair) : Type 0 where
   pub root : BeginsRootWithSuperblock ps
   pub bytes : List ℕ
   pub struct : IsSuperblockStruct disk bytes
-  pub each : (index : ℕ) (pair : Pair) (s : Slot) → slice_get ps index ≡ Some pair → index ≤ pair_count_before_root ps → slice_get pair.content.slots 0 ≡ Some s → s.struct ≡ Inline bytes
+  pub each : (index : ℕ) (pair : Pair) (s : Slot) → slice_get ps index ≡ Some pair → index ≤ pair_count_before_root ps → slice_get pair.content.slots 0 ≡ Some s → HasSuperblockStruct disk.profile.versions bytes s
 
 -- in the first pair that has a slot, slot 0 has the superblock's name
 abbrev pub HasSuperblockNameInFirstSlot : List Pair → Type 0

@@ -6,6 +6,7 @@ pub mod ThreadBeginnings
 pub mod WrongNumbers
 pub mod SlotsInThread
 pub mod MarkedBlocks
+pub mod FileLimits
 pub mod FileLists
 pub mod EntryPlaces
 pub mod ReachedDirectories
@@ -18,6 +19,7 @@ pub mod BrokenDirectories
 pub mod BrokenRules
 pub mod Entries
 pub mod Explained
+pub mod ExplainedChecks
 pub mod Needed
 pub mod Findings
 pub mod Device
@@ -43,6 +45,7 @@ pub mod Reports
 pub mod KnownBytes
 pub mod Blocks
 pub mod EitherOrder
+pub mod ImageLayouts
 pub mod Errors
 pub mod ExitStatus
 pub mod Listings

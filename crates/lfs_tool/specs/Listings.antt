@@ -2,6 +2,7 @@
 use Rattle.std.specs.Prelude.{ℕ, ◌≡◌, false, List, ◌++◌, Option, Some, None, codes}
 use Rattle.std.specs.List.{flat_map}
 use Rattle.std.specs.Fmt.{decimal}
+use Rattle.lfs_tool.specs.declared.image_layout.ImageLayout.{ImageLayout}
 use Rattle.lfs_device.specs.Shown.{disk_with_name_order}
 use Rattle.lfs_model.specs.Disk.{Disk, IsImageOfWholeBlocks}
 use Rattle.lfs_model.specs.Thread.{Pair}
@@ -16,19 +17,19 @@ use Rattle.lfs_tool.specs.EitherOrder.{IsViewOfImageInSomeNameOrder}
 use Rattle.lfs_lookup.specs.ListAt.{listed_size_of_struct_if_file}
 
 -- the bytes are an image that this text lists
-abbrev pub IsListingTextOfImage : ℕ → ℕ → List ℕ → List ℕ → Type 0
-IsListingTextOfImage block_size page image text = IsImageOfWholeBlocks block_size page image × ((view : DiskView) × (IsViewOfImageInSomeNameOrder block_size page image view × IsListingOfTree view.tree text))
+abbrev pub IsListingTextOfImage : ImageLayout → List ℕ → List ℕ → Type 0
+IsListingTextOfImage layout image text = IsImageOfWholeBlocks layout.block_size layout.page image × ((view : DiskView) × (IsViewOfImageInSomeNameOrder layout image view × IsListingOfTree view.tree text))
 
 -- the bytes are an image that isn't accepted, in either order of names
-abbrev pub IsImageAcceptedInNeitherNameOrder : ℕ → ℕ → List ℕ → Type 0
-IsImageAcceptedInNeitherNameOrder block_size page image = IsImageOfWholeBlocks block_size page image × ((view : DiskView) → ¬ IsViewOfImageInSomeNameOrder block_size page image view)
+abbrev pub IsImageAcceptedInNeitherNameOrder : ImageLayout → List ℕ → Type 0
+IsImageAcceptedInNeitherNameOrder layout image = IsImageOfWholeBlocks layout.block_size layout.page image × ((view : DiskView) → ¬ IsViewOfImageInSomeNameOrder layout image view)
 
 -- why bytes aren't listed; memory may run out at any
-abbrev pub RefusesToList : ℕ → ℕ → List ℕ → Error → Type 0
-RefusesToList block_size page image Invalid = ¬ IsImageOfWholeBlocks block_size page image
-RefusesToList block_size page image NoMemory = Unit {0}
-RefusesToList block_size page image Corrupt = IsImageAcceptedInNeitherNameOrder block_size page image
-RefusesToList block_size page image other = ⊥
+abbrev pub RefusesToList : ImageLayout → List ℕ → Error → Type 0
+RefusesToList layout image Invalid = ¬ IsImageOfWholeBlocks layout.block_size layout.page image
+RefusesToList layout image NoMemory = Unit {0}
+RefusesToList layout image Corrupt = IsImageAcceptedInNeitherNameOrder layout image
+RefusesToList layout image other = ⊥
 
 -- the line of a file of that size, or of a directory, at a path
 abbrev pub listing_line_of_path : Option ℕ → List ℕ → List ℕ

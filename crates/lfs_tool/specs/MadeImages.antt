@@ -35,6 +35,7 @@ pub record SessionBeginsOnFreshDisk (geometry : Geometry) (from : SystemState) :
   pub block_size : from.disk.block_size ≡ geometry.block_size
   pub page : from.disk.page ≡ geometry.page
   pub order : from.disk.order ≡ geometry.order
+  pub profile : from.disk.profile ≡ geometry.profile
   pub count : block_count from.disk ≡ geometry.block_count
   pub mounts : from.state ≡ Healthy (session_after_mount empty_tree)
 
@@ -45,7 +46,7 @@ pub record AreImageBytesOfEntries (geometry : Geometry) (entries : List SourceEn
   pub to : SystemState
   pub carried : AreOperationsApplied from (copying_operations_of_entries entries) to
   pub len : length bytes ≡ geometry.block_size * geometry.block_count
-  pub disk : to.disk ≡ disk_of_image geometry.block_size geometry.page geometry.order bytes
+  pub disk : to.disk ≡ disk_of_image geometry.block_size geometry.page geometry.profile geometry.order bytes
 
 -- An operation of the entries is refused, and this is the first refusal.
 pub record RefusesCopyOfEntries (geometry : Geometry) (entries : List SourceEntry) (e : Error) : Type 0 where
@@ -65,10 +66,10 @@ pub record IsImageOfSource (geometry : Geometry) (known : Option TreeSource) (by
   pub len : length bytes ≡ geometry.block_size * geometry.block_count
   pub image : IsImageOfWholeBlocks geometry.block_size geometry.page bytes
   pub pairs : List Pair
-  pub accepted : IsAcceptedImage (disk_of_image geometry.block_size geometry.page geometry.order bytes) pairs
-  pub writable : IsWritableImage (disk_of_image geometry.block_size geometry.page geometry.order bytes) pairs
+  pub accepted : IsAcceptedImage (disk_of_image geometry.block_size geometry.page geometry.profile geometry.order bytes) pairs
+  pub writable : IsWritableImage (disk_of_image geometry.block_size geometry.page geometry.profile geometry.order bytes) pairs
   pub gstate : gstate_of_pairs pairs ≡ zero_gstate
-  pub tree : IfSome known (λ s. IsTreeMadeFromSource s (tree_on_disk (disk_of_image geometry.block_size geometry.page geometry.order bytes) pairs))
+  pub tree : IfSome known (λ s. IsTreeMadeFromSource s (tree_on_disk (disk_of_image geometry.block_size geometry.page geometry.profile geometry.order bytes) pairs))
 
 -- all that the source has is copied, and what is known to be written grew by one image of it
 abbrev pub HasWrittenImageOfSource : Geometry → Option TreeSource → Option (List ℕ) → Option (List ℕ) → Type 0

@@ -9,11 +9,12 @@ use Rattle.lfs_tool.specs.MadeImages.{AreImageBytesOfEntries, RefusesCopyOfEntri
 use Rattle.lfs_tool.specs.declared.needed_blocks.EnoughBlocks.{EnoughBlocks}
 use Rattle.lfs_tool.specs.declared.needed_blocks.EnoughBlocks.TheVariants.{Count, Given, NoImage, OutOfMemory, Refused}
 
--- the geometry has the line's blocks, pages and order, and so many blocks
+-- the geometry has the line's blocks, pages, order and profile, and so many blocks
 pub record IsGeometryOfCommandLineWithBlockCount (line : Line) (count : ℕ) (g : Geometry) : Type 0 where
   pub block_size : g.block_size ≡ line.block_size
   pub page : g.page ≡ line.page
   pub order : g.order ≡ line.order
+  pub profile : g.profile ≡ line.profile
   pub block_count : g.block_count ≡ count
 
 -- an image of so many blocks holds the entries

@@ -1,26 +1,34 @@
 -- Slots that aren't in the writing profile, among those of pairs without attributes.
-use Rattle.std.specs.Prelude.{ℕ, ◌≡◌, true, false, All, List, slice_get, Some}
-use Rattle.lfs_model.specs.Disk.{file_size_limit, attribute_size_limit}
+use Rattle.std.specs.Prelude.{ℕ, ◌≡◌, ◌≢◌, true, false, All, List, slice_get, Some}
+use Rattle.lfs_model.specs.Disk.{attr_max_of, file_max_of, name_max_of}
 use Rattle.lfs_model.specs.EntryTypes.{SuperblockFields}
-use Rattle.lfs_model.specs.Names.{name_limit}
-use Rattle.lfs_model.specs.Profile.{HasInlineBytesWithinLimit, HasSuperblockLimitsThisLibraryWrites}
+use Rattle.lfs_model.specs.Profile.{HasInlineBytesWithinLimit}
+use Rattle.lfs_model.specs.declared.limits.Profile.{Profile}
 use Rattle.lfs_model.specs.Slots.{Slot, is_superblock}
 use Rattle.lfs_model.specs.Thread.{Pair}
-use Rattle.lfs_lookup.specs.Profile.{HasSuperblockStructOf24Bytes}
+use Rattle.lfs_tool.specs.BrokenRules.{HasSuperblockFields}
 use Rattle.lfs_tool.specs.SlotsInThread.{IsSlotOfPairInThread}
+use Rattle.lfs_tool.specs.declared.verdict.OtherLimit.{OtherLimit}
+use Rattle.lfs_tool.specs.declared.verdict.OtherLimit.TheVariants as limit
 
 -- ---- superblocks
 
--- these fields have the limits that are written
-abbrev pub HasWrittenLimits : SuperblockFields → Type 0
-HasWrittenLimits fields = (fields.name_max ≡ name_limit) × (fields.file_max ≡ file_size_limit) × (fields.attr_max ≡ attribute_size_limit)
+-- these fields have the limits with which the profile writes
+abbrev pub HasLimitsOfProfile : Profile → SuperblockFields → Type 0
+HasLimitsOfProfile profile fields = (fields.name_max ≡ name_max_of profile) × (fields.file_max ≡ file_max_of profile) × (fields.attr_max ≡ attr_max_of profile)
 
--- it is a superblock, and has other limits if its struct is one of 24 bytes
-abbrev pub IsSuperblockSlotWithOtherLimits : Slot → Type 0
-IsSuperblockSlotWithOtherLimits s = (is_superblock s ≡ true) × (HasSuperblockStructOf24Bytes s → ¬ HasSuperblockLimitsThisLibraryWrites s)
+-- this limit of these fields is another one
+abbrev pub IsOtherLimit : Profile → SuperblockFields → OtherLimit → Type 0
+IsOtherLimit profile fields (limit.Name n) = (fields.name_max ≡ n) × (n ≢ name_max_of profile)
+IsOtherLimit profile fields (limit.File n) = (fields.file_max ≡ n) × (n ≢ file_max_of profile)
+IsOtherLimit profile fields (limit.Attr n) = (fields.attr_max ≡ n) × (n ≢ attr_max_of profile)
 
-abbrev pub HasWrittenLimitsIfSuperblock : Slot → Type 0
-HasWrittenLimitsIfSuperblock s = is_superblock s ≡ true → HasSuperblockLimitsThisLibraryWrites s
+-- it is a superblock, and this limit of it is another one
+abbrev pub IsSuperblockSlotWithOtherLimit : Profile → OtherLimit → Slot → Type 0
+IsSuperblockSlotWithOtherLimit profile other s = (is_superblock s ≡ true) × ((fields : SuperblockFields) × (HasSuperblockFields s.struct fields × IsOtherLimit profile fields other))
+
+abbrev pub HasLimitsOfProfileIfSuperblock : Profile → Slot → Type 0
+HasLimitsOfProfileIfSuperblock profile s = is_superblock s ≡ true → (fields : SuperblockFields) → HasSuperblockFields s.struct fields → HasLimitsOfProfile profile fields
 
 -- ---- entries
 

@@ -4,6 +4,9 @@ use Rattle.std.specs.Io.KnownBytes.{Appends}
 use Rattle.lfs_device.specs.declared.error.Error.{Error}
 use Rattle.lfs_device.specs.declared.error.Error.TheVariants as fs
 use Rattle.lfs_model.specs.Source.{TreeSource}
+use Rattle.lfs_tool_folders.specs.declared.file_limits.FileLimits.{FileLimits}
+use Rattle.lfs_tool.specs.FileLimits.{file_limits_of_line}
+use Rattle.lfs_tool.specs.ImageLayouts.{layout_of_line}
 use Rattle.lfs_tool.specs.KnownBytes.{AppendsBeginningOfBytes}
 use Rattle.lfs_tool.specs.Listings.{IsListingTextOfImage, RefusesToList}
 use Rattle.lfs_tool.specs.MadeImages.{IsToldOfRequestedImage, RefusesCopyOfSource, HasWrittenBeginningOfImage, HasWrittenImageOfSource}
@@ -63,22 +66,22 @@ OpensImageUnlessOutOfMemory places line old new e = OpensImageToRead places line
 -- the image at the line's path is listed: what is known to be written grew by its lines
 abbrev pub ListsImageAtPath : {I : Type 0} → (I → List ℕ) → (I → Option (List ℕ)) → Line → Option (List ℕ) → Option (List ℕ) → Type 0
 ListsImageAtPath path_of bytes line old new =
-    IsTrueOfSomethingAtPath path_of line.image.now (λ i. IfSome (bytes i) (λ image. (text : List ℕ) × (IsListingTextOfImage line.block_size line.page image text × Appends old new text)))
+    IsTrueOfSomethingAtPath path_of line.image.now (λ i. IfSome (bytes i) (λ image. (text : List ℕ) × (IsListingTextOfImage (layout_of_line line) image text × Appends old new text)))
 
 -- the image at the line's path is accepted, or isn't: what is known to be written grew by the lines of a verdict on it
 abbrev pub ChecksImageAtPath : {I : Type 0} → (I → List ℕ) → (I → Option (List ℕ)) → Line → Bool → Option (List ℕ) → Option (List ℕ) → Type 0
 ChecksImageAtPath path_of bytes line accepted old new =
     IsTrueOfSomethingAtPath path_of line.image.now (λ i. IfSome (bytes i) (λ image.
-    (checked : CheckResult) × (IsCheckResultOfBytes line.block_size line.page image checked × (accepted ≡ is_accepted_check_result checked) × Appends old new (check_result_text checked))))
+    (checked : CheckResult) × (IsCheckResultOfBytes (layout_of_line line) image checked × (accepted ≡ is_accepted_check_result checked) × Appends old new (check_result_text checked))))
 
 -- at an error of the writer a beginning of those lines is written
 abbrev pub BeginsToListImageAtPath : {I : Type 0} → (I → List ℕ) → (I → Option (List ℕ)) → Line → Option (List ℕ) → Option (List ℕ) → Type 0
 BeginsToListImageAtPath path_of bytes line old new =
-    IsTrueOfSomethingAtPath path_of line.image.now (λ i. IfSome (bytes i) (λ image. (text : List ℕ) × (IsListingTextOfImage line.block_size line.page image text × AppendsBeginningOfBytes old new text)))
+    IsTrueOfSomethingAtPath path_of line.image.now (λ i. IfSome (bytes i) (λ image. (text : List ℕ) × (IsListingTextOfImage (layout_of_line line) image text × AppendsBeginningOfBytes old new text)))
 
 abbrev pub BeginsToCheckImageAtPath : {I : Type 0} → (I → List ℕ) → (I → Option (List ℕ)) → Line → Option (List ℕ) → Option (List ℕ) → Type 0
 BeginsToCheckImageAtPath path_of bytes line old new =
-    IsTrueOfSomethingAtPath path_of line.image.now (λ i. IfSome (bytes i) (λ image. (checked : CheckResult) × (IsCheckResultOfBytes line.block_size line.page image checked × AppendsBeginningOfBytes old new (check_result_text checked))))
+    IsTrueOfSomethingAtPath path_of line.image.now (λ i. IfSome (bytes i) (λ image. (checked : CheckResult) × (IsCheckResultOfBytes (layout_of_line line) image checked × AppendsBeginningOfBytes old new (check_result_text checked))))
 
 -- a work ended that was followed from its beginning, where its follower's calls are known
 abbrev pub IsEndOfFollowedWork : (Option (List ProgressCall) → Option (List ProgressCall) → Type 0) → Option (List ProgressCall) → Type 0
@@ -88,7 +91,7 @@ IsEndOfFollowedWork IsTold told = (before : Option (List ProgressCall)) × (IsTo
 -- flushed once. Then it ends in this event. No file of the folder is left unread that the image might hold. The work was followed.
 abbrev pub WritesWholeImage : {P I N F T R : Type 0} → Ghosts P I N F T R → ToolOutputGhosts N → SourceGhosts F → Line → (Option (List ℕ) → PlaceEvent) → P → P → List ℕ → Type 0
 WritesWholeImage places output source line event old new folder =
-    IsTrueOfSomethingAtPath places.folder_path folder (λ f. (places.folder_limit f ≡ line.size) × IsTrueOfSomethingAtPath places.new_image_path line.image.now (λ i. (after : _) × (told : _)
+    IsTrueOfSomethingAtPath places.folder_path folder (λ f. (places.folder_limits f ≡ file_limits_of_line line line.size) × IsTrueOfSomethingAtPath places.new_image_path line.image.now (λ i. (after : _) × (told : _)
     × ((places.history new ≡ event (output.contents after) ∷ WorkEnded told ∷ WorkBegan ∷ ImageOpened line.image.now ∷ places.history old)
     × (((g : _) × (HasSizesOfCommandLine line g × HasWrittenImageOfSource g (source.shown f) (output.contents i) (output.contents after))) × IsFlushedOnce output i after)
     × IsEndOfFollowedWork (λ begins ends. IsToldOfRequestedImage line (source.shown f) begins ends (Ok (tt {0}))) told)))
@@ -103,8 +106,8 @@ abbrev pub UnpacksImageAtPath : {P I N F T R : Type 0} → Ghosts P I N F T R �
 UnpacksImageAtPath places input target line old new folder =
     IsTrueOfSomethingAtPath places.image_path line.image.now (λ i. IsTrueOfSomethingAtPath places.new_folder_path folder (λ f. (after : _) × (told : _)
     × ((places.history new ≡ FolderClosed (target.done after) ∷ WorkEnded told ∷ WorkBegan ∷ FolderOpened folder ∷ OldImageOpened line.image.now ∷ places.history old)
-    × IfSome (input.remaining i) (λ image. HasUnpackedImage line.block_size line.page image (target.done f) (target.done after))
-    × IsEndOfFollowedWork (λ begins ends. IfSome (input.remaining i) (λ image. IsToldOfActionsDone (AreActionsUnpackingImage line.block_size line.page image) (target.done f) (target.done after) begins ends (Ok (tt {0})))) told)))
+    × IfSome (input.remaining i) (λ image. HasUnpackedImage (layout_of_line line) image (target.done f) (target.done after))
+    × IsEndOfFollowedWork (λ begins ends. IfSome (input.remaining i) (λ image. IsToldOfActionsDone (AreActionsUnpackingImage (layout_of_line line) image) (target.done f) (target.done after) begins ends (Ok (tt {0})))) told)))
 
 -- What the line requests is done. A listing and a check write their lines, and open the image alone.
 abbrev pub IsModeDone : {P I N F T R W : Type 0} → Ghosts P I N F T R → ImageInputGhosts I → ToolOutputGhosts N → SourceGhosts F → TargetGhosts T → ToolOutputGhosts W → Line → P → P → W → W → Bool → Type 0
@@ -121,7 +124,7 @@ IsModeDone places input output source target writer line old new out_old out_new
 -- work was followed.
 abbrev pub DiscardsImage : {P I N F T R : Type 0} → Ghosts P I N F T R → ToolOutputGhosts N → SourceGhosts F → Line → P → P → List ℕ → ToolError → ℕ → (Option TreeSource → Option (List ℕ) → Option (List ℕ) → Type 0) → Type 0
 DiscardsImage places output source line old new folder e faults Holds =
-    IsTrueOfSomethingAtPath places.folder_path folder (λ f. (places.folder_limit f ≡ line.size) × IsTrueOfSomethingAtPath places.new_image_path line.image.now (λ i. (after : _) × (told : _)
+    IsTrueOfSomethingAtPath places.folder_path folder (λ f. (places.folder_limits f ≡ file_limits_of_line line line.size) × IsTrueOfSomethingAtPath places.new_image_path line.image.now (λ i. (after : _) × (told : _)
     × ((places.history new ≡ ImageDiscarded (output.contents after) faults 0 ∷ WorkEnded told ∷ WorkBegan ∷ ImageOpened line.image.now ∷ places.history old)
     × Holds (source.shown f) (output.contents i) (output.contents after)
     × IsEndOfFollowedWork (λ begins ends. IsToldOfRequestedImage {X = Unit {0}} line (source.shown f) begins ends (Err e)) told)))
@@ -149,8 +152,8 @@ LeavesFolderUnfinished places input target line old new folder e =
     ((e ≡ Fs fs.NoMemory) × (OpensImageToRead places line old new ⊎ (places.history new ≡ places.history old)))
     ⊎ IsTrueOfSomethingAtPath places.image_path line.image.now (λ i. IsTrueOfSomethingAtPath places.new_folder_path folder (λ f. (after : _) × (told : _)
     × ((places.history new ≡ FolderClosed (target.done after) ∷ WorkEnded told ∷ WorkBegan ∷ FolderOpened folder ∷ OldImageOpened line.image.now ∷ places.history old)
-    × FailsToUnpackKnownImage line.block_size line.page (input.remaining i) (target.done f) (target.done after) e × (e ≡ Output → target.faults after ≡ suc (target.faults f))
-    × IsEndOfFollowedWork (λ begins ends. IfSome (input.remaining i) (λ image. IsToldOfActionsDone {X = Unit {0}} (AreActionsUnpackingImage line.block_size line.page image) (target.done f) (target.done after) begins ends (Err e))) told)))
+    × FailsToUnpackKnownImage (layout_of_line line) (input.remaining i) (target.done f) (target.done after) e × (e ≡ Output → target.faults after ≡ suc (target.faults f))
+    × IsEndOfFollowedWork (λ begins ends. IfSome (input.remaining i) (λ image. IsToldOfActionsDone {X = Unit {0}} (AreActionsUnpackingImage (layout_of_line line) image) (target.done f) (target.done after) begins ends (Err e))) told)))
 
 -- What the line requests isn't done. A listing and a check open the image at most.
 abbrev pub LeavesModeUndone : {P I N F T R : Type 0} → Ghosts P I N F T R → ImageInputGhosts I → ToolOutputGhosts N → SourceGhosts F → TargetGhosts T → Line → P → P → ToolError → Type 0
@@ -161,12 +164,12 @@ LeavesModeUndone places input output source target line old new e =
 
 -- the image at the line's path is refused so
 abbrev pub RefusesToListAtPath : {I : Type 0} → (I → List ℕ) → (I → Option (List ℕ)) → Line → Error → Type 0
-RefusesToListAtPath path_of bytes line e = IsTrueOfSomethingAtPath path_of line.image.now (λ i. IfSome (bytes i) (λ image. RefusesToList line.block_size line.page image e))
+RefusesToListAtPath path_of bytes line e = IsTrueOfSomethingAtPath path_of line.image.now (λ i. IfSome (bytes i) (λ image. RefusesToList (layout_of_line line) image e))
 
 -- no image has the line's sizes, or what the folder shows is refused so
-abbrev pub RefusesToMakeImage : {F : Type 0} → (F → List ℕ) → (F → ℕ) → (F → Option TreeSource) → Line → Error → List ℕ → Type 0
-RefusesToMakeImage folder_of limit_of shown line e folder =
-    IsErrorWhereNoGeometryHasSizes line e ⊎ IsTrueOfSomethingAtPath folder_of folder (λ f. (limit_of f ≡ line.size) × ((g : _) × (HasSizesOfCommandLine line g × RefusesCopyOfSource g (shown f) e)))
+abbrev pub RefusesToMakeImage : {F : Type 0} → (F → List ℕ) → (F → FileLimits) → (F → Option TreeSource) → Line → Error → List ℕ → Type 0
+RefusesToMakeImage folder_of limits_of shown line e folder =
+    IsErrorWhereNoGeometryHasSizes line e ⊎ IsTrueOfSomethingAtPath folder_of folder (λ f. (limits_of f ≡ file_limits_of_line line line.size) × ((g : _) × (HasSizesOfCommandLine line g × RefusesCopyOfSource g (shown f) e)))
 
 -- the file or folder at the path fails
 abbrev pub HasFaultAtPath : {X : Type 0} → (X → List ℕ) → (X → ℕ) → List ℕ → Type 0
@@ -182,7 +185,7 @@ pub record EndsModeWithError {P I N F T R W : Type 0} (places : Ghosts P I N F T
   pub refused : (f : Error) → e ≡ Fs f → f ≢ fs.NoMemory → IsTrueForMode line.mode
       (RefusesToListAtPath places.image_path input.remaining line f)
       ⊥
-      (RefusesToMakeImage places.folder_path places.folder_limit source.shown line f)
+      (RefusesToMakeImage places.folder_path places.folder_limits source.shown line f)
       (λ folder. RefusesToListAtPath places.image_path input.remaining line f)
   pub unreadable : e ≡ Input → IsTrueForMode line.mode
       (HasFaultAtPath places.image_path input.faults line.image.now)

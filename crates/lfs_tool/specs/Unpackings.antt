@@ -1,6 +1,7 @@
 -- What an unpacking returns.
 use Rattle.std.specs.Prelude.{ℕ, ◌≡◌, ◌≢◌, ◌⊎◌, ◌++◌, suc, List, Option, Some, None, IfSome, Result, Ok, Err, map, take}
 use Rattle.std.specs.List.{AllByRecursion}
+use Rattle.lfs_tool.specs.declared.image_layout.ImageLayout.{ImageLayout}
 use Rattle.lfs_model.specs.Disk.{Disk, IsImageOfWholeBlocks}
 use Rattle.lfs_model.specs.View.{IsSkipListIfCtzStruct, DiskView}
 use Rattle.lfs_model.specs.Slots.{Struct, Inline, Ctz, Branch}
@@ -21,8 +22,8 @@ abbrev pub AreActionsUnpackingDisk : Disk → List UnpackingAction → Type 0
 AreActionsUnpackingDisk disk actions = (view : DiskView) × (IsViewOfDiskInSomeNameOrder disk view × AreActionsUnpackingTree view.tree actions)
 
 -- the bytes are an image that these actions unpack
-abbrev pub AreActionsUnpackingImage : ℕ → ℕ → List ℕ → List UnpackingAction → Type 0
-AreActionsUnpackingImage block_size page image actions = IsImageOfWholeBlocks block_size page image × ((view : DiskView) × (IsViewOfImageInSomeNameOrder block_size page image view × AreActionsUnpackingTree view.tree actions))
+abbrev pub AreActionsUnpackingImage : ImageLayout → List ℕ → List UnpackingAction → Type 0
+AreActionsUnpackingImage layout image actions = IsImageOfWholeBlocks layout.block_size layout.page image × ((view : DiskView) × (IsViewOfImageInSomeNameOrder layout image view × AreActionsUnpackingTree view.tree actions))
 
 -- these actions more were done, where what was done is known
 abbrev pub HasDoneTheseFurtherUnpackingActions : Option (List UnpackingAction) → Option (List UnpackingAction) → List UnpackingAction → Type 0
@@ -79,26 +80,26 @@ FailsToUnpackDisk disk old new (Fs NoMemory) = (new ≡ old) ⊎ HasBegunUnpacki
 FailsToUnpackDisk disk old new Output = HasBegunUnpackingDisk disk old new
 FailsToUnpackDisk disk old new other = ⊥
 
-abbrev pub HasUnpackedImage : ℕ → ℕ → List ℕ → Option (List UnpackingAction) → Option (List UnpackingAction) → Type 0
-HasUnpackedImage block_size page image old new = (actions : List UnpackingAction) × (AreActionsUnpackingImage block_size page image actions × HasDoneTheseFurtherUnpackingActions old new actions)
+abbrev pub HasUnpackedImage : ImageLayout → List ℕ → Option (List UnpackingAction) → Option (List UnpackingAction) → Type 0
+HasUnpackedImage layout image old new = (actions : List UnpackingAction) × (AreActionsUnpackingImage layout image actions × HasDoneTheseFurtherUnpackingActions old new actions)
 
-abbrev pub HasBegunUnpackingImage : ℕ → ℕ → List ℕ → Option (List UnpackingAction) → Option (List UnpackingAction) → Type 0
-HasBegunUnpackingImage block_size page image old new = (actions : List UnpackingAction) × (AreActionsUnpackingImage block_size page image actions × HasDoneBeginningOfUnpackingActions old new actions)
+abbrev pub HasBegunUnpackingImage : ImageLayout → List ℕ → Option (List UnpackingAction) → Option (List UnpackingAction) → Type 0
+HasBegunUnpackingImage layout image old new = (actions : List UnpackingAction) × (AreActionsUnpackingImage layout image actions × HasDoneBeginningOfUnpackingActions old new actions)
 
 -- the same of an image
-abbrev pub FailsToUnpackImage : ℕ → ℕ → List ℕ → Option (List UnpackingAction) → Option (List UnpackingAction) → ToolError → Type 0
-FailsToUnpackImage block_size page image old new (Fs Corrupt) = IsImageAcceptedInNeitherNameOrder block_size page image × (new ≡ old)
-FailsToUnpackImage block_size page image old new (Fs Invalid) = (¬ IsImageOfWholeBlocks block_size page image) × (new ≡ old)
-FailsToUnpackImage block_size page image old new (Fs NoMemory) = (new ≡ old) ⊎ HasBegunUnpackingImage block_size page image old new
-FailsToUnpackImage block_size page image old new Output = HasBegunUnpackingImage block_size page image old new
-FailsToUnpackImage block_size page image old new other = ⊥
+abbrev pub FailsToUnpackImage : ImageLayout → List ℕ → Option (List UnpackingAction) → Option (List UnpackingAction) → ToolError → Type 0
+FailsToUnpackImage layout image old new (Fs Corrupt) = IsImageAcceptedInNeitherNameOrder layout image × (new ≡ old)
+FailsToUnpackImage layout image old new (Fs Invalid) = (¬ IsImageOfWholeBlocks layout.block_size layout.page image) × (new ≡ old)
+FailsToUnpackImage layout image old new (Fs NoMemory) = (new ≡ old) ⊎ HasBegunUnpackingImage layout image old new
+FailsToUnpackImage layout image old new Output = HasBegunUnpackingImage layout image old new
+FailsToUnpackImage layout image old new other = ⊥
 
 -- Why the bytes aren't unpacked, where they are known, and what was done then: nothing more, or a beginning of what unpacks them,
 -- where the target failed or memory ran out.
-pub record FailsToUnpackKnownImage (block_size page : ℕ) (image : Option (List ℕ)) (old new : Option (List UnpackingAction)) (e : ToolError) : Type 0 where
-  pub refused : (f : Error) → e ≡ Fs f → IfSome image (λ bytes. RefusesToList block_size page bytes f)
+pub record FailsToUnpackKnownImage (layout : ImageLayout) (image : Option (List ℕ)) (old new : Option (List UnpackingAction)) (e : ToolError) : Type 0 where
+  pub refused : (f : Error) → e ≡ Fs f → IfSome image (λ bytes. RefusesToList layout bytes f)
   pub undone : e ≢ Output → e ≢ Fs NoMemory → new ≡ old
-  pub begun : (new ≡ old) ⊎ IfSome image (λ bytes. HasBegunUnpackingImage block_size page bytes old new)
+  pub begun : (new ≡ old) ⊎ IfSome image (λ bytes. HasBegunUnpackingImage layout bytes old new)
 
 -- ---- what a follower is told
 

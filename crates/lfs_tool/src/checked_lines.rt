@@ -5,12 +5,12 @@ ghost use Rattle.lfs_model.specs.Listing.{newline};
 ghost use Rattle.lfs_model.specs.Slots.{pair_address_of_array};
 ghost use Rattle.std.specs.Fmt.{decimal};
 ghost use Rattle.lfs_tool.specs.declared.verdict.WritingProfile.TheVariants.{EmptyPair, LongInline, OtherLimits};
-ghost use Rattle.lfs_tool.specs.CheckedLines.{block_numbers_of_pair_text, used_and_free_blocks_text, labelled_number_line, finding_text, no_image_text, accepted_name_orders_line, pair_text, named_slot_text, block_out_of_range_text, unaccepted_reason_text, needs_recovery_line, slot_text, wrong_superblock_number_text, summary_text, block_in_pair_and_file_text, block_in_two_files_text, block_in_two_pairs_text, name_behind_name_text, names_in_two_orders_text, no_directory_text, same_directory_text, other_superblock_text, quoted_name_text, used_blocks_line, check_result_text, writable_line, writing_profile_text};
+ghost use Rattle.lfs_tool.specs.CheckedLines.{block_numbers_of_pair_text, inline_limit_text, other_limit_text, used_and_free_blocks_text, labelled_number_line, finding_text, no_image_text, accepted_name_orders_line, pair_text, named_slot_text, block_out_of_range_text, unaccepted_reason_text, needs_recovery_line, slot_text, wrong_superblock_number_text, summary_text, block_in_pair_and_file_text, block_in_two_files_text, block_in_two_pairs_text, name_behind_name_text, names_in_two_orders_text, no_directory_text, same_directory_text, other_superblock_text, quoted_name_text, used_blocks_line, check_result_text, writable_line, writing_profile_text};
 
 use crate::check_result::{CheckResult, GivenSizes, RefusalReason};
 use crate::escape::push_escaped_path;
 use crate::findings::{Finding, NameBehindName, NamedSlot, WrongNumber};
-use crate::verdict::{AcceptedOrders, ImageSummary, WritingProfile};
+use crate::verdict::{AcceptedOrders, ImageSummary, OtherLimit, WritingProfile};
 use std::alloc::{AllocError, Global};
 use std::io::Write;
 
@@ -103,29 +103,55 @@ fn push_needs_recovery_line(text: &mut Vec<u8>, recover: bool) -> Result<(), All
     }
 }
 
-fn push_other_limits(text: &mut Vec<u8>, pair: [u32; 2], slot: usize) -> Result<(), AllocError>
-    ensures { OnOk result (text.new.items ≡ text.old.items ++ writing_profile_text (OtherLimits pair slot)) }
+fn push_other_limit(text: &mut Vec<u8>, limit: OtherLimit) -> Result<(), AllocError>
+    ensures { OnOk result (text.new.items ≡ text.old.items ++ other_limit_text limit) }
+{
+    match limit {
+        OtherLimit::Name(most) => push_labelled_number(text, "name_max ", most as usize),
+        OtherLimit::File(most) => push_labelled_number(text, "file_max ", most as usize),
+        OtherLimit::Attr(most) => push_labelled_number(text, "attr_max ", most as usize),
+    }
+}
+
+fn push_other_limits(
+    text: &mut Vec<u8>,
+    pair: [u32; 2],
+    slot: usize,
+    limit: OtherLimit,
+) -> Result<(), AllocError>
+    ensures { OnOk result (text.new.items ≡ text.old.items ++ writing_profile_text (OtherLimits pair slot limit)) }
 {
     push_text(text, "no: ")?;
     push_slot_message(
         text,
         pair,
         slot,
-        ": a superblock with other limits than this library writes",
+        ": a superblock with other limits than this library writes, ",
     )?;
+    push_other_limit(text, limit)?;
     Ok(())
 }
 
-fn push_long_inline(text: &mut Vec<u8>, pair: [u32; 2], slot: usize) -> Result<(), AllocError>
-    ensures { OnOk result (text.new.items ≡ text.old.items ++ writing_profile_text (LongInline pair slot)) }
+fn push_inline_limit(text: &mut Vec<u8>, inline_max: Option<u32>) -> Result<(), AllocError>
+    ensures { OnOk result (text.new.items ≡ text.old.items ++ inline_limit_text inline_max) }
+{
+    match inline_max {
+        Some(most) => push_labelled_number(text, "inline_max ", most as usize),
+        None => push_text(text, "an eighth of a block"),
+    }
+}
+
+fn push_long_inline(
+    text: &mut Vec<u8>,
+    pair: [u32; 2],
+    slot: usize,
+    inline_max: Option<u32>,
+) -> Result<(), AllocError>
+    ensures { OnOk result (text.new.items ≡ text.old.items ++ writing_profile_text (LongInline pair slot inline_max)) }
 {
     push_text(text, "no: ")?;
-    push_slot_message(
-        text,
-        pair,
-        slot,
-        ": more bytes inline than an eighth of a block",
-    )?;
+    push_slot_message(text, pair, slot, ": more bytes inline than ")?;
+    push_inline_limit(text, inline_max)?;
     Ok(())
 }
 
@@ -142,8 +168,14 @@ fn push_writing_profile(text: &mut Vec<u8>, profile: WritingProfile) -> Result<(
 {
     match profile {
         WritingProfile::Within => push_text(text, "yes"),
-        WritingProfile::OtherLimits { pair, slot } => push_other_limits(text, pair, slot),
-        WritingProfile::LongInline { pair, slot } => push_long_inline(text, pair, slot),
+        WritingProfile::OtherLimits { pair, slot, limit } => {
+            push_other_limits(text, pair, slot, limit)
+        }
+        WritingProfile::LongInline {
+            pair,
+            slot,
+            inline_max,
+        } => push_long_inline(text, pair, slot, inline_max),
         WritingProfile::EmptyPair { pair } => push_empty_pair(text, pair),
         WritingProfile::TooLarge => push_text(
             text,
@@ -162,7 +194,7 @@ fn push_writable_line(text: &mut Vec<u8>, profile: WritingProfile) -> Result<(),
 }
 
 // Adds the lines of an accepted image.
-fn push_summary(
+pub(crate) fn push_summary(
     text: &mut Vec<u8>,
     summary: &ImageSummary,
     orders: AcceptedOrders,
@@ -500,7 +532,7 @@ fn push_no_image_of_given_sizes_text(
     )
 }
 
-fn push_unaccepted_reason(
+pub(crate) fn push_unaccepted_reason(
     text: &mut Vec<u8>,
     given: &GivenSizes,
     reason: &RefusalReason,

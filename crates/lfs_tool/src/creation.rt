@@ -65,7 +65,7 @@ pub(crate) fn new_image_of_entries<F: FollowsProgress>(
 }
 
 /// Writes an image of a geometry that holds what a source has. The names in its directories have
-/// the geometry's order. All of the source is read first. Its entries are then copied into an empty
+/// the geometry's order, and its limits are those of the geometry's profile. All of the source is read first. Its entries are then copied into an empty
 /// file system, depth first and in name order, the shorter names first. A folder is made. A file is
 /// opened to create it, its bytes are written at once, and it is closed. Nothing is written where
 /// one of these operations is refused. The writer is flushed once, when all is written. `progress` is
@@ -75,8 +75,8 @@ pub(crate) fn new_image_of_entries<F: FollowsProgress>(
 /// - `Input` where the source couldn't be read, or a name in a folder of it is given twice or isn't
 ///   allowed in a path.
 /// - `Fs(error)` where an operation is refused, with its refusal: so `Fs(NoSpace)` where too few blocks
-///   are free, `Fs(NameTooLong)` where a name has more than 255 bytes, and `Fs(TooBig)` where a file has
-///   more than 2147483647.
+///   are free, `Fs(NameTooLong)` where a name is longer than the profile's limit, and `Fs(TooBig)` where
+///   a file is.
 /// - `Fs(NoMemory)` where memory isn't granted.
 /// - `Output` where the writer failed. What was written is then a beginning of the image, and no flush has
 ///   succeeded.

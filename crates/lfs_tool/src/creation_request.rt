@@ -9,7 +9,7 @@ use lfs_tool_folders::Source;
 use std::alloc::Global;
 
 /// Writes the image of a source with the sizes that a command line gives, in bytes, and with its order
-/// of names. The source isn't read where no image has these sizes.
+/// of names and its profile. The source isn't read where no image has these sizes.
 ///
 /// # Errors
 /// - `Fs(Invalid)` where the image isn't a whole number of blocks, or its geometry is out of range.
@@ -37,13 +37,16 @@ pub fn create_for_command_line<S: Source, W: ToolOutput, F: FollowsProgress>(
     ensures source { ReportsSourceFaults (S.faults source.old) (S.faults source.new) (S.shown source.old) result }
 {
     match geometry_of_image_sizes(line.size, line.block_size, line.page) {
-        Ok(geometry) => create(
-            alloc,
-            source,
-            geometry.with_name_order(line.order),
-            out,
-            progress,
-        ),
+        Ok(geometry) => {
+            let geometry = geometry.with_name_order(line.order);
+            create(
+                alloc,
+                source,
+                geometry.with_profile(line.profile),
+                out,
+                progress,
+            )
+        }
         Err(error) => Err(ToolError::Fs(error)),
     }
 }

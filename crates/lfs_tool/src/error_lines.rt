@@ -1,7 +1,7 @@
 ghost use Rattle.std.specs.Prelude.{◌≡◌, false, true};
 ghost use Rattle.std.specs.Io.KnownBytes.{Appends};
 ghost use Rattle.lfs_tool.specs.KnownBytes.{AppendsBeginningOfBytes};
-ghost use Rattle.lfs_tool.specs.ExitStatus.{is_failure_a_help_request};
+ghost use Rattle.lfs_tool.specs.ExitStatus.{broken_limit_line, is_failure_a_help_request};
 ghost use Rattle.lfs_tool.specs.Errors.{tool_error_line, tool_error_status};
 ghost use Rattle.lfs_tool.specs.Reports.{HasWrittenOneValueUnlessFailed};
 ghost use Rattle.lfs_tool.specs.RunEnds.{IsFailureReportedWithStatus};
@@ -10,7 +10,27 @@ use crate::output::write_bytes_and_flush;
 use crate::{Fault, ToolError, ToolOutput};
 use clap::error::ErrorKind;
 use lfs_device::Error;
-use lfs_tool_line::LineError;
+use lfs_tool_line::{Limit, LineError};
+
+const MODES: &str = "error: give exactly one of -c, -u, -l\n";
+
+const ORDER: &str = "error: --order is longer-first or shorter-first\n";
+
+const BOARD: &str = "error: --board is esp8266, esp32, rp2040 or micropython\n";
+
+const NOT_UTF8: &str = "error: the command line is not UTF-8\n";
+
+// Returns the line that says which rule a limit breaks.
+fn line_of_broken_limit(limit: Limit) -> &'static str
+    ensures { result.now ≡ broken_limit_line limit }
+{
+    match limit {
+        Limit::Name => "error: --name-max is from 1 to 255\n",
+        Limit::File => "error: --file-max is from 1 to 2147483647\n",
+        Limit::Attr => "error: --attr-max is from 1 to 1022\n",
+        Limit::Inline => "error: --inline-max is from 1 to 1022, and at most an eighth of -b\n",
+    }
+}
 
 // Writes a line of the tool's own. A failed write is ignored.
 fn write_line_and_return_status<E: ToolOutput>(err: &mut E, line: &str, status: u8) -> u8
@@ -38,7 +58,7 @@ fn write_error_line_and_return_status<E: ToolOutput>(err: &mut E, error: ToolErr
 /// |---|---|---|
 /// | 0 | help was asked for | the parser's text, to `out` |
 /// | 1 | the file system refused, or memory ran out | `error: <name> (<number>)`, to `err` |
-/// | 2 | there is no command line | the parser's text, `error: give exactly one of -c, -u, -l`, `error: --order is longer-first or shorter-first`, or `error: the command line is not UTF-8`, to `err` |
+/// | 2 | there is no command line | the parser's text, or a line of the tool's own, as `error: give exactly one of -c, -u, -l`, to `err` |
 /// | 3 | input or output failed | `error: input` or `error: output`, to `err` |
 ///
 /// A failed write is ignored. The writer that gets nothing isn't called. Unless its writer failed,
@@ -50,23 +70,13 @@ pub fn report<O: ToolOutput, E: ToolOutput>(fault: &Fault, out: &mut O, err: &mu
     ensures help { is_failure_a_help_request fault.now ≡ true → HasWrittenOneValueUnlessFailed O.ToolOutput out.old out.new }
 {
     match fault {
-        Fault::Line(LineError::Modes) => write_line_and_return_status(
-            err,
-            "error: give exactly one of -c, -u, -l\n",
-            2,
-        ),
-        Fault::Line(LineError::Order) => {
-            write_line_and_return_status(
-                err,
-                "error: --order is longer-first or shorter-first\n",
-                2,
-            )
+        Fault::Line(LineError::Modes) => write_line_and_return_status(err, MODES, 2),
+        Fault::Line(LineError::Order) => write_line_and_return_status(err, ORDER, 2),
+        Fault::Line(LineError::Board) => write_line_and_return_status(err, BOARD, 2),
+        Fault::Line(LineError::Limit(limit)) => {
+            write_line_and_return_status(err, line_of_broken_limit(*limit), 2)
         }
-        Fault::Line(LineError::NotUtf8) => write_line_and_return_status(
-            err,
-            "error: the command line is not UTF-8\n",
-            2,
-        ),
+        Fault::Line(LineError::NotUtf8) => write_line_and_return_status(err, NOT_UTF8, 2),
         Fault::Line(LineError::Parser(error)) => match error.kind() {
             ErrorKind::OutOfMemory => write_error_line_and_return_status(
                 err,

@@ -12,7 +12,7 @@ use crate::input::{IMAGE_MAX, read_image};
 use crate::judgement::judge_image_on_device;
 use crate::superblocks::wrong_superblock_number_in_image;
 use crate::verdict::ImageVerdict;
-use crate::{ImageInput, ToolError};
+use crate::{ImageInput, ImageLayout, ToolError};
 use lfs_device::Error;
 use std::alloc::Global;
 
@@ -20,14 +20,13 @@ use std::alloc::Global;
 fn judge_image(
     alloc: Global,
     image: Vec<u8>,
-    block_size: u32,
-    page: u32,
+    layout: ImageLayout,
 ) -> Result<Option<ImageVerdict>, Error>
     requires { length image.items < 2 ^ 32 }
-    ensures judged { IfOk result (IsVerdictOnBytes block_size page image.items) }
+    ensures judged { IfOk result (IsVerdictOnBytes layout image.items) }
     ensures err { IfErr result (λ e. e ≡ Error.NoMemory) }
 {
-    match ram_device_of_image(image, block_size, page) {
+    match ram_device_of_image(image, layout) {
         Ok(device) => {
             let verdict = judge_image_on_device(alloc, device)?;
             Ok(Some(verdict))
@@ -37,17 +36,17 @@ fn judge_image(
 }
 
 // Returns the sizes with which an image of so many bytes is checked.
-fn given_sizes_with_block_count_of_image(len: usize, block_size: u32, page: u32) -> GivenSizes
-    ensures { (image : List ℕ) → length image ≡ len → AreReportedSizesThoseGivenToCheck block_size page image result }
+fn given_sizes_with_block_count_of_image(len: usize, layout: ImageLayout) -> GivenSizes
+    ensures { (image : List ℕ) → length image ≡ len → AreReportedSizesThoseGivenToCheck layout image result }
 {
-    let blocks = if block_size == 0 {
+    let blocks = if layout.block_size == 0 {
         0
     } else {
-        len / block_size as usize
+        len / layout.block_size as usize
     };
     GivenSizes {
-        block_size,
-        page,
+        block_size: layout.block_size,
+        page: layout.page,
         blocks,
     }
 }
@@ -58,8 +57,8 @@ fn refused_check_result(
     reason: RefusalReason,
     given: GivenSizes,
 ) -> CheckResult
-    ensures { (block_size : ℕ) (page : ℕ) (image : List ℕ) → AreBytesNoAcceptedImage block_size page image → IsWrongNumberIfAny block_size image stated
-        → (stated ≡ None → IsReasonForRefusedBytes block_size page image reason) → AreReportedSizesThoseGivenToCheck block_size page image given → IsCheckResultOfBytes block_size page image result }
+    ensures { (layout : ImageLayout) (image : List ℕ) → AreBytesNoAcceptedImage layout image → IsWrongNumberIfAny layout image stated
+        → (stated ≡ None → IsReasonForRefusedBytes layout image reason) → AreReportedSizesThoseGivenToCheck layout image given → IsCheckResultOfBytes layout image result }
 {
     match stated {
         Some(stated) => CheckResult::Refused {
@@ -76,8 +75,8 @@ fn check_result_of_verdict(
     verdict: Option<ImageVerdict>,
     given: GivenSizes,
 ) -> CheckResult
-    ensures { (block_size : ℕ) (page : ℕ) (image : List ℕ) → IsWrongNumberIfAny block_size image stated → IsVerdictOnBytes block_size page image verdict
-        → AreReportedSizesThoseGivenToCheck block_size page image given → IsCheckResultOfBytes block_size page image result }
+    ensures { (layout : ImageLayout) (image : List ℕ) → IsWrongNumberIfAny layout image stated → IsVerdictOnBytes layout image verdict
+        → AreReportedSizesThoseGivenToCheck layout image given → IsCheckResultOfBytes layout image result }
 {
     match verdict {
         Some(ImageVerdict::Accepted { summary, orders }) => CheckResult::Accepted {
@@ -95,16 +94,19 @@ fn check_result_of_verdict(
 fn check_result_of_bytes(
     alloc: Global,
     image: Vec<u8>,
-    block_size: u32,
-    page: u32,
+    layout: ImageLayout,
 ) -> Result<CheckResult, Error>
     requires { length image.items ≤ 268_435_456 }
-    ensures checked { IfOk result (IsCheckResultOfBytes block_size page image.items) }
+    ensures checked { IfOk result (IsCheckResultOfBytes layout image.items) }
     ensures err { IfErr result (λ e. e ≡ Error.NoMemory) }
 {
-    let given = given_sizes_with_block_count_of_image(image.len(), block_size, page);
-    let stated = wrong_superblock_number_in_image(&image, block_size);
-    let verdict = judge_image(alloc, image, block_size, page)?;
+    let given = given_sizes_with_block_count_of_image(image.len(), layout);
+    let stated = wrong_superblock_number_in_image(
+        &image,
+        layout.block_size,
+        layout.profile.versions,
+    );
+    let verdict = judge_image(alloc, image, layout)?;
     Ok(check_result_of_verdict(stated, verdict, given))
 }
 
@@ -122,19 +124,18 @@ fn check_result_of_bytes(
 pub fn check_result_of_image<R: ImageInput>(
     alloc: Global,
     image: &mut R,
-    block_size: u32,
-    page: u32,
+    layout: ImageLayout,
 ) -> Result<CheckResult, ToolError>
-    ensures checked { IfOk result (λ checked. IfSome (R.remaining image.old) (λ bytes. IsCheckResultOfBytes block_size page bytes checked)) }
+    ensures checked { IfOk result (λ checked. IfSome (R.remaining image.old) (λ bytes. IsCheckResultOfBytes layout bytes checked)) }
     ensures kept { OnOk result (R.faults image.new ≡ R.faults image.old) }
     ensures err { IfErr result (λ e. IsErrorOfReaderFaultOrNoMemory e (R.faults image.old) (R.faults image.new)) }
     ensures read { ¬ IsErrOf result ToolError.Input → ¬ IsErrOf result (ToolError.Fs Error.NoMemory) → IsReadToEndOrPastImageLimit (R.remaining image.old) (R.remaining image.new) }
 {
     let bytes = read_image(alloc, image)?;
     if bytes.len() > IMAGE_MAX {
-        let given = given_sizes_with_block_count_of_image(bytes.len(), block_size, page);
+        let given = given_sizes_with_block_count_of_image(bytes.len(), layout);
         return Ok(refused_check_result(None, RefusalReason::NoImage, given));
     }
-    let checked = check_result_of_bytes(alloc, bytes, block_size, page)?;
+    let checked = check_result_of_bytes(alloc, bytes, layout)?;
     Ok(checked)
 }

@@ -1,16 +1,20 @@
 // The cause for which a call failed, and its lines.
 
 ghost use Rattle.std.specs.Prelude.{◌≡◌, ◌++◌, IfOk, OnOk};
+ghost use Rattle.lfs_tool.specs.ExplainedChecks.{explained_check_text, explained_reason_text, option_text_for_reason, option_text_for_wrong_number};
 ghost use Rattle.lfs_tool.specs.Explained.{enough_blocks_text, explanation_text, unknown_enough_blocks_text, text_of_fault_met_at_host_path, needed_blocks_text, broken_size_rule_text};
 
-use crate::check_result::CheckResult;
+use crate::check_result::{CheckResult, GivenSizes, RefusalReason};
 use crate::checked_lines::{
-    lines_of_check_result, push_labelled_number, push_line, push_number_line, push_text,
+    push_labelled_number, push_line, push_number_line, push_summary, push_text,
+    push_unaccepted_reason,
 };
 use crate::escape::push_escaped_path;
+use crate::findings::{Finding, WrongNumber};
 use crate::line_text::line_text_of_library_error;
 use crate::needed_blocks::{EnoughBlocks, NeededBlocks};
 use lfs_device::Error;
+use lfs_tag::Superblock;
 use lfs_tool_folders::PathFault;
 use lfs_tool_line::{SizeRule, Sizes};
 use std::alloc::{AllocError, Global};
@@ -93,6 +97,59 @@ fn push_needed_blocks(text: &mut Vec<u8>, needed: NeededBlocks) -> Result<(), Al
     Ok(())
 }
 
+// Returns which option reads the version, if it is 2.1.
+fn option_for_wrong_number(stated: WrongNumber) -> &'static str
+    ensures { result.now ≡ option_text_for_wrong_number stated }
+{
+    match stated {
+        WrongNumber::Version(version) => {
+            if version == Superblock::LATER_VERSION {
+                "; --also-2.1 reads it"
+            } else {
+                ""
+            }
+        }
+        WrongNumber::BlockSize(_) | WrongNumber::BlockCount(_) => "",
+    }
+}
+
+// Returns which option reads the version that is the reason, if it is 2.1.
+fn option_for_reason(reason: &RefusalReason) -> &'static str
+    ensures { result.now ≡ option_text_for_reason reason.now }
+{
+    match reason {
+        RefusalReason::WrongNumber(stated) => option_for_wrong_number(*stated),
+        RefusalReason::Broken(Finding::OtherFields { stated, .. }) => {
+            option_for_wrong_number(*stated)
+        }
+        _ => "",
+    }
+}
+
+// Adds the lines of an image that isn't accepted.
+fn push_explained_reason(
+    text: &mut Vec<u8>,
+    given: &GivenSizes,
+    reason: &RefusalReason,
+) -> Result<(), AllocError>
+    ensures { OnOk result (text.new.items ≡ text.old.items ++ explained_reason_text given.now reason.now) }
+{
+    push_line(text, "corrupt")?;
+    push_unaccepted_reason(text, given, reason)?;
+    push_line(text, option_for_reason(reason))?;
+    Ok(())
+}
+
+// Adds the lines of a check's result.
+fn push_explained_check(text: &mut Vec<u8>, checked: &CheckResult) -> Result<(), AllocError>
+    ensures { OnOk result (text.new.items ≡ text.old.items ++ explained_check_text checked.now) }
+{
+    match checked {
+        CheckResult::Accepted { summary, orders } => push_summary(text, summary, *orders),
+        CheckResult::Refused { reason, given } => push_explained_reason(text, given, reason),
+    }
+}
+
 // Returns the lines of an explanation.
 pub(crate) fn explanation_lines(
     alloc: Global,
@@ -103,7 +160,7 @@ pub(crate) fn explanation_lines(
     let mut text = Vec::new(alloc);
     match explanation {
         Explanation::Place(fault) => push_path_fault(&mut text, fault)?,
-        Explanation::Checked(checked) => return lines_of_check_result(alloc, checked),
+        Explanation::Checked(checked) => push_explained_check(&mut text, checked)?,
         Explanation::Sizes(sizes, rule) => push_broken_size_rule(&mut text, *sizes, *rule)?,
         Explanation::Blocks(needed) => push_needed_blocks(&mut text, *needed)?,
         Explanation::Nothing => {}

@@ -7,11 +7,12 @@ ghost use Rattle.lfs_tool.specs.RunsAtPaths.{IsTrueOfSomethingAtPath, IsTrueForM
 
 use crate::creation::read_source_entries;
 use crate::explanation::{Explanation, explanation_lines};
+use crate::file_limits::file_limits_of_line;
 use crate::input::{IMAGE_MAX, read_image};
 use crate::needed_blocks::{NeededBlocks, enough_blocks_for_entries};
 use crate::{
-    Line, Mode, Places, ToolError, ToolOutput, check_result_of_image, geometry_of_image_sizes,
-    write_bytes_and_flush,
+    ImageLayout, Line, Mode, Places, ToolError, ToolOutput, check_result_of_image,
+    geometry_of_image_sizes, write_bytes_and_flush,
 };
 use arrayvec::ArrayString;
 use lfs_device::Error;
@@ -81,7 +82,7 @@ fn explanation_by_check<P: Places>(
     ensures err { IfErr result (FailsToReadOpenedImage P.Places P.Image.ImageInput line.now places.old places.new) }
 {
     let mut image = places.image(line.image)?;
-    let checked = check_result_of_image(alloc, &mut image, line.block_size, line.page)?;
+    let checked = check_result_of_image(alloc, &mut image, ImageLayout::of_line(line))?;
     Ok(Explanation::Checked(checked))
 }
 
@@ -104,11 +105,15 @@ fn explanation_by_needed_blocks<P: Places>(
     line: &Line<'_>,
     folder: &str,
 ) -> Result<Explanation, ToolError>
-    ensures blocks { IfOk result (ExplainsNeededBlocksOfFolder P.folder_path P.folder_limit P.Folder.shown line.now folder.now) }
+    ensures blocks { IfOk result (ExplainsNeededBlocksOfFolder P.folder_path P.folder_limits P.Folder.shown line.now folder.now) }
     ensures err { IfErr result (FailsToCountNeededBlocks P.folder_path P.Folder.faults P.Folder.shown line.now folder.now) }
 {
-    let geometry = geometry_of_image_sizes(line.size, line.block_size, line.page)?;
-    let mut source = places.folder(folder, IMAGE_MAX as u32)?;
+    let geometry = match geometry_of_image_sizes(line.size, line.block_size, line.page) {
+        Ok(geometry) => geometry,
+        Err(error) => return Err(ToolError::Fs(error)),
+    };
+    let limits = file_limits_of_line(line, IMAGE_MAX as u32);
+    let mut source = places.folder(folder, limits)?;
     let entries = read_source_entries(alloc, &mut source)?;
     let blocks = geometry.block_count;
     let enough = enough_blocks_for_entries(alloc, line, entries.as_slice(), blocks);
@@ -121,7 +126,7 @@ fn explanation_of_too_few_blocks<P: Places>(
     places: &P,
     line: &Line<'_>,
 ) -> Result<Explanation, ToolError>
-    ensures blocks { IfOk result (ExplainsTooFewBlocks P.folder_path P.folder_limit P.Folder.shown line.now) }
+    ensures blocks { IfOk result (ExplainsTooFewBlocks P.folder_path P.folder_limits P.Folder.shown line.now) }
     ensures err { IfErr result (λ e. IsTrueForMode line.now.mode ⊥ ⊥ (λ folder. FailsToCountNeededBlocks P.folder_path P.Folder.faults P.Folder.shown line.now folder e) (λ _. ⊥)) }
 {
     match line.mode {

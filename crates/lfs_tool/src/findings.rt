@@ -28,7 +28,7 @@ pub enum WrongNumber {
     BlockSize(u32),
     /// Another number of blocks.
     BlockCount(u32),
-    /// Another version: the major number in the upper 16 bits, the minor one in the lower.
+    /// A version that isn't accepted: the major number in the upper 16 bits, the minor one in the lower.
     Version(u32),
 }
 
@@ -80,7 +80,8 @@ pub enum Finding {
         pair: [u32; 2],
         stated: WrongNumber,
     },
-    /// The superblock of a pair of the chain isn't that of the root directory.
+    /// The superblock of a pair of the chain differs from that of the root directory, and not in its
+    /// version alone.
     OtherSuperblock {
         pair: [u32; 2],
         root: [u32; 2],

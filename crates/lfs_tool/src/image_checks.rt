@@ -11,7 +11,7 @@ use crate::check_result::CheckResult;
 use crate::checked_lines::lines_of_check_result;
 use crate::examination::check_result_of_image;
 use crate::output::write_bytes_and_flush;
-use crate::{ImageInput, ToolError, ToolOutput};
+use crate::{ImageInput, ImageLayout, ToolError, ToolOutput};
 use lfs_device::Error;
 use std::alloc::Global;
 
@@ -39,24 +39,23 @@ fn is_check_result_accepted(checked: &CheckResult) -> bool
 pub fn check<R: ImageInput, W: ToolOutput>(
     alloc: Global,
     image: &mut R,
-    block_size: u32,
-    page: u32,
+    layout: ImageLayout,
     out: &mut W,
 ) -> Result<bool, ToolError>
     ensures ok { IfOk result (λ accepted. IfSome (R.remaining image.old) (λ bytes.
-        (checked : _) × (IsCheckResultOfBytes block_size page bytes checked × (accepted ≡ is_accepted_check_result checked) × Appends (W.contents out.old) (W.contents out.new) (check_result_text checked)))) }
+        (checked : _) × (IsCheckResultOfBytes layout bytes checked × (accepted ≡ is_accepted_check_result checked) × Appends (W.contents out.old) (W.contents out.new) (check_result_text checked)))) }
 
     // One flush succeeds, at the end, or the writer fails: then a beginning of the lines may be written.
     ensures writer { ReportsWriterFaults W.ToolOutput out.old out.new result }
     ensures beginning { IsErrOf result ToolError.Output → IfSome (R.remaining image.old) (λ bytes.
-        (checked : _) × (IsCheckResultOfBytes block_size page bytes checked × AppendsBeginningOfBytes (W.contents out.old) (W.contents out.new) (check_result_text checked))) }
+        (checked : _) × (IsCheckResultOfBytes layout bytes checked × AppendsBeginningOfBytes (W.contents out.old) (W.contents out.new) (check_result_text checked))) }
 
     // When each other error comes.
     ensures refused { (e : _) → IsErrOf result (ToolError.Fs e) → e ≡ Error.NoMemory }
     ensures input { IsThisErrorExactlyIfOneCallFailed ToolError.Input (R.faults image.old) (R.faults image.new) result }
     ensures read { ¬ IsErrOf result ToolError.Input → ¬ IsErrOf result (ToolError.Fs Error.NoMemory) → IsReadToEndOrPastImageLimit (R.remaining image.old) (R.remaining image.new) }
 {
-    let checked = check_result_of_image(alloc, image, block_size, page)?;
+    let checked = check_result_of_image(alloc, image, layout)?;
     let text = match lines_of_check_result(alloc, &checked) {
         Ok(text) => text,
         Err(_) => return Err(ToolError::Fs(Error::NoMemory)),

@@ -17,7 +17,7 @@ ghost use Rattle.lfs_tool.specs.Blocks.{DeviceOfExcerptHasTheseBlocksAndSizes};
 ghost use Rattle.lfs_tool.specs.Listings.{IsThreadWithEntriesOfTreeWalk, IsMountErrorOfDisk};
 ghost use Rattle.lfs_lookup.specs.Walk.{tree_items_view};
 
-use crate::{BlockExcerpt, ExcerptDevice, excerpt_is_read_without_fault};
+use crate::{BlockExcerpt, ExcerptDevice, ImageLayout, excerpt_is_read_without_fault};
 use lfs_device::{BlockDevice, Error, Geometry, Ordered, RamDevice};
 use lfs_lookup::{TreeItem, walk_tree};
 use lfs_mount::mount_with_either_name_order;
@@ -25,32 +25,29 @@ use lfs_thread::Thread;
 use std::alloc::Global;
 
 // Returns the geometry of an image of so many bytes.
-fn geometry_of_image_length(len: usize, block_size: u32, page: u32) -> Result<Geometry, Error>
+fn geometry_of_image_length(len: usize, layout: ImageLayout) -> Result<Geometry, Error>
     requires { len < 2 ^ 32 }
-    ensures sizes { IfOk result (λ g. (g.block_size ≡ block_size) × (g.page ≡ page)) }
-    ensures count { IfOk result (λ g. (g.block_count ≡ len / block_size) × (len % block_size ≡ 0)) }
-    ensures err { IfErr result (λ e. (e ≡ Error.Invalid) × (len % block_size ≡ 0 → ¬ IsValidGeometry block_size page (len / block_size))) }
+    ensures sizes { IfOk result (λ g. (g.block_size ≡ layout.block_size) × (g.page ≡ layout.page) × (g.profile ≡ layout.profile)) }
+    ensures count { IfOk result (λ g. (g.block_count ≡ len / layout.block_size) × (len % layout.block_size ≡ 0)) }
+    ensures err { IfErr result (λ e. (e ≡ Error.Invalid) × (len % layout.block_size ≡ 0 → ¬ IsValidGeometry layout.block_size layout.page (len / layout.block_size))) }
 {
-    let size = block_size as usize;
+    let size = layout.block_size as usize;
     if size == 0 || len % size != 0 {
         return Err(Error::Invalid);
     }
-    Geometry::new(block_size, page, (len / size) as u32)
+    let geometry = Geometry::new(layout.block_size, layout.page, (len / size) as u32)?;
+    Ok(geometry.with_profile(layout.profile))
 }
 
 // Makes a device that holds an image. Returns `Invalid` exactly where no image has so many bytes.
-pub(crate) fn ram_device_of_image(
-    image: Vec<u8>,
-    block_size: u32,
-    page: u32,
-) -> Result<RamDevice, Error>
+pub(crate) fn ram_device_of_image(image: Vec<u8>, layout: ImageLayout) -> Result<RamDevice, Error>
     requires { length image.items < 2 ^ 32 }
-    ensures image { OnOk result (IsImageOfWholeBlocks block_size page image.items) }
-    ensures disk { IfOk result (λ d. (order : NameOrder) → disk_with_name_order order (shown (geometry_of_ram_device d) (ram_blocks d)) ≡ disk_of_image block_size page order image.items) }
+    ensures image { OnOk result (IsImageOfWholeBlocks layout.block_size layout.page image.items) }
+    ensures disk { IfOk result (λ d. (order : NameOrder) → disk_with_name_order order (shown (geometry_of_ram_device d) (ram_blocks d)) ≡ disk_of_image layout.block_size layout.page layout.profile order image.items) }
     ensures no_call { IfOk result (λ d. history_of_ram_device d ≡ []) }
-    ensures err { IfErr result (λ e. (e ≡ Error.Invalid) × (¬ IsImageOfWholeBlocks block_size page image.items)) }
+    ensures err { IfErr result (λ e. (e ≡ Error.Invalid) × (¬ IsImageOfWholeBlocks layout.block_size layout.page image.items)) }
 {
-    let geometry = geometry_of_image_length(image.len(), block_size, page)?;
+    let geometry = geometry_of_image_length(image.len(), layout)?;
     RamDevice::from_bytes(geometry, image)
 }
 
@@ -58,17 +55,16 @@ pub(crate) fn ram_device_of_image(
 // of such blocks.
 pub(crate) fn excerpt_device_of_blocks(
     blocks: Vec<BlockExcerpt>,
-    block_size: u32,
-    page: u32,
+    layout: ImageLayout,
 ) -> Result<ExcerptDevice, Error>
     requires many { length blocks.items < 2 ^ 32 }
-    requires sizes { AreExcerptsOfBlocksWithSize block_size blocks.items }
-    ensures geometry { OnOk result (IsValidGeometry block_size page (length blocks.items)) }
-    ensures shown { IfOk result (λ e. DeviceOfExcerptHasTheseBlocksAndSizes block_size page blocks.items e) }
-    ensures err { IfErr result (λ e. (e ≡ Error.Invalid) × (¬ IsValidGeometry block_size page (length blocks.items))) }
+    requires sizes { AreExcerptsOfBlocksWithSize layout.block_size blocks.items }
+    ensures geometry { OnOk result (IsValidGeometry layout.block_size layout.page (length blocks.items)) }
+    ensures shown { IfOk result (λ e. DeviceOfExcerptHasTheseBlocksAndSizes layout blocks.items e) }
+    ensures err { IfErr result (λ e. (e ≡ Error.Invalid) × (¬ IsValidGeometry layout.block_size layout.page (length blocks.items))) }
 {
-    let geometry = Geometry::new(block_size, page, blocks.len() as u32)?;
-    Ok(ExcerptDevice::new(geometry, blocks))
+    let geometry = Geometry::new(layout.block_size, layout.page, blocks.len() as u32)?;
+    Ok(ExcerptDevice::new(geometry.with_profile(layout.profile), blocks))
 }
 
 // Returns the thread of an image that is accepted in one of the orders of names, and all entries of

@@ -17,7 +17,8 @@ use crate::input::read_image_without_keeping;
 use crate::lines::listing_lines_of_tree_items;
 use crate::output::write_bytes_and_flush;
 use crate::{
-    BlockExcerpt, ExcerptDevice, ImageInput, ToolError, ToolOutput, excerpt_is_listed_like_its_disk,
+    BlockExcerpt, ExcerptDevice, ImageInput, ImageLayout, ToolError, ToolOutput,
+    excerpt_is_listed_like_its_disk,
 };
 use lfs_device::{Error, Geometry};
 use std::alloc::Global;
@@ -36,17 +37,16 @@ fn listing_lines_of_excerpt(alloc: Global, device: ExcerptDevice) -> Result<Vec<
 fn listing_lines_of_tree_in_block_excerpts(
     alloc: Global,
     blocks: Vec<BlockExcerpt>,
-    block_size: u32,
-    page: u32,
+    layout: ImageLayout,
 ) -> Result<Vec<u8>, Error>
     requires many { length blocks.items < 2 ^ 32 }
-    requires sizes { AreExcerptsOfBlocksWithSize block_size blocks.items }
-    ensures ok { IfOk result (λ text. (bytes : List ℕ) → AreExcerptsOfAllBlocksOfImageBytes block_size bytes blocks.items → IsListingTextOfImage block_size page bytes text.items) }
-    ensures err { IfErr result (λ e. (bytes : List ℕ) → AreExcerptsOfAllBlocksOfImageBytes block_size bytes blocks.items → RefusesToList block_size page bytes e) }
+    requires sizes { AreExcerptsOfBlocksWithSize layout.block_size blocks.items }
+    ensures ok { IfOk result (λ text. (bytes : List ℕ) → AreExcerptsOfAllBlocksOfImageBytes layout.block_size bytes blocks.items → IsListingTextOfImage layout bytes text.items) }
+    ensures err { IfErr result (λ e. (bytes : List ℕ) → AreExcerptsOfAllBlocksOfImageBytes layout.block_size bytes blocks.items → RefusesToList layout bytes e) }
     ensures kinds { IfErr result IsListingRefusal }
 {
     excerpt_is_listed_like_its_disk();
-    match excerpt_device_of_blocks(blocks, block_size, page) {
+    match excerpt_device_of_blocks(blocks, layout) {
         Ok(excerpt) => listing_lines_of_excerpt(alloc, excerpt),
         Err(error) => Err(error),
     }
@@ -66,23 +66,22 @@ fn check_block_and_page_size(block_size: u32, page: u32) -> Result<(), Error>
 fn read_image_as_listing_lines<R: ImageInput>(
     alloc: Global,
     image: &mut R,
-    block_size: u32,
-    page: u32,
+    layout: ImageLayout,
 ) -> Result<Vec<u8>, ToolError>
-    ensures ok { IfOk result (λ text. IfSome (R.remaining image.old) (λ bytes. IsListingTextOfImage block_size page bytes text.items)) }
-    ensures refused { (e : _) → IsErrOf result (ToolError.Fs e) → IfSome (R.remaining image.old) (λ bytes. RefusesToList block_size page bytes e) }
+    ensures ok { IfOk result (λ text. IfSome (R.remaining image.old) (λ bytes. IsListingTextOfImage layout bytes text.items)) }
+    ensures refused { (e : _) → IsErrOf result (ToolError.Fs e) → IfSome (R.remaining image.old) (λ bytes. RefusesToList layout bytes e) }
     ensures kept { OnOk result (R.faults image.new ≡ R.faults image.old) }
     ensures failed { IfErr result (λ e. IsErrorOfReaderFaultOrListingRefusal e (R.faults image.old) (R.faults image.new)) }
     ensures read { ¬ IsErrOf result ToolError.Input → ¬ IsErrOf result (ToolError.Fs Error.NoMemory) → IsReadToEndOrPastImageLimit (R.remaining image.old) (R.remaining image.new) }
 {
-    if let Err(error) = check_block_and_page_size(block_size, page) {
+    if let Err(error) = check_block_and_page_size(layout.block_size, layout.page) {
         read_image_without_keeping(image)?;
         return Err(ToolError::Fs(error));
     }
-    let Some(blocks) = read_block_excerpts(alloc, image, block_size)? else {
+    let Some(blocks) = read_block_excerpts(alloc, image, layout.block_size)? else {
         return Err(ToolError::Fs(Error::Invalid));
     };
-    let text = listing_lines_of_tree_in_block_excerpts(alloc, blocks, block_size, page)?;
+    let text = listing_lines_of_tree_in_block_excerpts(alloc, blocks, layout)?;
     Ok(text)
 }
 
@@ -95,7 +94,7 @@ fn read_image_as_listing_lines<R: ImageInput>(
 /// have the shorter first.
 ///
 /// The image is read first, to its end, or at most a block past the largest image's size of
-/// 268,435,456 bytes. So it is also where `block_size` or `page`, in bytes, is out of range. Of
+/// 268,435,456 bytes. So it is also where a size of the layout is out of range. Of
 /// each block only what a listing needs is kept, which is mostly the first 132 bytes. Nothing is
 /// written before the image is known to be good. The writer is flushed at the end.
 ///
@@ -108,23 +107,22 @@ fn read_image_as_listing_lines<R: ImageInput>(
 pub fn list<R: ImageInput, W: ToolOutput>(
     alloc: Global,
     image: &mut R,
-    block_size: u32,
-    page: u32,
+    layout: ImageLayout,
     out: &mut W,
 ) -> Result<(), ToolError>
     ensures ok { OnOk result (IfSome (R.remaining image.old) (λ bytes.
-        (text : _) × (IsListingTextOfImage block_size page bytes text × Appends (W.contents out.old) (W.contents out.new) text))) }
+        (text : _) × (IsListingTextOfImage layout bytes text × Appends (W.contents out.old) (W.contents out.new) text))) }
 
     // One flush succeeds, at the end, or the writer fails: then a beginning of the lines may be written.
     ensures writer { ReportsWriterFaults W.ToolOutput out.old out.new result }
     ensures beginning { IsErrOf result ToolError.Output → IfSome (R.remaining image.old) (λ bytes.
-        (text : _) × (IsListingTextOfImage block_size page bytes text × AppendsBeginningOfBytes (W.contents out.old) (W.contents out.new) text)) }
+        (text : _) × (IsListingTextOfImage layout bytes text × AppendsBeginningOfBytes (W.contents out.old) (W.contents out.new) text)) }
 
     // When each other error comes.
-    ensures refused { (e : _) → IsErrOf result (ToolError.Fs e) → IsListingRefusal e × IfSome (R.remaining image.old) (λ bytes. RefusesToList block_size page bytes e) }
+    ensures refused { (e : _) → IsErrOf result (ToolError.Fs e) → IsListingRefusal e × IfSome (R.remaining image.old) (λ bytes. RefusesToList layout bytes e) }
     ensures input { IsThisErrorExactlyIfOneCallFailed ToolError.Input (R.faults image.old) (R.faults image.new) result }
     ensures read { ¬ IsErrOf result ToolError.Input → ¬ IsErrOf result (ToolError.Fs Error.NoMemory) → IsReadToEndOrPastImageLimit (R.remaining image.old) (R.remaining image.new) }
 {
-    let text = read_image_as_listing_lines(alloc, image, block_size, page)?;
+    let text = read_image_as_listing_lines(alloc, image, layout)?;
     write_bytes_and_flush(out, text.as_slice())
 }

@@ -4,6 +4,7 @@ ghost use Rattle.std.specs.Prelude.{◌≡◌, ◌≢◌, IfErr, IfOk, IsErrOf, 
 ghost use Rattle.lfs_tool.specs.Reports.{ReportsWriterFaults};
 ghost use Rattle.lfs_tool.specs.RunsAtPaths.{BeginsToCheckImageAtPath, BeginsToListImageAtPath, ChecksImageAtPath, EndsModeWithError, HasFaultAtPath, FailsToReadFolder, IsModeDone, LeavesFolderUnfinished, LeavesNoNewImage, ListsImageAtPath, MakesImageAtPath, OpensImageToRead, OpensImageUnlessOutOfMemory, RefusesToListAtPath, RefusesToMakeImage, UnpacksImageAtPath, is_mode_that_writes_lines};
 
+use crate::file_limits::file_limits_of_line;
 use crate::{
     Line, Mode, Places, ToolError, ToolOutput, check_for_command_line, create_for_command_line,
     list_for_command_line, unpack_for_command_line,
@@ -59,11 +60,12 @@ fn create_image_at_path<P: Places>(
     folder: &str,
 ) -> Result<(), ToolError>
     ensures made { OnOk result (MakesImageAtPath P.Places P.NewImage.ToolOutput P.Folder.Source line.now places.old places.new folder.now) }
-    ensures refused { (e : _) → IsErrOf result (ToolError.Fs e) → e ≢ Error.NoMemory → RefusesToMakeImage P.folder_path P.folder_limit P.Folder.shown line.now e folder.now }
+    ensures refused { (e : _) → IsErrOf result (ToolError.Fs e) → e ≢ Error.NoMemory → RefusesToMakeImage P.folder_path P.folder_limits P.Folder.shown line.now e folder.now }
     ensures input { IsErrOf result ToolError.Input → FailsToReadFolder P.folder_path P.Folder.faults P.Folder.shown folder.now }
     ensures left { IfErr result (LeavesNoNewImage P.Places P.NewImage.ToolOutput P.Folder.Source line.now places.old places.new folder.now) }
 {
-    let mut source = places.folder(folder, line.size)?;
+    let limits = file_limits_of_line(line, line.size);
+    let mut source = places.folder(folder, limits)?;
     let mut image = places.new_image(line.image)?;
     let mut progress = places.progress();
     let created = create_for_command_line(alloc, line, &mut source, &mut image, &mut progress);

@@ -48,13 +48,10 @@ fn has_room_for_entries(
     ensures small { IfOk result (λ has_room_for_entries. has_room_for_entries ≡ false → IsTooFewBlocksForEntries line.now entries.now count) }
     ensures err { IfErr result (IsErrorOfSomeTrial line.now entries.now) }
 {
-    let geometry = Geometry::new(line.block_size, line.page, count)?;
-    match new_image_of_entries(
-        alloc,
-        geometry.with_name_order(line.order),
-        entries,
-        &mut (),
-    ) {
+    let sized = Geometry::new(line.block_size, line.page, count)?;
+    let ordered = sized.with_name_order(line.order);
+    let geometry = ordered.with_profile(line.profile);
+    match new_image_of_entries(alloc, geometry, entries, &mut ()) {
         Ok(_image) => Ok(true),
         Err(error) => match error {
             Error::NoSpace => Ok(false),

@@ -1,10 +1,11 @@
 ghost use Rattle.std.specs.Prelude.{◌≡◌, ⊤, ℕ, Bool, false, IfErr, IfOk, List, OnOk, ◌∷◌};
+ghost use Rattle.lfs_tool_folders.specs.declared.file_limits.FileLimits.{FileLimits};
 ghost use Rattle.lfs_tool.specs.AmountsTold.{IsToldOfNothing};
 ghost use Rattle.lfs_tool.specs.PlaceEvents.{FaultAnswered, FolderClosed, FolderOpened, ImageDiscarded, ImageNotPlaced, ImageOpened, ImagePlaced, OldImageOpened, PlaceEvent, WorkBegan, WorkEnded};
 
 use crate::{FollowsProgress, ImageInput, ToolError, ToolOutput};
 use lfs_device::Error;
-use lfs_tool_folders::{PathFault, Source, Target};
+use lfs_tool_folders::{FileLimits, PathFault, Source, Target};
 
 /// The files and folders of a command line's paths. Only their own calls touch what is there.
 ///
@@ -35,8 +36,8 @@ pub trait Places {
 
     ghost folder_path: { Self.Folder → List ℕ };
 
-    // The most bytes of a file of such a folder that is read.
-    ghost folder_limit: { Self.Folder → ℕ };
+    // How long the files of such a folder may be.
+    ghost folder_limits: { Self.Folder → FileLimits };
 
     ghost new_folder_path: { Self.NewFolder → List ℕ };
 
@@ -83,10 +84,10 @@ pub trait Places {
         ensures discarded { history self.new ≡ ImageDiscarded (Self.NewImage.contents image) (Self.NewImage.faults image) (Self.NewImage.flushes image) ∷ history self.old }
         ensures stays { (shows self.new ≡ shows self.old) × HasSameStandardInput self.old self.new × HasSameStandardOutput self.old self.new };
 
-    /// Returns the folder at a path, to be read for an image of so many bytes.
-    fn folder(&self, path: &str, size: u32) -> Result<Self::Folder, Error>
+    /// Returns the folder at a path, to be read for an image of such a size, with files of such a length.
+    fn folder(&self, path: &str, limits: FileLimits) -> Result<Self::Folder, Error>
         ensures path { IfOk result (λ f. folder_path f ≡ path.now) }
-        ensures limit { IfOk result (λ f. folder_limit f ≡ size) }
+        ensures limits { IfOk result (λ f. folder_limits f ≡ limits) }
         ensures err { IfErr result (λ e. e ≡ Error.NoMemory) };
 
     /// Returns the folder at a path, to be written.

@@ -10,7 +10,7 @@ use crate::{
     WatchedStream,
 };
 use lfs_device::Error;
-use lfs_tool_folders::{FaultLog, Folder, LoggedFaults, PathFault, TargetFolder};
+use lfs_tool_folders::{FaultLog, FileLimits, Folder, LoggedFaults, PathFault, TargetFolder};
 use std::alloc::AllocError;
 use std::io;
 use std::io::{BufReader, Read, Write};
@@ -134,7 +134,7 @@ where
 {
     ghost use Rattle.std.specs.Prelude.{◌∷◌, MatchResult, OnOk, Some};
     ghost use Rattle.std.specs.Option.{option_and_then};
-    ghost use Rattle.lfs_tool_folders.specs.Roots.{root_path_of_source_folder, file_size_read_limit, root_path_of_target_folder};
+    ghost use Rattle.lfs_tool_folders.specs.Roots.{root_path_of_source_folder, file_limits_of_source_folder, root_path_of_target_folder};
     ghost use Rattle.lfs_tool.specs.AmountsTold.{IsToldOfNothing};
     ghost use Rattle.lfs_tool.specs.Paths.{bytes_of_new_image, noted_path_of_new_image, noted_path_of_old_image, path_of_new_image, path_of_old_image, stream_of_new_image, stream_of_old_image};
     ghost use Rattle.lfs_tool.specs.PlaceEvents.{FaultAnswered, ImageNotPlaced, ImageOpened, ImagePlaced, OldImageOpened, WorkBegan};
@@ -157,7 +157,7 @@ where
 
     ghost folder_path = { root_path_of_source_folder };
 
-    ghost folder_limit = { file_size_read_limit };
+    ghost folder_limits = { file_limits_of_source_folder };
 
     ghost new_folder_path = { root_path_of_target_folder };
 
@@ -240,8 +240,8 @@ where
         self.history = self.history.with_discarded_image(&image);
     }
 
-    fn folder(&self, path: &str, size: u32) -> Result<Folder<'a, R>, Error> {
-        let folder = Folder::for_image_of_size(self.rt, self.faults.log(), path, size)?;
+    fn folder(&self, path: &str, limits: FileLimits) -> Result<Folder<'a, R>, Error> {
+        let folder = Folder::with_file_limits(self.rt, self.faults.log(), path, limits)?;
         Ok(folder)
     }
 

@@ -1,6 +1,6 @@
 // The superblock's chain.
 
-ghost use Rattle.std.specs.Prelude.{◌≡◌, ◌≢◌, ◌<◌, ◌≤◌, ◌+◌, ℕ, IfSome, List, None, Some, false, length, slice_get, true};
+ghost use Rattle.std.specs.Prelude.{◌≡◌, ◌<◌, ◌≤◌, ◌+◌, ℕ, IfSome, List, None, Some, drop, false, length, slice_get, true, IsTrue, ◌↔◌};
 ghost use Rattle.lfs_model.specs.Disk.{Disk};
 ghost use Rattle.lfs_model.specs.EntryTypes.{SuperblockFields};
 ghost use Rattle.lfs_model.specs.Slots.{Inline, Struct as ModelStruct, pair_address_of_array};
@@ -9,7 +9,7 @@ ghost use Rattle.lfs_tag.specs.FieldsView.{superblock_view};
 ghost use Rattle.lfs_tool.specs.BrokenRules.{HasSuperblockFields, BreaksRuleOfFinding, IsFirstStructOfSuperblockChainPair, IsWrongSuperblockFieldForDisk};
 ghost use Rattle.lfs_tool.specs.Device.{HasSizesOfGeometry};
 ghost use Rattle.lfs_tool.specs.KeptRules.{BeginsRootWithSuperblock, HasSameSuperblocksInChain};
-ghost use Rattle.lfs_tool.specs.KeptSuperblocks.{HasInlineSuperblockIfAnySlot, HaveInlineSuperblocksUpTo, HaveSameBytesIfInline, HaveSameInlineBytesIfAnySlot, HaveSameInlineBytesUpTo, IsInlineSuperblockStruct};
+ghost use Rattle.lfs_tool.specs.KeptSuperblocks.{HasInlineSuperblockIfAnySlot, HaveInlineSuperblocksUpTo, HaveSameNumbersIfInline, HaveSameNumbersIfAnySlot, HaveSameNumbersUpTo, IsInlineSuperblockStruct};
 ghost use Rattle.lfs_lookup.specs.Items.{owned_struct_view};
 ghost use Rattle.lfs_tool.specs.OwnedSlotView.{owned_slot_view, owned_pair_view, owned_pairs_view};
 
@@ -52,7 +52,12 @@ pub(crate) fn wrong_superblock_number(
     ensures found { IfSome result (λ stated. (disk : Disk) → HasSizesOfGeometry disk geometry.now → IsWrongSuperblockFieldForDisk disk (superblock_view fields.now) stated) }
     ensures none { result ≡ None → (disk : Disk) (s : ModelStruct) → HasSizesOfGeometry disk geometry.now → HasSuperblockFields s (superblock_view fields.now) → IsInlineSuperblockStruct disk s }
 {
-    wrong_number_in_superblock_fields(geometry.block_size, geometry.block_count as usize, fields)
+    wrong_number_in_superblock_fields(
+        geometry.block_size,
+        geometry.block_count as usize,
+        geometry.profile.versions,
+        fields,
+    )
 }
 
 // Returns what is wrong with the fields of the superblock in a pair of the chain.
@@ -114,13 +119,28 @@ fn finding_on_chain_superblocks(
     None
 }
 
-// Returns whether two structs of superblocks have the same bytes, or one of them isn't a superblock's.
-fn has_same_bytes(one: &OwnedStruct, other: &OwnedStruct) -> bool
-    ensures other { result ≡ false → owned_struct_view one.now ≢ owned_struct_view other.now }
-    ensures same { result ≡ true → HaveSameBytesIfInline (owned_struct_view one.now) (owned_struct_view other.now) }
+// Returns the bytes behind the version.
+fn bytes_behind_version(bytes: &[u8]) -> &[u8]
+    ensures { result.now ≡ drop 4 bytes.now }
+{
+    &bytes[bytes.len().min(4)..]
+}
+
+// Returns whether two structs have the same bytes behind the version.
+fn are_numbers_equal(one: &[u8], other: &[u8]) -> bool
+    ensures { IsTrue result ↔ (drop 4 one.now ≡ drop 4 other.now) }
+{
+    bytes_behind_version(one) == bytes_behind_version(other)
+}
+
+// Returns whether two structs of superblocks have the same bytes behind the version, or one of them isn't a
+// superblock's.
+fn has_same_numbers(one: &OwnedStruct, other: &OwnedStruct) -> bool
+    ensures other { result ≡ false → ¬ HaveSameNumbersIfInline (owned_struct_view one.now) (owned_struct_view other.now) }
+    ensures same { result ≡ true → HaveSameNumbersIfInline (owned_struct_view one.now) (owned_struct_view other.now) }
 {
     match (one, other) {
-        (OwnedStruct::Inline(one), OwnedStruct::Inline(other)) => one == other,
+        (OwnedStruct::Inline(one), OwnedStruct::Inline(other)) => { are_numbers_equal(one, other) }
         _ => true,
     }
 }
@@ -129,12 +149,12 @@ fn has_same_bytes(one: &OwnedStruct, other: &OwnedStruct) -> bool
 fn finding_on_two_superblocks(pair: &OwnedPair, root: &OwnedPair) -> Option<Finding>
     ensures found { IfSome result (λ f. (disk : Disk) (ps : List Pair) (index : ℕ) → BeginsRootWithSuperblock ps → slice_get ps index ≡ Some (owned_pair_view pair.now) → index ≤ pair_count_before_root ps
         → slice_get ps (pair_count_before_root ps) ≡ Some (owned_pair_view root.now) → BreaksRuleOfFinding disk ps f) }
-    ensures none { result ≡ None → HaveSameInlineBytesIfAnySlot (owned_pair_view pair.now) (owned_pair_view root.now) }
+    ensures none { result ≡ None → HaveSameNumbersIfAnySlot (owned_pair_view pair.now) (owned_pair_view root.now) }
 {
     let (Some(one), Some(other)) = (pair.slots.first(), root.slots.first()) else {
         return None;
     };
-    if has_same_bytes(&one.structure, &other.structure) {
+    if has_same_numbers(&one.structure, &other.structure) {
         return None;
     }
     Some(Finding::OtherSuperblock {
@@ -149,7 +169,7 @@ fn finding_on_other_superblocks(pairs: &[OwnedPair], root: usize) -> Option<Find
     requires root { root ≡ pair_count_before_root (owned_pairs_view pairs.now) }
     requires begins { BeginsRootWithSuperblock (owned_pairs_view pairs.now) }
     ensures found { IfSome result (λ f. (disk : Disk) → BreaksRuleOfFinding disk (owned_pairs_view pairs.now) f) }
-    ensures none { result ≡ None → HaveSameInlineBytesUpTo root root (owned_pairs_view pairs.now) }
+    ensures none { result ≡ None → HaveSameNumbersUpTo root root (owned_pairs_view pairs.now) }
 {
     for index in 0..root {
         if let Some(finding) = finding_on_two_superblocks(&pairs[index], &pairs[root]) {

@@ -7,16 +7,22 @@ ghost use Rattle.lfs_tool.specs.KeptSuperblocks.{HasSizesAndVersion};
 ghost use Rattle.lfs_tool.specs.WrongNumbers.{HasNoWrongNumberInImageBytes, IsWrongNumberInImageBytes, IsWrongSuperblockField, IsSuperblockAtOffset};
 
 use crate::findings::WrongNumber;
+use lfs_device::AcceptedVersions;
 use lfs_tag::{Superblock, superblock_of};
+
+// How a log with a superblock begins behind the revision: the tag of its name, the name, and the tag
+// of an inline struct of 24 bytes for the same slot.
+const FIRST_ENTRIES: &[u8] = b"\xf0\x0f\xff\xf7littlefs\x2f\xe0\x00\x10";
 
 // Returns which of these fields is wrong for so many blocks of that size.
 pub(crate) fn wrong_number_in_superblock_fields(
     block_size: u32,
     count: usize,
+    versions: AcceptedVersions,
     fields: &Superblock,
 ) -> Option<WrongNumber>
-    ensures found { IfSome result (IsWrongSuperblockField block_size count (superblock_view fields.now)) }
-    ensures none { result ≡ None → HasSizesAndVersion block_size count (superblock_view fields.now) }
+    ensures found { IfSome result (IsWrongSuperblockField block_size count versions (superblock_view fields.now)) }
+    ensures none { result ≡ None → HasSizesAndVersion block_size count versions (superblock_view fields.now) }
 {
     if fields.block_size != block_size {
         return Some(WrongNumber::BlockSize(fields.block_size));
@@ -24,7 +30,7 @@ pub(crate) fn wrong_number_in_superblock_fields(
     if fields.block_count as usize != count {
         return Some(WrongNumber::BlockCount(fields.block_count));
     }
-    if fields.version != Superblock::VERSION {
+    if !fields.has_accepted_version(versions) {
         return Some(WrongNumber::Version(fields.version));
     }
     None
@@ -36,7 +42,7 @@ fn superblock_fields_at_offset(bytes: &[u8], from: usize) -> Option<Superblock>
     ensures found { IfSome result (λ fields. IsSuperblockAtOffset bytes.now from (superblock_view fields)) }
     ensures none { result ≡ None → (fields : SuperblockFields) → ¬ IsSuperblockAtOffset bytes.now from fields }
 {
-    if bytes.len() < from + 44 || &bytes[from + 8..from + 16] != Superblock::NAME {
+    if bytes.len() < from + 44 || &bytes[from + 4..from + 20] != FIRST_ENTRIES {
         return None;
     }
     match <&[u8; 24]>::try_from(&bytes[from + 20..from + 44]) {
@@ -46,34 +52,44 @@ fn superblock_fields_at_offset(bytes: &[u8], from: usize) -> Option<Superblock>
 }
 
 // Returns which field of that superblock is wrong for the bytes.
-fn wrong_number_at_offset(bytes: &[u8], block_size: u32, from: usize) -> Option<WrongNumber>
+fn wrong_number_at_offset(
+    bytes: &[u8],
+    block_size: u32,
+    versions: AcceptedVersions,
+    from: usize,
+) -> Option<WrongNumber>
     requires size { 0 < block_size }
     requires from { (from ≡ 0) ⊎ (from ≡ block_size) }
-    ensures found { IfSome result (IsWrongNumberInImageBytes bytes.now block_size) }
-    ensures none { result ≡ None → (fields : SuperblockFields) → IsSuperblockAtOffset bytes.now from fields → HasSizesAndVersion block_size (length bytes.now / block_size) fields }
+    ensures found { IfSome result (IsWrongNumberInImageBytes bytes.now block_size versions) }
+    ensures none { result ≡ None → (fields : SuperblockFields) → IsSuperblockAtOffset bytes.now from fields → HasSizesAndVersion block_size (length bytes.now / block_size) versions fields }
 {
     let count = bytes.len() / block_size as usize;
     match superblock_fields_at_offset(bytes, from) {
-        Some(fields) => wrong_number_in_superblock_fields(block_size, count, &fields),
+        Some(fields) => wrong_number_in_superblock_fields(block_size, count, versions, &fields),
         None => None,
     }
 }
 
 /// Returns which number in the superblock of block 0 or 1 is wrong for these bytes, with blocks of
-/// that size in bytes: the size or number of blocks, or the version. The superblock is found by its
-/// place, without a checksum. So blocks of another size needn't be known.
+/// that size in bytes: the size or number of blocks, or a version that is none of these. The superblock is found by its
+/// place, without a checksum: its name and its struct are the first two entries of the block. So blocks
+/// of another size needn't be known.
 ///
 /// Returns None exactly where no number of these two superblocks is wrong: a block that doesn't begin
 /// with a superblock has none. Blocks of no bytes have none either.
-pub fn wrong_superblock_number_in_image(bytes: &[u8], block_size: u32) -> Option<WrongNumber>
-    ensures found { IfSome result (IsWrongNumberInImageBytes bytes.now block_size) }
-    ensures none { result ≡ None → HasNoWrongNumberInImageBytes bytes.now block_size }
+pub fn wrong_superblock_number_in_image(
+    bytes: &[u8],
+    block_size: u32,
+    versions: AcceptedVersions,
+) -> Option<WrongNumber>
+    ensures found { IfSome result (IsWrongNumberInImageBytes bytes.now block_size versions) }
+    ensures none { result ≡ None → HasNoWrongNumberInImageBytes bytes.now block_size versions }
 {
     if block_size == 0 {
         return None;
     }
-    match wrong_number_at_offset(bytes, block_size, 0) {
+    match wrong_number_at_offset(bytes, block_size, versions, 0) {
         Some(stated) => Some(stated),
-        None => wrong_number_at_offset(bytes, block_size, block_size as usize),
+        None => wrong_number_at_offset(bytes, block_size, versions, block_size as usize),
     }
 }

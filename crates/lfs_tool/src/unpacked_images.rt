@@ -16,7 +16,7 @@ ghost use Rattle.lfs_tool.specs.Reports.{IsReadToEndOrPastImageLimit, IsThisErro
 
 use crate::image_devices::{ram_device_of_image, tree_items_of_ram_device};
 use crate::input::read_image;
-use crate::{FilesAndBytes, FollowsProgress, ImageInput, ToolError};
+use crate::{FilesAndBytes, FollowsProgress, ImageInput, ImageLayout, ToolError};
 use lfs_device::{Error, Ordered, RamDevice};
 use lfs_lookup::{OwnedStruct, TreeItem, read_file_bytes_of_struct};
 use lfs_thread::Thread;
@@ -156,18 +156,17 @@ fn unpack_ram_device<T: Target, F: FollowsProgress>(
 fn unpack_image<T: Target, F: FollowsProgress>(
     alloc: Global,
     image: Vec<u8>,
-    block_size: u32,
-    page: u32,
+    layout: ImageLayout,
     target: &mut T,
     progress: &mut F,
 ) -> Result<(), ToolError>
     requires { length image.items < 2 ^ 32 }
-    ensures done { OnOk result (HasUnpackedImage block_size page image.items (T.done target.old) (T.done target.new)) }
-    ensures told { IsToldOfActionsDone (AreActionsUnpackingImage block_size page image.items) (T.done target.old) (T.done target.new) (F.told progress.old) (F.told progress.new) result }
-    ensures failed { IfErr result (FailsToUnpackImage block_size page image.items (T.done target.old) (T.done target.new)) }
+    ensures done { OnOk result (HasUnpackedImage layout image.items (T.done target.old) (T.done target.new)) }
+    ensures told { IsToldOfActionsDone (AreActionsUnpackingImage layout image.items) (T.done target.old) (T.done target.new) (F.told progress.old) (F.told progress.new) result }
+    ensures failed { IfErr result (FailsToUnpackImage layout image.items (T.done target.old) (T.done target.new)) }
     ensures output { IsThisErrorExactlyIfOneCallFailed ToolError.Output (T.faults target.old) (T.faults target.new) result }
 {
-    match ram_device_of_image(image, block_size, page) {
+    match ram_device_of_image(image, layout) {
         Ok(device) => unpack_ram_device(alloc, device, target, progress),
         Err(error) => Err(ToolError::Fs(error)),
     }
@@ -180,7 +179,7 @@ fn unpack_image<T: Target, F: FollowsProgress>(
 /// shorter comes first here.
 ///
 /// The image is read to its end, or to the byte past the largest image's size of 268,435,456 bytes.
-/// `block_size` and `page` are in bytes. Nothing is done before the image is known to be good.
+/// Nothing is done before the image is known to be good.
 /// After an error the actions that were done are a beginning of those that the image wants. `progress` is
 /// told the files and bytes of the whole, and of each entry that is done.
 ///
@@ -193,18 +192,17 @@ fn unpack_image<T: Target, F: FollowsProgress>(
 pub fn unpack<R: ImageInput, T: Target, F: FollowsProgress>(
     alloc: Global,
     image: &mut R,
-    block_size: u32,
-    page: u32,
+    layout: ImageLayout,
     target: &mut T,
     progress: &mut F,
 ) -> Result<(), ToolError>
-    ensures done { OnOk result (IfSome (R.remaining image.old) (λ bytes. HasUnpackedImage block_size page bytes (T.done target.old) (T.done target.new))) }
+    ensures done { OnOk result (IfSome (R.remaining image.old) (λ bytes. HasUnpackedImage layout bytes (T.done target.old) (T.done target.new))) }
 
     // The follower is told of the whole, and of each action that is done.
-    ensures told { IfSome (R.remaining image.old) (λ bytes. IsToldOfActionsDone (AreActionsUnpackingImage block_size page bytes) (T.done target.old) (T.done target.new) (F.told progress.old) (F.told progress.new) result) }
+    ensures told { IfSome (R.remaining image.old) (λ bytes. IsToldOfActionsDone (AreActionsUnpackingImage layout bytes) (T.done target.old) (T.done target.new) (F.told progress.old) (F.told progress.new) result) }
 
     // Nothing is done, or a beginning of the actions, where the target failed or memory ran out.
-    ensures failed { IfErr result (FailsToUnpackKnownImage block_size page (R.remaining image.old) (T.done target.old) (T.done target.new)) }
+    ensures failed { IfErr result (FailsToUnpackKnownImage layout (R.remaining image.old) (T.done target.old) (T.done target.new)) }
 
     // When each error comes.
     ensures input { IsThisErrorExactlyIfOneCallFailed ToolError.Input (R.faults image.old) (R.faults image.new) result }
@@ -212,5 +210,5 @@ pub fn unpack<R: ImageInput, T: Target, F: FollowsProgress>(
     ensures output { IsThisErrorExactlyIfOneCallFailed ToolError.Output (T.faults target.old) (T.faults target.new) result }
 {
     let bytes = read_image(alloc, image)?;
-    unpack_image(alloc, bytes, block_size, page, target, progress)
+    unpack_image(alloc, bytes, layout, target, progress)
 }

@@ -11,17 +11,39 @@ pub enum AcceptedOrders {
     Either,
 }
 
+/// A limit of a superblock that isn't the one with which an image is written, in bytes.
+#[derive(Clone, Copy, Debug, PartialEq, Eq, Drop)]
+pub enum OtherLimit {
+    /// The longest name.
+    Name(u32),
+    /// The longest file.
+    File(u32),
+    /// The longest attribute.
+    Attr(u32),
+}
+
 /// Whether an image is in the writing profile, so that it may be changed, or what of it isn't.
 #[derive(Clone, Copy, Debug, PartialEq, Eq, Drop)]
 pub enum WritingProfile {
     /// Within it.
     Within,
-    /// A superblock has other limits than those of a fresh image.
-    OtherLimits { pair: [u32; 2], slot: usize },
-    /// A file has more bytes inline than an eighth of a block.
-    LongInline { pair: [u32; 2], slot: usize },
+    /// A superblock has other limits than the profile. This is the first of these.
+    OtherLimits {
+        pair: [u32; 2],
+        slot: usize,
+        limit: OtherLimit,
+    },
+    /// A file has more bytes inline than an eighth of a block, or than the profile's `inline_max`, where
+    /// that is less.
+    LongInline {
+        pair: [u32; 2],
+        slot: usize,
+        inline_max: Option<u32>,
+    },
     /// A pair in which a directory goes on has no slot.
-    EmptyPair { pair: [u32; 2] },
+    EmptyPair {
+        pair: [u32; 2],
+    },
     /// A pair has more slots or bytes than it may have after a compaction, or an entry takes more than
     /// half of that.
     TooLarge,

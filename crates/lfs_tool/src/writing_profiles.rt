@@ -1,26 +1,25 @@
 // What of an image isn't in the writing profile.
 
-ghost use Rattle.std.specs.Prelude.{◌≡◌, ◌≢◌, ◌↔◌, ◌<◌, [], All, IfOk, IfSome, IsTrue, List, None, false, length, map, true};
+ghost use Rattle.std.specs.Prelude.{◌≡◌, ◌≢◌, ◌<◌, [], All, IfOk, IfSome, List, None, false, length, map, true};
 ghost use Rattle.lfs_model.specs.Disk.{Disk};
 ghost use Rattle.lfs_model.specs.Profile.{AreNoEmptyPairsAfterHardTails, HasInlineBytesWithinLimit, IsWritableImage};
 ghost use Rattle.lfs_model.specs.Slots.{pair_address_of_array};
 ghost use Rattle.lfs_model.specs.Thread.{Pair, is_hard_tail, pair_count_before_root, pairs_from_root_directory_on};
 ghost use Rattle.lfs_model.specs.View.{IsAcceptedImage};
-ghost use Rattle.lfs_tag.specs.FieldsView.{superblock_view};
 ghost use Rattle.lfs_lookup.specs.Items.{owned_struct_view};
 ghost use Rattle.lfs_lookup.specs.Reading.{OnlyReadsThreadAndReportsErrors};
-ghost use Rattle.lfs_tool.specs.OutsideProfile.{HasInlineBytesWithinLimitIfEntry, HasWrittenLimits, HasWrittenLimitsIfSuperblock, IsEntrySlotWithLongInlineBytes, IsSuperblockSlotWithOtherLimits, IsTrueOfAllSlots, IsTrueOfSlot, IsTrueOfSlotInThread};
+ghost use Rattle.lfs_tool.specs.OutsideProfile.{HasInlineBytesWithinLimitIfEntry, IsEntrySlotWithLongInlineBytes, IsTrueOfAllSlots, IsTrueOfSlot, IsTrueOfSlotInThread};
 ghost use Rattle.lfs_tool.specs.OwnedSlots.{pairs_without_attributes};
 ghost use Rattle.lfs_tool.specs.OwnedSlotView.{owned_slot_view, owned_pair_view, owned_pairs_view};
-ghost use Rattle.lfs_tool.specs.WritingProfiles.{IsEmptyPairAfterHardTail, IsWritingProfileOfImage};
+ghost use Rattle.lfs_tool.specs.WritingProfiles.{IsEmptyPairAfterHardTail, IsWritingProfileOfImage, inline_max_if_less};
 
 use crate::owned_pairs::owned_pairs_of_thread;
 use crate::owned_parts::{OwnedPair, OwnedSlot};
-use crate::superblock_checks::superblock_fields_of_struct;
+use crate::superblock_limits::place_of_other_limit;
 use crate::verdict::WritingProfile;
 use lfs_device::{BlockDevice, Error, Geometry};
 use lfs_lookup::{OwnedStruct, is_writable};
-use lfs_tag::{Superblock, has_hard_tail};
+use lfs_tag::has_hard_tail;
 use lfs_thread::Thread;
 use std::alloc::Global;
 
@@ -29,56 +28,6 @@ use std::alloc::Global;
 struct SlotPlace {
     pair: [u32; 2],
     slot: usize,
-}
-
-// Returns whether these are the limits of a fresh image.
-fn has_limits_of_fresh_image(fields: &Superblock) -> bool
-    ensures { IsTrue result ↔ HasWrittenLimits (superblock_view fields.now) }
-{
-    fields.name_max == 255 && fields.file_max == 2_147_483_647 && fields.attr_max == 1022
-}
-
-// Returns whether a slot is a superblock's, and has other limits than those of a fresh image.
-fn is_superblock_with_other_limits(slot: &OwnedSlot) -> bool
-    ensures other { result ≡ true → IsSuperblockSlotWithOtherLimits (owned_slot_view slot.now) }
-    ensures same { result ≡ false → HasWrittenLimitsIfSuperblock (owned_slot_view slot.now) }
-{
-    if !slot.kind.is_superblock() {
-        return false;
-    }
-    match superblock_fields_of_struct(&slot.structure) {
-        Some(fields) => !has_limits_of_fresh_image(&fields),
-        None => true,
-    }
-}
-
-// Returns the number of the first superblock that has other limits.
-fn first_superblock_with_other_limits(slots: &[OwnedSlot]) -> Option<usize>
-    ensures there { IfSome result (IsTrueOfSlot IsSuperblockSlotWithOtherLimits (map owned_slot_view slots.now)) }
-    ensures none { result ≡ None → All HasWrittenLimitsIfSuperblock (map owned_slot_view slots.now) }
-{
-    for (id, slot) in slots.iter().enumerate() {
-        if is_superblock_with_other_limits(slot) {
-            return Some(id);
-        }
-    }
-    None
-}
-
-// Returns where the first superblock with other limits is.
-fn place_of_other_limits(pairs: &[OwnedPair]) -> Option<SlotPlace>
-    ensures there { IfSome result (λ place. IsTrueOfSlotInThread IsSuperblockSlotWithOtherLimits (owned_pairs_view pairs.now) (pair_address_of_array place.pair) place.slot) }
-    ensures none { result ≡ None → IsTrueOfAllSlots HasWrittenLimitsIfSuperblock (owned_pairs_view pairs.now) }
-{
-    for pair in pairs {
-        if let Some(slot) = first_superblock_with_other_limits(&pair.slots) {
-            return Some(SlotPlace {
-                pair: pair.at,
-                slot,
-            });
-        }
-    }
-    None
 }
 
 // Returns whether a struct has more bytes inline than the limit.
@@ -154,18 +103,31 @@ fn first_empty_pair_after_hard_tail(pairs: &[OwnedPair], root: usize) -> Option<
     None
 }
 
+// Returns the profile's own limit of a file that is inline, where it is less than that of the blocks.
+fn inline_max_if_less(geometry: &Geometry) -> Option<u32>
+    ensures { result ≡ inline_max_if_less geometry.now.profile geometry.now.block_size }
+{
+    let most = (geometry.block_size / 8).min(1022);
+    if geometry.profile.inline_max < most {
+        Some(geometry.profile.inline_max)
+    } else {
+        None
+    }
+}
+
 // Returns what of an accepted image isn't in the writing profile. The pairs are those of its thread.
 // The root directory's first pair has the number `root`.
 fn writing_profile_cause(pairs: &[OwnedPair], geometry: &Geometry, root: usize) -> WritingProfile
     requires root { root ≡ pair_count_before_root (owned_pairs_view pairs.now) }
     requires below { root < length pairs.now }
-    ensures { (disk : Disk) (ps : List Pair) → owned_pairs_view pairs.now ≡ pairs_without_attributes ps → disk.block_size ≡ geometry.now.block_size → IsAcceptedImage disk ps → ¬ IsWritableImage disk ps → IsWritingProfileOfImage disk ps result }
+    ensures { (disk : Disk) (ps : List Pair) → owned_pairs_view pairs.now ≡ pairs_without_attributes ps → disk.block_size ≡ geometry.now.block_size → disk.profile ≡ geometry.now.profile → IsAcceptedImage disk ps → ¬ IsWritableImage disk ps → IsWritingProfileOfImage disk ps result }
 {
-    if let Some(place) = place_of_other_limits(pairs) {
+    if let Some(place) = place_of_other_limit(pairs, geometry) {
         let pair = place.pair;
         return WritingProfile::OtherLimits {
             pair,
             slot: place.slot,
+            limit: place.limit,
         };
     }
     let limit = geometry.inline_limit();
@@ -174,6 +136,7 @@ fn writing_profile_cause(pairs: &[OwnedPair], geometry: &Geometry, root: usize) 
         return WritingProfile::LongInline {
             pair,
             slot: place.slot,
+            inline_max: inline_max_if_less(geometry),
         };
     }
     match first_empty_pair_after_hard_tail(pairs, root) {

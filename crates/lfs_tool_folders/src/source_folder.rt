@@ -1,11 +1,11 @@
 ghost use Rattle.std.specs.Prelude.{◌≡◌, ◌↔◌, IfOk, suc};
 ghost use Rattle.std.specs.IoError.{error_kind};
-ghost use Rattle.lfs_tool_folders.specs.Roots.{root_path_of_source_folder, file_size_read_limit};
+ghost use Rattle.lfs_tool_folders.specs.Roots.{root_path_of_source_folder, file_limits_of_source_folder};
 
 use crate::file_bytes::read_at_most;
 use crate::full_path::full_path;
 use crate::zeros::{number_of_zeros_refused_like_too_long_file, zeros};
-use crate::{FaultLog, ListedName, Source, SourceError, SourceKind, Tally};
+use crate::{FaultLog, FileLimits, ListedName, Source, SourceError, SourceKind, Tally};
 use std::alloc::{AllocError, Global};
 use std::fs::{File, FileType, Metadata, OpenFile};
 use std::io::ErrorKind;
@@ -22,8 +22,7 @@ pub struct Folder<'a, R> {
     rt: &'a R,
     root: String,
     log: &'a FaultLog,
-    // The most bytes of a file that is read.
-    size: u64,
+    limits: FileLimits,
     faults: Tally,
 }
 
@@ -64,37 +63,28 @@ impl<'a, R: Files + AllocGlobal + Clone + Drop> Folder<'a, R> {
     pub fn new(rt: &'a R, log: &'a FaultLog, root: &str) -> Result<Folder<'a, R>, AllocError>
         ensures root { IfOk result (λ f. root_path_of_source_folder f ≡ root.now) }
     {
-        Folder::with_file_size_limit(rt, log, root, u64::MAX)
+        let limits = FileLimits {
+            image: u64::MAX,
+            file: u64::MAX,
+        };
+        Folder::with_file_limits(rt, log, root, limits)
     }
 
-    /// Makes the same source for an image of so many bytes.
-    pub fn for_image_of_size(
+    /// Makes the same source for an image of such a size, with files of such a length.
+    pub fn with_file_limits(
         rt: &'a R,
         log: &'a FaultLog,
         root: &str,
-        size: u32,
+        limits: FileLimits,
     ) -> Result<Folder<'a, R>, AllocError>
         ensures root { IfOk result (λ f. root_path_of_source_folder f ≡ root.now) }
-        ensures limit { IfOk result (λ f. file_size_read_limit f ≡ size) }
-    {
-        Folder::with_file_size_limit(rt, log, root, size as u64)
-    }
-
-    // Makes a source of which files of at most so many bytes are read.
-    fn with_file_size_limit(
-        rt: &'a R,
-        log: &'a FaultLog,
-        root: &str,
-        size: u64,
-    ) -> Result<Folder<'a, R>, AllocError>
-        ensures root { IfOk result (λ f. root_path_of_source_folder f ≡ root.now) }
-        ensures limit { IfOk result (λ f. file_size_read_limit f ≡ size) }
+        ensures limits { IfOk result (λ f. file_limits_of_source_folder f ≡ limits) }
     {
         Ok(Folder {
             rt,
             root: String::from_str(rt.alloc(), root)?,
             log,
-            size,
+            limits,
             faults: Tally::none(),
         })
     }
@@ -126,16 +116,16 @@ impl<'a, R: Files + AllocGlobal + Clone + Drop> Folder<'a, R> {
     fn read_file_bytes(&self, path: &[u8], listed_len: u64) -> io::Result<Vec<u8>> {
         let full = full_path(self.rt.alloc(), self.root.as_str(), path)?;
         let file = File::open(self.rt, full.as_str())?;
-        let len = if listed_len > self.size {
+        let len = if listed_len > self.limits.image {
             file.metadata()?.len()
         } else {
             listed_len
         };
-        if let Some(count) = number_of_zeros_refused_like_too_long_file(len, self.size) {
+        if let Some(count) = number_of_zeros_refused_like_too_long_file(len, self.limits) {
             return Ok(zeros(self.rt.alloc(), count)?);
         }
         // A file that has become longer since is too long, too.
-        let most = self.size.saturating_add(1);
+        let most = self.limits.image.saturating_add(1);
         read_at_most(self.rt.alloc(), file, len as usize, most)
     }
 

@@ -5,15 +5,15 @@ use Rattle.std.specs.Prelude.{IfOk}
 use Rattle.clap.specs.Words.{App, FailsBy, HasMatchesOf, Kinds, Text, fault_of, found_of, is_simple, is_simple_and_free, matches_of, rows_of}
 use Rattle.clap.specs.declared.error.Error.{Error}
 use Rattle.clap.specs.declared.parser.ArgMatches.{ArgMatches}
-use Rattle.lfs_tool_line.specs.Command.{mklittlefs, with_mode_options, with_size_options}
+use Rattle.lfs_tool_line.specs.Command.{mklittlefs, with_board_and_version_options, with_limit_options, with_mode_options, with_mode_size_and_order_options, with_size_options}
 use Rattle.lfs_tool_line.specs.Matches.{faults, rows}
 
 is_simple_command : is_simple mklittlefs ≡ true
-unfolding mklittlefs with_mode_options with_size_options
+unfolding mklittlefs with_mode_size_and_order_options with_mode_options with_size_options with_limit_options with_board_and_version_options
 is_simple_command = refl
 
 is_free_command : is_simple_and_free mklittlefs ≡ true
-unfolding mklittlefs with_mode_options with_size_options
+unfolding mklittlefs with_mode_size_and_order_options with_mode_options with_size_options with_limit_options with_board_and_version_options
 is_free_command = refl
 
 matches_along : (a b : App) (words : List Text) (m : ArgMatches) → a ≡ b → is_simple b ≡ true → HasMatchesOf a words m

@@ -1,15 +1,24 @@
 -- The values of a line of words.
-use Rattle.std.specs.Prelude.{◌≡◌, ◌∷◌, if◌then◌else◌, pos, ℕ, [], Bool, List, Option, Some, None, true, false, codes, is_some, option_map, count_by}
+use Rattle.std.specs.Prelude.{◌≡◌, ◌∷◌, if◌then◌else◌, ℕ, [], Bool, List, Option, Some, None, true, codes, is_some, unwrap_or, count_by}
 use Rattle.std.specs.Str.{bytes_eq}
-use Rattle.std.specs.Str.Parse.{digits_value, without_leading_plus}
-use Rattle.clap.specs.Words.{Kinds, Row, Text, fault_of, first_of, matches_of, one_of}
-use Rattle.clap.specs.Words.{HasKind, IsSignedIn, first_value, one_text, without_minus}
+use Rattle.clap.specs.Words.{Kinds, Row, Text, fault_of, first_of, matches_of}
+use Rattle.clap.specs.Words.{HasKind, first_value}
 use Rattle.clap.specs.declared.parser.matches.Found.{Found}
+use Rattle.lfs_model.specs.declared.limits.AcceptedVersions.{AcceptedVersions}
+use Rattle.lfs_model.specs.declared.limits.AcceptedVersions.TheVariants.{AlsoTwoOne}
+use Rattle.lfs_model.specs.declared.limits.Profile.{Profile}
 use Rattle.lfs_model.specs.declared.order.NameOrder.{NameOrder}
 use Rattle.lfs_model.specs.declared.order.NameOrder.TheVariants.{LongerFirst, ShorterFirst}
+use Rattle.lfs_tool_line.specs.Boards.{block_size_of_board, board_with_name, profile_of_board}
 use Rattle.lfs_tool_line.specs.Command.{mklittlefs}
+use Rattle.lfs_tool_line.specs.Limits.{first_broken_limit}
+use Rattle.lfs_tool_line.specs.Values.{HasNumberOf32BitsIfGiven, flag_value_in_rows, number_or}
+use Rattle.lfs_tool_line.specs.declared.board.Board.{Board}
+use Rattle.lfs_tool_line.specs.declared.board.Board.TheVariants.{Unnamed}
+use Rattle.lfs_tool_line.specs.declared.limits.Limit.{Limit}
 use Rattle.lfs_tool_line.specs.declared.line.Line.{Line}
 use Rattle.lfs_tool_line.specs.declared.line.LineError.{LineError}
+use Rattle.lfs_tool_line.specs.declared.line.LineError.TheVariants as error
 use Rattle.lfs_tool_line.specs.declared.line.LineError.TheVariants.{Modes, NotUtf8, Order, Parser}
 use Rattle.lfs_tool_line.specs.declared.line.Mode.{Mode}
 use Rattle.lfs_tool_line.specs.declared.line.Mode.TheVariants as mode
@@ -24,22 +33,6 @@ faults words = fault_of mklittlefs words
 
 abbrev pub ParserAcceptsWords : List Text → Type 0
 ParserAcceptsWords words = faults words ≡ []
-
--- the value of an option that takes a number
-abbrev pub number_in_option_text : Text → ℕ
-number_in_option_text text = digits_value 10 (without_leading_plus text)
-
-abbrev pub numeric_option_value_in_rows : Text → List Row → Option ℕ
-numeric_option_value_in_rows id rows = option_map number_in_option_text (one_of id rows)
-
--- the flag's text, which clap gives as true or false
-abbrev pub is_flag_text_true : Option Text → Bool
-is_flag_text_true None = false
-is_flag_text_true (Some text) = bytes_eq text (codes "true")
-
--- the value of a flag
-abbrev pub flag_value_in_rows : Text → List Row → Bool
-flag_value_in_rows id rows = is_flag_text_true (one_of id rows)
 
 abbrev pub is_list_requested : List Row → Bool
 is_list_requested rows = flag_value_in_rows (codes "list") rows
@@ -83,33 +76,82 @@ given_name_order rows = name_order_of_text_if_present (first_of (codes "order") 
 abbrev pub HasValidNameOrder : List Row → Type 0
 HasValidNameOrder rows = is_some (given_name_order rows) ≡ true
 
+-- the board that is given
+abbrev pub board_of_text_if_present : Option Text → Option Board
+board_of_text_if_present None = Some Unnamed
+board_of_text_if_present (Some text) = board_with_name text
+
+abbrev pub given_board : List Row → Option Board
+given_board rows = board_of_text_if_present (first_of (codes "board") rows)
+
+-- the board that is given is one
+abbrev pub HasKnownBoard : List Row → Type 0
+HasKnownBoard rows = is_some (given_board rows) ≡ true
+
+abbrev pub given_or_no_board : List Row → Board
+given_or_no_board rows = unwrap_or (given_board rows) Unnamed
+
+-- the size of a block, which is the board's where none is given
+abbrev pub given_block_size : List Row → ℕ
+given_block_size rows = number_or (block_size_of_board (given_or_no_board rows)) (codes "block_size") rows
+
+-- the versions that are accepted
+abbrev pub given_or_other_versions : AcceptedVersions → List Row → AcceptedVersions
+given_or_other_versions other rows = if flag_value_in_rows (codes "later") rows then AlsoTwoOne else other
+
+-- a profile with the limits and versions that are given
+abbrev pub given_or_other_profile : Profile → List Row → Profile
+given_or_other_profile other rows = record other {
+  versions = given_or_other_versions other.versions rows;
+  name_max = number_or other.name_max (codes "name_max") rows;
+  file_max = number_or other.file_max (codes "file_max") rows;
+  attr_max = number_or other.attr_max (codes "attr_max") rows;
+  inline_max = number_or other.inline_max (codes "inline_max") rows;
+}
+
+-- the profile, which is the board's where no limit and no version is given
+abbrev pub given_profile : List Row → Profile
+given_profile rows = given_or_other_profile (profile_of_board (given_or_no_board rows)) rows
+
+-- the first limit that breaks its rule
+abbrev pub broken_limit : List Row → Option Limit
+broken_limit rows = first_broken_limit (given_block_size rows) rows
+
 -- each part of the line is the value that the words give it, or its default
 pub record IsCommandLineOfParsedArguments (rows : List Row) (line : Line) : Type 0 where
   pub one_mode : HasOneMode rows
   pub mode : IsModeOfParsedArguments rows line.mode
-  pub block_size : numeric_option_value_in_rows (codes "block_size") rows ≡ Some line.block_size
-  pub page : numeric_option_value_in_rows (codes "page") rows ≡ Some line.page
-  pub size : numeric_option_value_in_rows (codes "size") rows ≡ Some line.size
+  pub known_board : HasKnownBoard rows
+  pub block_size : given_block_size rows ≡ line.block_size
+  pub page : number_or 256 (codes "page") rows ≡ line.page
+  pub size : number_or 65536 (codes "size") rows ≡ line.size
   pub order : given_name_order rows ≡ Some line.order
   pub explain : is_error_explanation_requested rows ≡ line.explain
+  pub limits : broken_limit rows ≡ None
+  pub profile : given_profile rows ≡ line.profile
   pub image : first_of (codes "image") rows ≡ Some line.image.now
 
--- the option has a text that reads as a number of 32 bits
-abbrev pub HasOptionNumberOf32Bits : Found → Text → Type 0
-HasOptionNumberOf32Bits f id = (t : Text) × (one_text f id ≡ Some (without_minus t))
-    × IsSignedIn (pos 0) (pos 4294967295) t
-
--- each value that is required, or has a default, is there
-pub record HasAllRequiredAndDefaultedArgumentValues (f : Found) : Type 0 where
-  pub block_size : HasOptionNumberOf32Bits f (codes "block_size")
-  pub page : HasOptionNumberOf32Bits f (codes "page")
-  pub size : HasOptionNumberOf32Bits f (codes "size")
+-- the image is there, and each number that is given is one
+pub record HasReadableArgumentValues (f : Found) : Type 0 where
+  pub block_size : HasNumberOf32BitsIfGiven f (codes "block_size")
+  pub page : HasNumberOf32BitsIfGiven f (codes "page")
+  pub size : HasNumberOf32BitsIfGiven f (codes "size")
+  pub name_max : HasNumberOf32BitsIfGiven f (codes "name_max")
+  pub file_max : HasNumberOf32BitsIfGiven f (codes "file_max")
+  pub attr_max : HasNumberOf32BitsIfGiven f (codes "attr_max")
+  pub inline_max : HasNumberOf32BitsIfGiven f (codes "inline_max")
   pub image : is_some (first_value f (codes "image")) ≡ true
 
+-- the parser takes the words, which name one mode, and an order and a board that are known
+abbrev pub NamesModeOrderAndBoard : List Text → Type 0
+NamesModeOrderAndBoard words = ParserAcceptsWords words × HasOneMode (rows words) × HasValidNameOrder (rows words) × HasKnownBoard (rows words)
+
 -- The cause for which there is no line: the parser refuses the words; or it takes them and not exactly one mode is given; or an
--- order is none of the two. Text is UTF-8.
+-- order is none of the two; or a board is none of the four; or a limit breaks its rule, and none before it does. Text is UTF-8.
 abbrev pub IsLineErrorOfWords : List Text → LineError → Type 0
 IsLineErrorOfWords words (Parser e) = HasKind (faults words) e
 IsLineErrorOfWords words Modes = ParserAcceptsWords words × ¬ HasOneMode (rows words)
 IsLineErrorOfWords words Order = ParserAcceptsWords words × HasOneMode (rows words) × ¬ HasValidNameOrder (rows words)
+IsLineErrorOfWords words error.Board = ParserAcceptsWords words × HasOneMode (rows words) × HasValidNameOrder (rows words) × ¬ HasKnownBoard (rows words)
+IsLineErrorOfWords words (error.Limit limit) = NamesModeOrderAndBoard words × (broken_limit (rows words) ≡ Some limit)
 IsLineErrorOfWords words NotUtf8 = ⊥

@@ -2,10 +2,11 @@
 
 ghost use Rattle.std.specs.Prelude.{◌≡◌, IfOk, codes, map, false};
 ghost use Rattle.clap.specs.Words.{FailsBy, app_of, found_of, new_app, rows_of, rule_of, with_rule};
-ghost use Rattle.lfs_tool_line.specs.Command.{rule_of_check_option, rule_of_explain_option, rule_of_folder_option, rule_of_image_argument, rule_of_list_option, mklittlefs, rule_of_number_option, rule_of_order_option, with_mode_options, with_size_options, with_version_option};
-ghost use Rattle.lfs_tool_line.specs.Matches.{HasAllRequiredAndDefaultedArgumentValues, faults, rows};
+ghost use Rattle.lfs_tool_line.specs.Command.{rule_of_check_option, rule_of_explain_option, rule_of_folder_option, rule_of_image_argument, rule_of_list_option, mklittlefs, rule_of_number_option, rule_of_order_option, with_mode_options, with_mode_size_and_order_options, with_size_options, with_version_option};
+ghost use Rattle.lfs_tool_line.specs.Matches.{HasReadableArgumentValues, faults, rows};
 
-use clap::{Arg, ArgAction, ArgMatches, Command, Error, value_parser};
+use crate::options::{number_arg, with_board_and_version_options, with_limit_options};
+use clap::{Arg, ArgAction, ArgMatches, Command, Error};
 use std::alloc::{AllocError, Global};
 use std::convert::AsStr;
 
@@ -23,6 +24,8 @@ Examples:
   mklittlefs -c settings -b 1024 -p 128 -s 262144 disk.img
   mklittlefs -l -b 1024 -p 128 disk.img  one of 256 KiB with other blocks
   mklittlefs -c settings --order shorter-first disk.img
+  mklittlefs -c settings --board esp32 -s 1441792 disk.img
+  mklittlefs -l --also-2.1 disk.img      lists one that firmware has changed
   mklittlefs --explain -l disk.img       says why where it isn't listed
   mklittlefs -c settings - > disk.img    writes the image to standard output
   mklittlefs -l - < disk.img             reads the image from standard input
@@ -33,6 +36,29 @@ Sizes:
   -s  a multiple of -b: from 2 to 65536 blocks, and at most 268435456
   With -l, -u and --check the size is that of IMAGE, and -b is the one that it
   was made with.
+
+Limits:
+  --name-max    from 1 to 255
+  --file-max    from 1 to 2147483647
+  --attr-max    from 1 to 1022
+  --inline-max  from 1 to 1022, and at most an eighth of -b
+  The first three are in the image: littlefs mounts one only where none of them
+  is larger than its own. A file of at most --inline-max bytes is kept in its
+  folder: littlefs changes it only where its cache_size is no smaller. --check
+  says by all four whether IMAGE may be changed.
+
+Boards:
+  NAME stands for these numbers, and for --also-2.1. A number that is given
+  comes before them.
+  esp8266      -b 8192 --name-max 32 --inline-max 64
+  esp32        -b 4096 --name-max 64 --inline-max 512
+  rp2040       -b 4096 --inline-max 256
+  micropython  -b 4096 --inline-max 128
+
+Versions:
+  -c makes images of version 2.0. Since its release 2.6 littlefs makes them
+  images of version 2.1 when it changes them. With --also-2.1 -l, -u and --check
+  read these, too.
 
 Order:
   Names stand by their bytes. Where one begins another, as a and ab, either the
@@ -73,40 +99,17 @@ fn with_folder_option<'a>(
     command.arg(folder_arg(alloc, id, short, help))
 }
 
-fn number_arg<'a>(
-    alloc: Global,
-    id: &'a str,
-    short: char,
-    long: &'a str,
-    default: &'a str,
-    help: &'a str,
-) -> Arg<'a>
-    ensures rule { rule_of result ≡ rule_of_number_option id.entry.now short long.entry.now default.entry.now }
-    ensures local { result.global ≡ false }
-{
-    Arg::new(alloc, id)
-        .short(short)
-        .long(long)
-        .action(ArgAction::Set)
-        .value_name("N")
-        .value_parser(value_parser!(u32))
-        .default_value(default)
-        .help(help)
-}
-
-// Adds an option that takes a number, with its default.
+// Adds an option that takes a number.
 fn with_number_option<'a>(
     alloc: Global,
     command: Command<'a>,
     id: &'a str,
-    short: char,
-    long: &'a str,
-    default: &'a str,
+    names: (char, &'a str),
     help: &'a str,
 ) -> Result<Command<'a>, AllocError>
-    ensures { IfOk result (λ c. app_of c ≡ with_rule (app_of command.entry) (rule_of_number_option id.entry.now short long.entry.now default.entry.now)) }
+    ensures { IfOk result (λ c. app_of c ≡ with_rule (app_of command.entry) (rule_of_number_option id.entry.now names.entry.0 names.entry.1.now)) }
 {
-    command.arg(number_arg(alloc, id, short, long, default, help))
+    command.arg(number_arg(alloc, id, names.1, help).short(names.0))
 }
 
 fn arg_of_list_option<'a>(alloc: Global) -> Arg<'a>
@@ -210,7 +213,7 @@ fn clap_command_before_arguments_are_added<'a>(alloc: Global) -> Command<'a>
         .version(VERSION)
         .about("Creates, unpacks, lists or checks an image of a littlefs file system.")
         .override_usage(
-            "mklittlefs (-c DIR | -u DIR | -l | --check) [-b N] [-p N] [-s N] [--order ORDER] [--explain] IMAGE",
+            "mklittlefs (-c DIR | -u DIR | -l | --check) [-b N] [-p N] [-s N] [--order ORDER] [--name-max N] [--file-max N] [--attr-max N] [--inline-max N] [--board NAME] [--also-2.1] [--explain] IMAGE",
         )
         .after_help(EXAMPLES)
 }
@@ -235,26 +238,18 @@ fn with_create_unpack_list_and_check_options<'a>(
 fn with_size_options<'a>(alloc: Global, command: Command<'a>) -> Result<Command<'a>, AllocError>
     ensures { IfOk result (λ c. app_of c ≡ with_size_options (app_of command.entry)) }
 {
-    let block_size = "Size of a block in bytes";
-    let page = "Size of a page in bytes";
-    let size = "Size of the image in bytes, with -c";
-    let command = with_number_option(
-        alloc,
-        command,
-        "block_size",
-        'b',
-        "block",
-        "4096",
-        block_size,
-    )?;
-    let command = with_number_option(alloc, command, "page", 'p', "page", "256", page)?;
-    let command = with_number_option(alloc, command, "size", 's', "size", "65536", size)?;
+    let block_size = "Size of a block in bytes [default: 4096]";
+    let page = "Size of a page in bytes [default: 256]";
+    let size = "Size of the image in bytes, with -c [default: 65536]";
+    let command = with_number_option(alloc, command, "block_size", ('b', "block"), block_size)?;
+    let command = with_number_option(alloc, command, "page", ('p', "page"), page)?;
+    let command = with_number_option(alloc, command, "size", ('s', "size"), size)?;
     Ok(command)
 }
 
-// Makes the command of mklittlefs.
-fn mklittlefs_command<'a>(alloc: Global) -> Result<Command<'a>, AllocError>
-    ensures { IfOk result (λ c. app_of c ≡ mklittlefs) }
+// Makes the command with the options of modes, sizes and orders.
+fn with_mode_size_and_order_options<'a>(alloc: Global) -> Result<Command<'a>, AllocError>
+    ensures { IfOk result (λ c. app_of c ≡ with_mode_size_and_order_options) }
 {
     let command = with_create_unpack_list_and_check_options(
         alloc,
@@ -262,6 +257,16 @@ fn mklittlefs_command<'a>(alloc: Global) -> Result<Command<'a>, AllocError>
     )?;
     let command = with_size_options(alloc, command)?;
     let command = add_name_order_option_to_command(alloc, command)?;
+    Ok(command)
+}
+
+// Makes the command of mklittlefs.
+fn mklittlefs_command<'a>(alloc: Global) -> Result<Command<'a>, AllocError>
+    ensures { IfOk result (λ c. app_of c ≡ mklittlefs) }
+{
+    let command = with_mode_size_and_order_options(alloc)?;
+    let command = with_limit_options(alloc, command)?;
+    let command = with_board_and_version_options(alloc, command)?;
     let command = add_explain_option_to_command(alloc, command)?;
     let command = add_image_argument_to_command(alloc, command)?;
     Ok(command)
@@ -274,7 +279,7 @@ pub(crate) fn parse_command_line_words<'a, S: AsStr>(
 ) -> Result<ArgMatches<'a>, Error>
     ensures kinds { FailsBy (faults (map S.text words.entry.now)) result }
     ensures matches { IfOk result (λ m. rows_of (found_of m) ≡ rows (map S.text words.entry.now)) }
-    ensures complete { IfOk result (λ m. HasAllRequiredAndDefaultedArgumentValues (found_of m)) }
+    ensures complete { IfOk result (λ m. HasReadableArgumentValues (found_of m)) }
 {
     mklittlefs_command(alloc)?.try_get_matches_from(words)
 }

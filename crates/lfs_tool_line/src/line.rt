@@ -1,10 +1,14 @@
-ghost use Rattle.std.specs.Prelude.{◌≡◌, IfErr, IfOk, MatchOption, Some, map, option_map};
-ghost use Rattle.clap.specs.Words.{first_of, found_of, rows_of};
-ghost use Rattle.lfs_tool_line.specs.Matches.{HasOptionNumberOf32Bits, HasOneMode, HasAllRequiredAndDefaultedArgumentValues, IsLineErrorOfWords, IsCommandLineOfParsedArguments, IsModeOfParsedArguments, ParserAcceptsWords, flag_value_in_rows, numeric_option_value_in_rows, given_name_order, name_order_of_text, rows};
+ghost use Rattle.std.specs.Prelude.{◌≡◌, List, IfErr, IfOk, MatchOption, Some, map};
+ghost use Rattle.clap.specs.Words.{Text, found_of, rows_of};
+ghost use Rattle.lfs_tool_line.specs.Choices.{AreChoicesOfParsedArguments};
+ghost use Rattle.lfs_tool_line.specs.Matches.{HasOneMode, HasReadableArgumentValues, IsLineErrorOfWords, IsCommandLineOfParsedArguments, IsModeOfParsedArguments, ParserAcceptsWords, broken_limit, given_board, given_name_order, name_order_of_text, rows};
 
+use crate::board::Board;
 use crate::command::parse_command_line_words;
+use crate::limits::{Limit, first_broken_limit, given_or_other_profile};
+use crate::values::{argument_text, flag_value_in_matches, given_or_other_number};
 use clap::ArgMatches;
-use lfs_model::NameOrder;
+use lfs_model::{NameOrder, Profile};
 use std::alloc::Global;
 use std::convert::AsStr;
 use thiserror::Error;
@@ -36,8 +40,18 @@ pub struct Line<'a> {
     pub order: NameOrder,
     /// Whether further lines are to say why, after the line of an error.
     pub explain: bool,
+    /// What is accepted of the image, and the limits of the one to be made.
+    pub profile: Profile,
     /// The path of the image.
     pub image: &'a str,
+}
+
+// What of a line is one of several names.
+#[derive(Clone, Copy)]
+struct Choices<'a> {
+    mode: Mode<'a>,
+    order: NameOrder,
+    board: Board,
 }
 
 /// The cause for which there is no command line.
@@ -53,31 +67,15 @@ pub enum LineError {
     /// The order of names is neither `longer-first` nor `shorter-first`.
     #[error("error: --order is longer-first or shorter-first")]
     Order,
+    /// The board has another name than the four.
+    #[error("error: --board is esp8266, esp32, rp2040 or micropython")]
+    Board,
+    /// A limit is 0, or larger than it may be.
+    #[error("error: {}", .0.rule())]
+    Limit(Limit),
     /// A word isn't UTF-8. `read_line` doesn't return this, since its words are text.
     #[error("error: the command line is not UTF-8")]
     NotUtf8,
-}
-
-// Returns the text of an argument.
-fn argument_text<'a>(matches: &ArgMatches<'a>, id: &str) -> Option<&'a str>
-    ensures { option_map (λ s. s.now) result ≡ first_of id.now (rows_of (found_of matches.now)) }
-{
-    matches.get_str(id)
-}
-
-// Returns the value of a flag.
-fn flag_value_in_matches(matches: &ArgMatches<'_>, id: &str) -> bool
-    ensures { result ≡ flag_value_in_rows id.now (rows_of (found_of matches.now)) }
-{
-    matches.get_one::<bool>(id).unwrap_or(false)
-}
-
-// Returns the number of an option that has one.
-fn numeric_option_value_in_matches(matches: &ArgMatches<'_>, id: &str) -> u32
-    requires { HasOptionNumberOf32Bits (found_of matches.now) id.now }
-    ensures { numeric_option_value_in_rows id.now (rows_of (found_of matches.now)) ≡ Some result }
-{
-    matches.get_one::<u32>(id).unwrap()
 }
 
 // Returns the mode, where exactly one is given.
@@ -121,41 +119,76 @@ fn name_order_of_matches(matches: &ArgMatches<'_>) -> Option<NameOrder>
     }
 }
 
-// Returns the line of the matches.
-fn command_line_of_matches<'a>(
-    matches: &ArgMatches<'a>,
-    mode: Mode<'a>,
-    order: NameOrder,
-) -> Line<'a>
-    requires complete { HasAllRequiredAndDefaultedArgumentValues (found_of matches.now) }
-    requires one { HasOneMode (rows_of (found_of matches.now)) }
-    requires mode { IsModeOfParsedArguments (rows_of (found_of matches.now)) mode }
-    requires order { given_name_order (rows_of (found_of matches.now)) ≡ Some order }
-    ensures { IsCommandLineOfParsedArguments (rows_of (found_of matches.now)) result }
+// Returns the board that is given, or none.
+fn board_of_matches(matches: &ArgMatches<'_>) -> Option<Board>
+    ensures { result ≡ given_board (rows_of (found_of matches.now)) }
 {
-    Line {
-        mode,
-        block_size: numeric_option_value_in_matches(matches, "block_size"),
-        page: numeric_option_value_in_matches(matches, "page"),
-        size: numeric_option_value_in_matches(matches, "size"),
-        order,
-        explain: flag_value_in_matches(matches, "explain"),
-        image: argument_text(matches, "image").unwrap(),
+    match argument_text(matches, "board") {
+        Some(text) => Board::with_name(text),
+        None => Some(Board::Unnamed),
     }
 }
 
+// Returns the choices of the matches, or the first one that is wrong.
+fn choices_of_matches<'a>(matches: &ArgMatches<'a>) -> Result<Choices<'a>, LineError>
+    ensures ok { IfOk result (AreChoicesOfParsedArguments (rows_of (found_of matches.now))) }
+    ensures err { (words : List Text) → ParserAcceptsWords words → rows_of (found_of matches.now) ≡ rows words → IfErr result (IsLineErrorOfWords words) }
+{
+    let Some(mode) = mode_of_matches(matches) else {
+        return Err(LineError::Modes);
+    };
+    let Some(order) = name_order_of_matches(matches) else {
+        return Err(LineError::Order);
+    };
+    match board_of_matches(matches) {
+        Some(board) => Ok(Choices { mode, order, board }),
+        None => Err(LineError::Board),
+    }
+}
+
+// Returns the line of the matches, or the first limit that breaks its rule.
+fn command_line_of_matches<'a>(
+    matches: &ArgMatches<'a>,
+    choices: Choices<'a>,
+) -> Result<Line<'a>, Limit>
+    requires values { HasReadableArgumentValues (found_of matches.now) }
+    requires choices { AreChoicesOfParsedArguments (rows_of (found_of matches.now)) choices }
+    ensures ok { IfOk result (IsCommandLineOfParsedArguments (rows_of (found_of matches.now))) }
+    ensures err { IfErr result (λ limit. broken_limit (rows_of (found_of matches.now)) ≡ Some limit) }
+{
+    let board = choices.board;
+    let block_size = given_or_other_number(matches, "block_size", board.block_size());
+    if let Some(limit) = first_broken_limit(matches, block_size) {
+        return Err(limit);
+    }
+    Ok(Line {
+        mode: choices.mode,
+        block_size,
+        page: given_or_other_number(matches, "page", 256),
+        size: given_or_other_number(matches, "size", 65536),
+        order: choices.order,
+        explain: flag_value_in_matches(matches, "explain"),
+        profile: given_or_other_profile(matches, board.profile()),
+        image: argument_text(matches, "image").unwrap(),
+    })
+}
+
 /// Reads the words of a command line, the program's name first:
-/// `mklittlefs (-c DIR | -u DIR | -l | --check) [-b N] [-p N] [-s N] [--order ORDER] [--explain] IMAGE`. The long
-/// names are `--create`, `--unpack`, `--list`, `--block`, `--page` and `--size`.
+/// `mklittlefs (-c DIR | -u DIR | -l | --check) [-b N] [-p N] [-s N] [--order ORDER] [--name-max N] [--file-max N]
+/// [--attr-max N] [--inline-max N] [--board NAME] [--also-2.1] [--explain] IMAGE`. The long names are `--create`,
+/// `--unpack`, `--list`, `--block`, `--page` and `--size`.
 ///
 /// A number is decimal, from 0 to 4294967295. Where an option isn't given, a block has 4096 bytes, a
-/// page 256 and the image 65536, and the longer names come first. ORDER is `longer-first` or `shorter-first`; it is read
-/// with each mode and matters with `-c` alone.
+/// page 256 and the image 65536, the longer names come first, and the limits are the format's own. With a board its
+/// block size, its limits and both versions hold in place of these. ORDER is `longer-first` or `shorter-first`, and NAME
+/// `esp8266`, `esp32`, `rp2040` or `micropython`. ORDER and the limits are read with each mode, and an image is made by
+/// them. `--also-2.1` is read with each mode, too, and matters without `-c` alone.
 ///
 /// # Errors
 /// `LineError::Parser` where the parser refuses the words, where they ask for help or for the version,
 /// or where memory isn't granted. `LineError::Modes` where it takes them and not exactly one of `-c`, `-u`, `-l` and
-/// `--check` is given, and `LineError::Order` where ORDER is neither.
+/// `--check` is given. `LineError::Order` where ORDER is neither, and `LineError::Board` where NAME is none of the four.
+/// `LineError::Limit` where a limit that is given is 0 or too large.
 pub fn read_line<'a, S: AsStr>(alloc: Global, words: &'a [S]) -> Result<Line<'a>, LineError>
     ensures ok { IfOk result (λ line. ParserAcceptsWords (map S.text words.entry.now)
         × IsCommandLineOfParsedArguments (rows (map S.text words.entry.now)) line) }
@@ -165,11 +198,12 @@ pub fn read_line<'a, S: AsStr>(alloc: Global, words: &'a [S]) -> Result<Line<'a>
         Ok(matches) => matches,
         Err(error) => return Err(LineError::Parser(error)),
     };
-    match mode_of_matches(&matches) {
-        Some(mode) => match name_order_of_matches(&matches) {
-            Some(order) => Ok(command_line_of_matches(&matches, mode, order)),
-            None => Err(LineError::Order),
-        },
-        None => Err(LineError::Modes),
+    let choices = match choices_of_matches(&matches) {
+        Ok(choices) => choices,
+        Err(error) => return Err(error),
+    };
+    match command_line_of_matches(&matches, choices) {
+        Ok(line) => Ok(line),
+        Err(limit) => Err(LineError::Limit(limit)),
     }
 }

@@ -7,7 +7,7 @@ use crate::images::{
 use crate::texts::check_text;
 use lfs_device::{Error, Geometry, RamDevice};
 use lfs_fixtures::{BlockFilling, FixtureEntries, image_with_second_commit};
-use lfs_tool::{WatchedStream, find_broken_rule_on_device};
+use lfs_tool::{ImageLayout, WatchedStream, find_broken_rule_on_device};
 use std::alloc::{AllocError, Global};
 use std::test::Fail;
 
@@ -21,14 +21,14 @@ const LONG_BLOCKS: &[u8] = &[
     0, 0, 2, 0, 0, 32, 0, 0, 16, 0, 0, 0, 255, 0, 0, 0, 255, 255, 255, 127, 254, 3, 0, 0,
 ];
 
-const LATER_VERSION: &[u8] = &[
+pub(crate) const LATER_VERSION: &[u8] = &[
     1, 0, 2, 0, 0, 16, 0, 0, 16, 0, 0, 0, 255, 0, 0, 0, 255, 255, 255, 127, 254, 3, 0, 0,
 ];
 
 // An image: a second commit of its first block, its other blocks, and the lines of its check.
 type Row<'a> = (FixtureEntries<'a>, &'a [(usize, BlockFilling<'a>)], &'a str);
 
-const FRESH: &str =
+pub(crate) const FRESH: &str =
     "ok\nfiles 0\ndirectories 0\nused 2 of 16 blocks\nfree 14\norder either\nrecover no\nwritable yes\n";
 
 const ACCEPTED: [Row<'static>; 11] = [
@@ -74,7 +74,7 @@ const ACCEPTED: [Row<'static>; 11] = [
         &[(0x2010_0018, SHORT_NAMES)],
         &[],
         "ok\nfiles 0\ndirectories 0\nused 2 of 16 blocks\nfree 14\norder either\nrecover no\n\
-        writable no: pair 0 1, slot 0: a superblock with other limits than this library writes\n",
+        writable no: pair 0 1, slot 0: a superblock with other limits than this library writes, name_max 32\n",
     ),
     (
         &[(0x0010_0401, b"a"), (0x2010_0658, &[7; 600])],
@@ -108,7 +108,7 @@ const ACCEPTED: [Row<'static>; 11] = [
         ],
         &[],
         "ok\nfiles 1\ndirectories 0\nused 2 of 16 blocks\nfree 14\norder either\nrecover no\n\
-        writable no: pair 0 1, slot 0: a superblock with other limits than this library writes\n",
+        writable no: pair 0 1, slot 0: a superblock with other limits than this library writes, name_max 32\n",
     ),
     // a file of 600 bytes in its slot, behind a pair without slots
     (
@@ -533,7 +533,7 @@ fn has_expected_check_text(alloc: Global, row: Row<'_>) -> Result<bool, AllocErr
     let (entries, others, wanted) = row;
     let image = image_with_second_commit(alloc, entries, others)?;
     let mut image = WatchedStream::new(image.as_slice());
-    let text = check_text(alloc, &mut image, 4096, 256)?;
+    let text = check_text(alloc, &mut image, ImageLayout::new(4096, 256))?;
     Ok(text.as_slice() == wanted.as_bytes())
 }
 
@@ -647,7 +647,7 @@ fn has_expected_size_check(
     let mut image = image_with_second_commit(alloc, &[], &[])?;
     image.resize(len, 0xff)?;
     let mut image = WatchedStream::new(image.as_slice());
-    let text = check_text(alloc, &mut image, block_size, page)?;
+    let text = check_text(alloc, &mut image, ImageLayout::new(block_size, page))?;
     Ok(text.as_slice() == wanted.as_bytes())
 }
 

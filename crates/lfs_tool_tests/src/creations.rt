@@ -3,7 +3,7 @@
 use crate::sources::{Items, memory_source_of_items};
 use crate::texts::{list_text, unpack_text, with_error_line};
 use lfs_device::{Error, Geometry};
-use lfs_tool::{WatchedStream, create};
+use lfs_tool::{ImageLayout, WatchedStream, create};
 use lfs_tool_folders::MemorySource;
 use std::alloc::Global;
 use std::test::Fail;
@@ -28,14 +28,14 @@ fn is_made_image_as_expected(
     if result.is_err() {
         return Ok(with_error_line(alloc, image, result)?.as_slice() == lines);
     }
-    let (block_size, page) = (geometry.block_size, geometry.page);
+    let layout = ImageLayout::new(geometry.block_size, geometry.page);
     let mut reader = WatchedStream::new(image.as_slice());
-    let is_listed = list_text(alloc, &mut reader, block_size, page)?.as_slice() == lines;
+    let is_listed = list_text(alloc, &mut reader, layout)?.as_slice() == lines;
     let Some(actions) = actions else {
         return Ok(is_listed);
     };
     let mut reader = WatchedStream::new(image.as_slice());
-    let done = unpack_text(alloc, &mut reader, block_size, page)?;
+    let done = unpack_text(alloc, &mut reader, layout)?;
     Ok(is_listed && done.as_slice() == actions)
 }
 

@@ -5,7 +5,7 @@ use crate::sources::memory_source_of_items;
 use crate::texts::{list_text, unpack_text, with_error_line};
 use lfs_device::{Error, Geometry};
 use lfs_fixtures::image_with_first_two_blocks;
-use lfs_tool::{WatchedStream, create, list};
+use lfs_tool::{ImageLayout, WatchedStream, create, list};
 use std::alloc::{AllocError, Global};
 use std::io;
 use std::io::{ErrorKind, Read, Write};
@@ -102,10 +102,11 @@ fn text_from_failing_reader(
     block_size: u32,
 ) -> Result<Vec<u8>, AllocError> {
     let mut reader = reader;
+    let layout = ImageLayout::new(block_size, 256);
     if is_unpacked {
-        unpack_text(alloc, &mut reader, block_size, 256)
+        unpack_text(alloc, &mut reader, layout)
     } else {
-        list_text(alloc, &mut reader, block_size, 256)
+        list_text(alloc, &mut reader, layout)
     }
 }
 
@@ -183,8 +184,7 @@ fn text_from_failing_writer(
         list(
             alloc,
             &mut WatchedStream::new(image),
-            4096,
-            256,
+            ImageLayout::new(4096, 256),
             &mut writer,
         )
     };

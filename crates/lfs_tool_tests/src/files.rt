@@ -1,6 +1,7 @@
 // Runs of the program over real files.
 
 use crate::images::{BELOW, ENTRIES};
+use crate::profile_runs::PROFILE_RUNS;
 use crate::sources::{Items, is_source_read_as_items};
 use lfs_device::Error;
 use lfs_fixtures::{BlockFilling, FixtureEntries, image_with_second_commit};
@@ -19,7 +20,7 @@ use std::{fs, io};
 
 // What is made at a path before a run.
 #[derive(Clone, Copy)]
-enum PathBeforeRun {
+pub(crate) enum PathBeforeRun {
     File(&'static str),
     Folder,
     // A symbolic link that leads there.
@@ -30,7 +31,7 @@ enum PathBeforeRun {
 
 // What stands at a path behind a run.
 #[derive(Clone, Copy)]
-enum PathAfterRun {
+pub(crate) enum PathAfterRun {
     // A file with this text.
     File(&'static str),
     // A file with so many bytes.
@@ -41,22 +42,22 @@ enum PathAfterRun {
 }
 
 // Runs one behind the other, where a folder of two files and an old image are.
-struct RunsInFolder {
+pub(crate) struct RunsInFolder {
     // What is made beside them.
-    before: &'static [(&'static str, PathBeforeRun)],
+    pub(crate) before: &'static [(&'static str, PathBeforeRun)],
     // The words of each run behind the program's name.
-    words: &'static [&'static [&'static str]],
+    pub(crate) words: &'static [&'static [&'static str]],
     // How the last run ends, and what it writes. Those before it end with 0 and write nothing.
-    status: u8,
-    out: &'static str,
-    err: &'static str,
-    behind: &'static [(&'static str, PathAfterRun)],
+    pub(crate) status: u8,
+    pub(crate) out: &'static str,
+    pub(crate) err: &'static str,
+    pub(crate) behind: &'static [(&'static str, PathAfterRun)],
 }
 
 // What the image's file holds before each run.
 const OLD: &str = "an older image";
 
-const OLD_IMAGE: &[(&str, PathAfterRun)] = &[("runs/image", PathAfterRun::File(OLD))];
+pub(crate) const OLD_IMAGE: &[(&str, PathAfterRun)] = &[("runs/image", PathAfterRun::File(OLD))];
 
 // Runs in which an image is made, or nothing is done.
 const MADE: [RunsInFolder; 22] = [
@@ -502,7 +503,10 @@ const LINKED: [RunsInFolder; 3] = [
 ];
 
 // A source with a file that is longer than an image of 4096 bytes.
-const LONG: (&str, PathBeforeRun) = ("runs/files/c", PathBeforeRun::Image(ENTRIES, BELOW));
+pub(crate) const LONG: (&str, PathBeforeRun) = (
+    "runs/files/c",
+    PathBeforeRun::Image(ENTRIES, BELOW),
+);
 
 const MAKING_SHORT: &[&[&str]] = &[&[
     "-c",
@@ -941,6 +945,7 @@ fn program_runs_are_as_expected(rt: HostRuntime) -> Result<(), Fail> {
     assert!(rt; are_image_runs_as_expected(&rt)?);
     assert!(rt; are_unpack_runs_as_expected(&rt)?);
     assert!(rt; are_replace_runs_as_expected(&rt)?);
+    assert!(rt; are_all_runs_as_expected(&rt, &PROFILE_RUNS)?);
     assert!(rt; are_run_errors_explained(&rt)?);
     assert!(rt; is_long_file_refused(&rt)?);
     assert!(rt; is_folder_without_image_explained(&rt)?);

@@ -5,7 +5,7 @@ use lfs_fixtures::{
     BlockFilling, FixtureEntries, beginning_of_block_with_superblock_and_commits,
     block_with_superblock_and_entries, image_with_first_two_blocks, image_with_second_commit,
 };
-use lfs_tool::WatchedStream;
+use lfs_tool::{ImageLayout, WatchedStream};
 use std::alloc::{AllocError, Global};
 use std::test::Fail;
 
@@ -464,10 +464,11 @@ fn has_expected_list_or_unpack_text(
     let (entries, others, wanted) = row;
     let image = image_with_second_commit(alloc, entries, others)?;
     let mut image = WatchedStream::new(image.as_slice());
+    let layout = ImageLayout::new(4096, 256);
     let text = if is_unpacked {
-        unpack_text(alloc, &mut image, 4096, 256)?
+        unpack_text(alloc, &mut image, layout)?
     } else {
-        list_text(alloc, &mut image, 4096, 256)?
+        list_text(alloc, &mut image, layout)?
     };
     Ok(text.as_slice() == wanted.as_bytes())
 }
@@ -614,7 +615,7 @@ fn is_odd_image_listed(
 ) -> Result<bool, AllocError> {
     let image = odd_image(alloc, odd)?;
     let mut image = WatchedStream::new(image.as_slice());
-    let text = list_text(alloc, &mut image, block_size, page)?;
+    let text = list_text(alloc, &mut image, ImageLayout::new(block_size, page))?;
     Ok(text.as_slice() == wanted.as_bytes())
 }
 
@@ -674,7 +675,8 @@ fn is_image_listed_with_inverted_byte(
     wanted: &str,
 ) -> Result<bool, AllocError> {
     invert_byte(image, at);
-    let text = list_text(alloc, &mut WatchedStream::new(&*image), 4096, 256)?;
+    let layout = ImageLayout::new(4096, 256);
+    let text = list_text(alloc, &mut WatchedStream::new(&*image), layout)?;
     invert_byte(image, at);
     Ok(text.as_slice() == wanted.as_bytes())
 }

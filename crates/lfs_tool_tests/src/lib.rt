@@ -20,6 +20,10 @@ mod lines;
 #[cfg(test)]
 mod memory;
 #[cfg(test)]
+mod profile_runs;
+#[cfg(test)]
+mod profiles;
+#[cfg(test)]
 mod progress;
 #[cfg(test)]
 mod sources;

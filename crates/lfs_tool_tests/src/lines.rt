@@ -1,10 +1,20 @@
 // Command lines, and what is shown of those that are refused.
 
 use crate::texts::report_of;
-use lfs_device::{Error, NameOrder};
+use lfs_device::{AcceptedVersions, Error, NameOrder, Profile};
 use lfs_tool::{Fault, Line, LineError, Mode, ToolError, read_line};
 use std::alloc::{AllocError, Global};
 use std::test::Fail;
+
+// What is accepted and written where no option says otherwise.
+const DEFAULT: Profile = Profile {
+    versions: AcceptedVersions::OnlyTwoZero,
+    name_max: 255,
+    file_max: 2_147_483_647,
+    attr_max: 1022,
+    inline_max: 1022,
+    pair_cycles: 0,
+};
 
 // The words of command lines, and what they say.
 const LINES: [(&[&str], Line<'static>); 9] = [
@@ -17,6 +27,7 @@ const LINES: [(&[&str], Line<'static>); 9] = [
             size: 65536,
             order: NameOrder::LongerFirst,
             explain: false,
+            profile: DEFAULT,
             image: "disk.img",
         },
     ),
@@ -29,6 +40,7 @@ const LINES: [(&[&str], Line<'static>); 9] = [
             size: 65536,
             order: NameOrder::LongerFirst,
             explain: false,
+            profile: DEFAULT,
             image: "-",
         },
     ),
@@ -41,6 +53,7 @@ const LINES: [(&[&str], Line<'static>); 9] = [
             size: 65536,
             order: NameOrder::LongerFirst,
             explain: false,
+            profile: DEFAULT,
             image: "disk.img",
         },
     ),
@@ -54,6 +67,7 @@ const LINES: [(&[&str], Line<'static>); 9] = [
             size: 8192,
             order: NameOrder::LongerFirst,
             explain: false,
+            profile: DEFAULT,
             image: "-",
         },
     ),
@@ -66,6 +80,7 @@ const LINES: [(&[&str], Line<'static>); 9] = [
             size: 65536,
             order: NameOrder::LongerFirst,
             explain: false,
+            profile: DEFAULT,
             image: "disk.img",
         },
     ),
@@ -89,6 +104,7 @@ const LINES: [(&[&str], Line<'static>); 9] = [
             size: 1024,
             order: NameOrder::ShorterFirst,
             explain: false,
+            profile: DEFAULT,
             image: "i",
         },
     ),
@@ -109,6 +125,7 @@ const LINES: [(&[&str], Line<'static>); 9] = [
             size: 4_294_967_295,
             order: NameOrder::LongerFirst,
             explain: false,
+            profile: DEFAULT,
             image: "i",
         },
     ),
@@ -131,6 +148,7 @@ const LINES: [(&[&str], Line<'static>); 9] = [
             size: 262_144,
             order: NameOrder::LongerFirst,
             explain: false,
+            profile: DEFAULT,
             image: "i",
         },
     ),
@@ -143,10 +161,184 @@ const LINES: [(&[&str], Line<'static>); 9] = [
             size: 65536,
             order: NameOrder::LongerFirst,
             explain: true,
+            profile: DEFAULT,
             image: "i",
         },
     ),
 ];
+
+// The same with limits, boards and versions.
+const PROFILES: [(&[&str], Line<'static>); 7] = [
+    (
+        &["mklittlefs", "-l", "--also-2.1", "i"],
+        Line {
+            mode: Mode::List,
+            block_size: 4096,
+            page: 256,
+            size: 65536,
+            order: NameOrder::LongerFirst,
+            explain: false,
+            profile: Profile {
+                versions: AcceptedVersions::AlsoTwoOne,
+                ..DEFAULT
+            },
+            image: "i",
+        },
+    ),
+    // the least of each limit, and the largest
+    (
+        &[
+            "mklittlefs",
+            "-cd",
+            "--name-max=1",
+            "--file-max=1",
+            "--attr-max=1",
+            "--inline-max=1",
+            "i",
+        ],
+        Line {
+            mode: Mode::Create("d"),
+            block_size: 4096,
+            page: 256,
+            size: 65536,
+            order: NameOrder::LongerFirst,
+            explain: false,
+            profile: Profile {
+                name_max: 1,
+                file_max: 1,
+                attr_max: 1,
+                inline_max: 1,
+                ..DEFAULT
+            },
+            image: "i",
+        },
+    ),
+    (
+        &[
+            "mklittlefs",
+            "-cd",
+            "--name-max",
+            "255",
+            "--file-max",
+            "2147483647",
+            "--attr-max",
+            "1022",
+            "--inline-max",
+            "512",
+            "i",
+        ],
+        Line {
+            mode: Mode::Create("d"),
+            block_size: 4096,
+            page: 256,
+            size: 65536,
+            order: NameOrder::LongerFirst,
+            explain: false,
+            profile: Profile {
+                inline_max: 512,
+                ..DEFAULT
+            },
+            image: "i",
+        },
+    ),
+    // each board, and what is given beside it
+    (
+        &["mklittlefs", "-cd", "--board", "esp8266", "i"],
+        Line {
+            mode: Mode::Create("d"),
+            block_size: 8192,
+            page: 256,
+            size: 65536,
+            order: NameOrder::LongerFirst,
+            explain: false,
+            profile: Profile {
+                versions: AcceptedVersions::AlsoTwoOne,
+                name_max: 32,
+                inline_max: 64,
+                ..DEFAULT
+            },
+            image: "i",
+        },
+    ),
+    (
+        &["mklittlefs", "--check", "--board=esp32", "-b1024", "i"],
+        Line {
+            mode: Mode::Check,
+            block_size: 1024,
+            page: 256,
+            size: 65536,
+            order: NameOrder::LongerFirst,
+            explain: false,
+            profile: Profile {
+                versions: AcceptedVersions::AlsoTwoOne,
+                name_max: 64,
+                inline_max: 512,
+                ..DEFAULT
+            },
+            image: "i",
+        },
+    ),
+    (
+        &[
+            "mklittlefs",
+            "-cd",
+            "i",
+            "--name-max",
+            "40",
+            "--board",
+            "rp2040",
+        ],
+        Line {
+            mode: Mode::Create("d"),
+            block_size: 4096,
+            page: 256,
+            size: 65536,
+            order: NameOrder::LongerFirst,
+            explain: false,
+            profile: Profile {
+                versions: AcceptedVersions::AlsoTwoOne,
+                name_max: 40,
+                inline_max: 256,
+                ..DEFAULT
+            },
+            image: "i",
+        },
+    ),
+    (
+        &[
+            "mklittlefs",
+            "-cd",
+            "--board",
+            "micropython",
+            "-b",
+            "8192",
+            "i",
+        ],
+        Line {
+            mode: Mode::Create("d"),
+            block_size: 8192,
+            page: 256,
+            size: 65536,
+            order: NameOrder::LongerFirst,
+            explain: false,
+            profile: Profile {
+                versions: AcceptedVersions::AlsoTwoOne,
+                inline_max: 128,
+                ..DEFAULT
+            },
+            image: "i",
+        },
+    ),
+];
+
+#[test]
+fn limits_and_boards_are_read(rt: HostRuntime) -> Result<(), Fail> {
+    for (words, wanted) in PROFILES {
+        let line = read_line(rt.alloc(), words)?;
+        assert!(rt; line == wanted, "{words:?}");
+    }
+    Ok(())
+}
 
 #[test]
 fn command_lines_are_read(rt: HostRuntime) -> Result<(), Fail> {
@@ -161,29 +353,45 @@ const MODES: &str = "error: give exactly one of -c, -u, -l\n";
 
 const ORDER: &str = "error: --order is longer-first or shorter-first\n";
 
+const BOARD: &str = "error: --board is esp8266, esp32, rp2040 or micropython\n";
+
+const NAME_MAX: &str = "error: --name-max is from 1 to 255\n";
+
+const FILE_MAX: &str = "error: --file-max is from 1 to 2147483647\n";
+
+const ATTR_MAX: &str = "error: --attr-max is from 1 to 1022\n";
+
+const INLINE_MAX: &str = "error: --inline-max is from 1 to 1022, and at most an eighth of -b\n";
+
 const VERSION: &str =
     "mklittlefs 1.0.0 (littlefs on-disk version 2.0, rattle-kit-13f logic dac8208d650f15bf)\n";
 
 const HELP: &str = "\
 Creates, unpacks, lists or checks an image of a littlefs file system.
 
-Usage: mklittlefs (-c DIR | -u DIR | -l | --check) [-b N] [-p N] [-s N] [--order ORDER] [--explain] IMAGE
+Usage: mklittlefs (-c DIR | -u DIR | -l | --check) [-b N] [-p N] [-s N] [--order ORDER] [--name-max N] [--file-max N] [--attr-max N] [--inline-max N] [--board NAME] [--also-2.1] [--explain] IMAGE
 
 Arguments:
   <IMAGE>  The file with the image, or - for standard input or output
 
 Options:
-  -c, --create <DIR>   Create IMAGE from the folder DIR
-  -u, --unpack <DIR>   Unpack IMAGE into the folder DIR
-  -l, --list           List the files and folders of IMAGE
-      --check          Say what is wrong with IMAGE, or what is in it
-  -b, --block <N>      Size of a block in bytes [default: 4096]
-  -p, --page <N>       Size of a page in bytes [default: 256]
-  -s, --size <N>       Size of the image in bytes, with -c [default: 65536]
-      --order <ORDER>  Order of names in the image that -c makes [default: longer-first]
-      --explain        Say why after the line of an error
-  -h, --help           Print help
-  -V, --version        Print version
+  -c, --create <DIR>    Create IMAGE from the folder DIR
+  -u, --unpack <DIR>    Unpack IMAGE into the folder DIR
+  -l, --list            List the files and folders of IMAGE
+      --check           Say what is wrong with IMAGE, or what is in it
+  -b, --block <N>       Size of a block in bytes [default: 4096]
+  -p, --page <N>        Size of a page in bytes [default: 256]
+  -s, --size <N>        Size of the image in bytes, with -c [default: 65536]
+      --order <ORDER>   Order of names in the image that -c makes [default: longer-first]
+      --name-max <N>    Longest name in bytes, with -c [default: 255]
+      --file-max <N>    Longest file in bytes, with -c [default: 2147483647]
+      --attr-max <N>    Longest attribute in bytes, with -c [default: 1022]
+      --inline-max <N>  Longest inline file in bytes, with -c [default: an eighth of -b]
+      --board <NAME>    Take the numbers of a board where they aren't given
+      --also-2.1        Read images of version 2.1, too
+      --explain         Say why after the line of an error
+  -h, --help            Print help
+  -V, --version         Print version
 
 Examples:
   mklittlefs -c settings disk.img        makes an image of the folder settings
@@ -193,6 +401,8 @@ Examples:
   mklittlefs -c settings -b 1024 -p 128 -s 262144 disk.img
   mklittlefs -l -b 1024 -p 128 disk.img  one of 256 KiB with other blocks
   mklittlefs -c settings --order shorter-first disk.img
+  mklittlefs -c settings --board esp32 -s 1441792 disk.img
+  mklittlefs -l --also-2.1 disk.img      lists one that firmware has changed
   mklittlefs --explain -l disk.img       says why where it isn't listed
   mklittlefs -c settings - > disk.img    writes the image to standard output
   mklittlefs -l - < disk.img             reads the image from standard input
@@ -203,6 +413,29 @@ Sizes:
   -s  a multiple of -b: from 2 to 65536 blocks, and at most 268435456
   With -l, -u and --check the size is that of IMAGE, and -b is the one that it
   was made with.
+
+Limits:
+  --name-max    from 1 to 255
+  --file-max    from 1 to 2147483647
+  --attr-max    from 1 to 1022
+  --inline-max  from 1 to 1022, and at most an eighth of -b
+  The first three are in the image: littlefs mounts one only where none of them
+  is larger than its own. A file of at most --inline-max bytes is kept in its
+  folder: littlefs changes it only where its cache_size is no smaller. --check
+  says by all four whether IMAGE may be changed.
+
+Boards:
+  NAME stands for these numbers, and for --also-2.1. A number that is given
+  comes before them.
+  esp8266      -b 8192 --name-max 32 --inline-max 64
+  esp32        -b 4096 --name-max 64 --inline-max 512
+  rp2040       -b 4096 --inline-max 256
+  micropython  -b 4096 --inline-max 128
+
+Versions:
+  -c makes images of version 2.0. Since its release 2.6 littlefs makes them
+  images of version 2.1 when it changes them. With --also-2.1 -l, -u and --check
+  read these, too.
 
 Order:
   Names stand by their bytes. Where one begins another, as a and ab, either the
@@ -221,7 +454,7 @@ Progress:
 
 // Words that are no line: the status, what goes to `out`, and what to `err`, if that isn't the parser's
 // own text.
-const REFUSED: [(&[&str], u8, &str, Option<&str>); 18] = [
+const REFUSED: [(&[&str], u8, &str, Option<&str>); 32] = [
     // not exactly one mode
     (&["mklittlefs", "i"], 2, "", Some(MODES)),
     (&["mklittlefs", "-p", "256", "i", "-b0"], 2, "", Some(MODES)),
@@ -242,7 +475,87 @@ const REFUSED: [(&[&str], u8, &str, Option<&str>); 18] = [
         "",
         Some(ORDER),
     ),
+    // a board that is none, and limits that break their rules: the first of them is named
+    (
+        &["mklittlefs", "-l", "--board", "ESP32", "i"],
+        2,
+        "",
+        Some(BOARD),
+    ),
+    (
+        &["mklittlefs", "-l", "--board=", "--name-max=0", "i"],
+        2,
+        "",
+        Some(BOARD),
+    ),
+    (
+        &["mklittlefs", "-l", "--order=x", "--board=x", "i"],
+        2,
+        "",
+        Some(ORDER),
+    ),
+    (
+        &["mklittlefs", "-cd", "--name-max", "0", "i"],
+        2,
+        "",
+        Some(NAME_MAX),
+    ),
+    (
+        &["mklittlefs", "-cd", "--name-max=256", "--file-max=0", "i"],
+        2,
+        "",
+        Some(NAME_MAX),
+    ),
+    (
+        &["mklittlefs", "-cd", "--file-max", "0", "i"],
+        2,
+        "",
+        Some(FILE_MAX),
+    ),
+    (
+        &["mklittlefs", "-cd", "--file-max", "2147483648", "i"],
+        2,
+        "",
+        Some(FILE_MAX),
+    ),
+    (
+        &["mklittlefs", "-cd", "--attr-max", "0", "i"],
+        2,
+        "",
+        Some(ATTR_MAX),
+    ),
+    (
+        &["mklittlefs", "--check", "--attr-max", "1023", "i"],
+        2,
+        "",
+        Some(ATTR_MAX),
+    ),
+    (
+        &["mklittlefs", "-cd", "--inline-max", "0", "i"],
+        2,
+        "",
+        Some(INLINE_MAX),
+    ),
+    (
+        &["mklittlefs", "-cd", "--inline-max", "513", "i"],
+        2,
+        "",
+        Some(INLINE_MAX),
+    ),
+    (
+        &["mklittlefs", "-cd", "-b65536", "--inline-max", "1023", "i"],
+        2,
+        "",
+        Some(INLINE_MAX),
+    ),
     // what the parser refuses
+    (
+        &["mklittlefs", "-cd", "--name-max", "4294967296", "i"],
+        2,
+        "",
+        None,
+    ),
+    (&["mklittlefs", "-cd", "--board"], 2, "", None),
     (&["mklittlefs", "-l"], 2, "", None),
     (&["mklittlefs", "-l", "i", "j"], 2, "", None),
     (&["mklittlefs", "-l", "i", "-c"], 2, "", None),

@@ -6,7 +6,7 @@ use crate::sources::memory_source_of_items;
 use lfs_device::{Error, Geometry};
 use lfs_fixtures::image_with_second_commit;
 use lfs_tool::{
-    FilesAndBytes, FollowsProgress, Progress, RealPlaces, WatchedStream, create,
+    FilesAndBytes, FollowsProgress, ImageLayout, Progress, RealPlaces, WatchedStream, create,
     run_and_return_exit_status, unpack,
 };
 use lfs_tool_folders::{FaultLog, MemoryTarget};
@@ -185,7 +185,8 @@ fn progress_of_unpacking_image(alloc: Global) -> Result<RecordedProgress, AllocE
     };
     let mut told = no_progress_told(alloc);
     let mut image = WatchedStream::new(image.as_slice());
-    let _ = unpack(alloc, &mut image, 4096, 256, &mut target, &mut told);
+    let layout = ImageLayout::new(4096, 256);
+    let _ = unpack(alloc, &mut image, layout, &mut target, &mut told);
     Ok(told)
 }
 

@@ -1,6 +1,8 @@
 // What the tool shows, as text.
 
-use lfs_tool::{Fault, ImageInput, ToolError, WatchedStream, check, list, report, unpack};
+use lfs_tool::{
+    Fault, ImageInput, ImageLayout, ToolError, WatchedStream, check, list, report, unpack,
+};
 use lfs_tool_folders::{MemoryTarget, TargetAction};
 use std::alloc::{AllocError, Global};
 
@@ -41,11 +43,10 @@ pub(crate) fn with_error_line(
 pub(crate) fn list_text<R: ImageInput>(
     alloc: Global,
     image: &mut R,
-    block_size: u32,
-    page: u32,
+    layout: ImageLayout,
 ) -> Result<Vec<u8>, AllocError> {
     let mut out = WatchedStream::new(Vec::new(alloc));
-    let result = list(alloc, image, block_size, page, &mut out);
+    let result = list(alloc, image, layout, &mut out);
     with_error_line(alloc, out.into_inner(), result)
 }
 
@@ -53,11 +54,10 @@ pub(crate) fn list_text<R: ImageInput>(
 pub(crate) fn check_text<R: ImageInput>(
     alloc: Global,
     image: &mut R,
-    block_size: u32,
-    page: u32,
+    layout: ImageLayout,
 ) -> Result<Vec<u8>, AllocError> {
     let mut out = WatchedStream::new(Vec::new(alloc));
-    let answer = match check(alloc, image, block_size, page, &mut out) {
+    let answer = match check(alloc, image, layout, &mut out) {
         Ok(_) => Ok(()),
         Err(error) => Err(error),
     };
@@ -85,13 +85,12 @@ fn push_unpacked_entry(text: &mut Vec<u8>, done: &TargetAction) -> Result<(), Al
 pub(crate) fn unpack_text<R: ImageInput>(
     alloc: Global,
     image: &mut R,
-    block_size: u32,
-    page: u32,
+    layout: ImageLayout,
 ) -> Result<Vec<u8>, AllocError> {
     let mut target = MemoryTarget {
         done: Vec::new(alloc),
     };
-    let result = unpack(alloc, image, block_size, page, &mut target, &mut ());
+    let result = unpack(alloc, image, layout, &mut target, &mut ());
     let mut text = Vec::new(alloc);
     for done in &target.done {
         push_unpacked_entry(&mut text, done)?;

@@ -8,7 +8,7 @@ returns-clause-checked c =
     let items = c.args.image.items in
     let stated = c.wrong_superblock_number_in_image-stated in
     let fits = subst (λ (b : List ℕ). length b ≤ 268435456) (sym c.deref.ensures.value) c.requires in
-    let number = number_or_none c.args.block_size c.deref.result.now stated.result stated.ensures.found stated.ensures.none fits in
+    let number = number_or_none c.args.layout c.deref.result.now stated.result stated.ensures.found stated.ensures.none fits in
     let len = c.len.ensures in
-    c.check_result_of_verdict.ensures c.args.block_size c.args.page items (subst (λ (b : List ℕ). IsWrongNumberIfAny c.args.block_size b stated.result) c.deref.ensures.value number) c.in_ok-verdict.ensures.judged
+    c.check_result_of_verdict.ensures c.args.layout items (subst (λ (b : List ℕ). IsWrongNumberIfAny c.args.layout b stated.result) c.deref.ensures.value number) c.in_ok-verdict.ensures.judged
     (c.given_sizes_with_block_count_of_image-given.ensures items (omega (arith, len)))

@@ -8,12 +8,12 @@ returns-then-len-gt-IMAGE_MAX-clause-checked g c =
     let len = c.len.ensures in
     let again = c.len-then-len-gt-IMAGE_MAX.ensures in
     let more = c.if-len-gt-IMAGE_MAX.true in
-    refused_read (g.R.ImageInput.remaining c.args.image.now) c.args.block_size c.args.page items c.given_sizes_with_block_count_of_image-given.result c.refused_check_result.result c.in_ok-bytes.ensures.bytes (omega (arith, len, more))
+    refused_read (g.R.ImageInput.remaining c.args.image.now) c.args.layout items c.given_sizes_with_block_count_of_image-given.result c.refused_check_result.result c.in_ok-bytes.ensures.bytes (omega (arith, len, more))
     (c.given_sizes_with_block_count_of_image-given.ensures items (omega (arith, again)))
-    (λ bytes long none given. c.refused_check_result.ensures c.args.block_size c.args.page bytes (λ is. absurd (none is)) (λ short. absurd (omega (arith, long, short))) (λ is. ((λ short. absurd (omega (arith, long, short))), none)) given)
+    (λ bytes long none given. c.refused_check_result.ensures c.args.layout bytes (λ is. absurd (none is)) (λ short. absurd (omega (arith, long, short))) (λ is. ((λ short. absurd (omega (arith, long, short))), none)) given)
 
 pub returns-clause-checked : goal.returns-clause-checked
 returns-clause-checked g c =
     let len = c.len.ensures in
     let fits = c.if-len-gt-IMAGE_MAX.false in
-    checked_read (g.R.ImageInput.remaining c.args.image.now) c.args.block_size c.args.page c.in_ok-bytes.bytes.items c.in_ok-checked.checked c.in_ok-bytes.ensures.bytes (omega (arith, len, fits)) c.in_ok-checked.ensures.checked
+    checked_read (g.R.ImageInput.remaining c.args.image.now) c.args.layout c.in_ok-bytes.bytes.items c.in_ok-checked.checked c.in_ok-bytes.ensures.bytes (omega (arith, len, fits)) c.in_ok-checked.ensures.checked

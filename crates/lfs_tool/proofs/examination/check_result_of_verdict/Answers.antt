@@ -4,23 +4,23 @@ use Rattle.lfs_tool.specs.CheckResults.{IsVerdictOnBytes, IsWrongNumberIfAny}
 use Rattle.lfs_tool.proofs.examination.check_result_of_verdict.Goals as goal
 
 pub returns-in-Some-Accepted : goal.returns-in-Some-Accepted
-returns-in-Some-Accepted c block_size page image stated judged given =
+returns-in-Some-Accepted c layout image stated judged given =
     let e = c.in-Some-Accepted in
     let outer = e.is in
     let inner = e.field-0-is in
     let is : c.args.verdict ≡ Some (verdict.Accepted e.summary e.orders) = cc in
-    subst (IsVerdictOnBytes block_size page image) is judged
+    subst (IsVerdictOnBytes layout image) is judged
 
 pub returns-in-Some-Refused : goal.returns-in-Some-Refused
-returns-in-Some-Refused c block_size page image stated judged given =
+returns-in-Some-Refused c layout image stated judged given =
     let e = c.in-Some-Refused in
     let outer = e.is in
     let inner = e.field-0-is in
     let is : c.args.verdict ≡ Some (verdict.Refused e.finding) = cc in
-    let j = subst (IsVerdictOnBytes block_size page image) is judged in
-    c.refused_check_result.ensures block_size page image (λ image_is order. (j.1 order).0) stated (λ is. (subst (IsWrongNumberIfAny block_size image) is stated, (j.0, λ order. (j.1 order).1))) given
+    let j = subst (IsVerdictOnBytes layout image) is judged in
+    c.refused_check_result.ensures layout image (λ image_is order. (j.1 order).0) stated (λ is. (subst (IsWrongNumberIfAny layout image) is stated, (j.0, λ order. (j.1 order).1))) given
 
 pub returns-in-None : goal.returns-in-None
-returns-in-None c block_size page image stated judged given =
-    let j = subst (IsVerdictOnBytes block_size page image) c.in-None.is judged in
-    c.refused_check_result-in-None.ensures block_size page image (λ image_is order. absurd (j image_is)) stated (λ is. (subst (IsWrongNumberIfAny block_size image) is stated, j)) given
+returns-in-None c layout image stated judged given =
+    let j = subst (IsVerdictOnBytes layout image) c.in-None.is judged in
+    c.refused_check_result-in-None.ensures layout image (λ image_is order. absurd (j image_is)) stated (λ is. (subst (IsWrongNumberIfAny layout image) is stated, j)) given

@@ -10,20 +10,20 @@ pub returns-in-Ok-clause-ok : goal.returns-in-Ok-clause-ok
 returns-in-Ok-clause-ok c =
     let e = c.in-Ok in
     IfOk-weaker c.listing_lines_of_excerpt.result _ _
-    (λ text (order, lines) bytes are. lists_by_excerpt c.excerpt_is_listed_like_its_disk.ensures.listed c.args.block_size c.args.page bytes text.items c.args.blocks.items e.excerpt are e.ensures.geometry c.requires.sizes e.ensures.shown order lines)
+    (λ text (order, lines) bytes are. lists_by_excerpt c.excerpt_is_listed_like_its_disk.ensures.listed c.args.layout bytes text.items c.args.blocks.items e.excerpt are e.ensures.geometry c.requires.sizes e.ensures.shown order lines)
     c.listing_lines_of_excerpt.ensures.lines
 
 pub returns-in-Ok-clause-err : goal.returns-in-Ok-clause-err
 returns-in-Ok-clause-err c =
     let e = c.in-Ok in
     IfErr-weaker c.listing_lines_of_excerpt.result _ _
-    (λ error none bytes are. refuses_by_excerpt c.excerpt_is_listed_like_its_disk.ensures.refused c.args.block_size c.args.page bytes c.args.blocks.items e.excerpt error are e.ensures.geometry e.ensures.shown none)
+    (λ error none bytes are. refuses_by_excerpt c.excerpt_is_listed_like_its_disk.ensures.refused c.args.layout bytes c.args.blocks.items e.excerpt error are e.ensures.geometry e.ensures.shown none)
     c.listing_lines_of_excerpt.ensures.err
 
 pub returns-in-Err-clause-err : goal.returns-in-Err-clause-err
 returns-in-Err-clause-err c = λ bytes are.
     let e = c.in-Err.ensures.err in
-    subst (RefusesToList c.args.block_size c.args.page bytes) (sym e.0) (no_image_of_blocks c.args.block_size c.args.page bytes c.args.blocks.items are e.1)
+    subst (RefusesToList c.args.layout bytes) (sym e.0) (no_image_of_blocks c.args.layout.block_size c.args.layout.page bytes c.args.blocks.items are e.1)
 
 pub returns-in-Ok-clause-kinds : goal.returns-in-Ok-clause-kinds
 returns-in-Ok-clause-kinds c =

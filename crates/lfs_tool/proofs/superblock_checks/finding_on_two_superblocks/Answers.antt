@@ -23,7 +23,7 @@ returns-clause-found c disk ps index begins there chained root_there =
           (
             record { index = last; pair = root; there = root_there; in_chain = omega arith; at_is = refl; slot = other; first = root_first; superblock = superblock_of_chain ps last root other begins root_there (omega arith) root_first; struct = refl },
             root_address ps last root refl root_there,
-            c.has_same_bytes.ensures.other c.if-has_same_bytes.false,
+            c.has_same_numbers.ensures.other c.if-has_same_numbers.false,
           ),
         ),
       ),

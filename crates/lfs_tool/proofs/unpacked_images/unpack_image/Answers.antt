@@ -13,14 +13,14 @@ disk_in d = shown (geometry_of_ram_device d) (ram_blocks d)
 pub returns-in-Ok-clause-done : goal.returns-in-Ok-clause-done
 returns-in-Ok-clause-done g c =
     let d = c.in-Ok.ensures in
-    on_ok_weaker c.unpack_ram_device.result (λ h. done_image c.args.block_size c.args.page c.args.image.items (disk_in c.in-Ok.device) _ _ d.image d.disk h) c.unpack_ram_device.ensures.done
+    on_ok_weaker c.unpack_ram_device.result (λ h. done_image c.args.layout c.args.image.items (disk_in c.in-Ok.device) _ _ d.image d.disk h) c.unpack_ram_device.ensures.done
 
 pub returns-in-Ok-clause-told : goal.returns-in-Ok-clause-told
 returns-in-Ok-clause-told g c =
     let d = c.in-Ok.ensures in
-    told_image c.args.block_size c.args.page c.args.image.items (disk_in c.in-Ok.device) c.unpack_ram_device.result _ _ _ _ d.image d.disk c.unpack_ram_device.ensures.told
+    told_image c.args.layout c.args.image.items (disk_in c.in-Ok.device) c.unpack_ram_device.result _ _ _ _ d.image d.disk c.unpack_ram_device.ensures.told
 
 pub returns-in-Ok-clause-failed : goal.returns-in-Ok-clause-failed
 returns-in-Ok-clause-failed g c =
     let d = c.in-Ok.ensures in
-    IfErr-weaker c.unpack_ram_device.result _ _ (λ e h. fails_image c.args.block_size c.args.page c.args.image.items (disk_in c.in-Ok.device) _ _ e d.image d.disk h) c.unpack_ram_device.ensures.failed
+    IfErr-weaker c.unpack_ram_device.result _ _ (λ e h. fails_image c.args.layout c.args.image.items (disk_in c.in-Ok.device) _ _ e d.image d.disk h) c.unpack_ram_device.ensures.failed

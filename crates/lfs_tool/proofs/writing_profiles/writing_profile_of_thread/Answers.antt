@@ -40,5 +40,5 @@ returns-clause-profile g c =
     let ps = c.args.thread.now.kept.pairs in
     let held = ap owned_pairs_view c.deref.ensures.value ∙ c.in_ok-pairs.ensures.pairs ∙ ap pairs_without_attributes c.is_writable.ensures.reading.only.pairs in
     let same = c.owned_pairs_of_thread.ensures.reading.only.disk ∙ c.is_writable.ensures.reading.only.disk in
-    c.writing_profile_cause.ensures disk ps held (sym (c.geometry-geometry.ensures.block_size ∙ ap (λ (d : Disk). d.block_size) same)) c.requires.accepted
+    c.writing_profile_cause.ensures disk ps held (sym (c.geometry-geometry.ensures.block_size ∙ ap (λ (d : Disk). d.block_size) same)) (sym (c.geometry-geometry.ensures.profile ∙ ap (λ (d : Disk). d.profile) same)) c.requires.accepted
     (λ writable. let is = c.in_ok-is_writable.ensures.is.1 writable in absurd (cc (is, c.if-branch.false)))

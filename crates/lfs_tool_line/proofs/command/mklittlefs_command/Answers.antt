@@ -1,12 +1,11 @@
 use Rattle.std.proofs.Common.{◌∙◌, ap}
 use Rattle.clap.specs.Words.{with_rule}
-use Rattle.lfs_tool_line.specs.Command.{rule_of_explain_option, rule_of_image_argument, mklittlefs, rule_of_order_option, with_mode_options, with_size_options}
+use Rattle.lfs_tool_line.specs.Command.{rule_of_explain_option, rule_of_image_argument, mklittlefs, with_board_and_version_options, with_limit_options}
 use Rattle.lfs_tool_line.proofs.command.mklittlefs_command.Goals as goal
 
 pub returns : goal.returns
 unfolding mklittlefs
 returns c =
-    let modes = c.in_ok-command.ensures ∙ ap with_mode_options c.clap_command_before_arguments_are_added.ensures in
-    let sizes = c.in_ok-command-2.ensures ∙ ap with_size_options modes in
-    let order = c.in_ok-command-3.ensures ∙ ap (λ a. with_rule a rule_of_order_option) sizes in
-    c.in_ok-command-5.ensures ∙ ap (λ a. with_rule a rule_of_image_argument) (c.in_ok-command-4.ensures ∙ ap (λ a. with_rule a rule_of_explain_option) order)
+    let limits = c.in_ok-command-2.ensures ∙ ap with_limit_options c.in_ok-command.ensures in
+    let boards = c.in_ok-command-3.ensures ∙ ap with_board_and_version_options limits in
+    c.in_ok-command-5.ensures ∙ ap (λ a. with_rule a rule_of_image_argument) (c.in_ok-command-4.ensures ∙ ap (λ a. with_rule a rule_of_explain_option) boards)

@@ -6,5 +6,5 @@ use Rattle.lfs_tool_line.proofs.command.with_size_options.Goals as goal
 pub returns : goal.returns
 unfolding with_size_options
 returns c =
-    let two = c.in_ok-command-2.ensures ∙ ap (λ a. with_rule a (rule_of_number_option (codes "page") 112 (codes "page") (codes "256"))) c.in_ok-command.ensures in
-    c.in_ok-command-3.ensures ∙ ap (λ a. with_rule a (rule_of_number_option (codes "size") 115 (codes "size") (codes "65536"))) two
+    let two = c.in_ok-command-2.ensures ∙ ap (λ a. with_rule a (rule_of_number_option (codes "page") 112 (codes "page"))) c.in_ok-command.ensures in
+    c.in_ok-command-3.ensures ∙ ap (λ a. with_rule a (rule_of_number_option (codes "size") 115 (codes "size"))) two

@@ -1,0 +1,96 @@
+// The limits and versions of a command line.
+
+ghost use Rattle.std.specs.Prelude.{◌≡◌};
+ghost use Rattle.clap.specs.Words.{found_of, rows_of};
+ghost use Rattle.lfs_tool_line.specs.Limits.{first_broken_limit, is_limit_within, rule_of_limit};
+ghost use Rattle.lfs_tool_line.specs.Matches.{HasReadableArgumentValues, given_or_other_profile, given_or_other_versions};
+
+use crate::values::{flag_value_in_matches, given_number, given_or_other_number};
+use clap::ArgMatches;
+use lfs_model::{AcceptedVersions, Profile};
+
+/// A limit that an option gives.
+#[derive(Clone, Copy, Debug, PartialEq, Eq, Drop)]
+pub enum Limit {
+    /// The longest name.
+    Name,
+    /// The longest file.
+    File,
+    /// The longest attribute.
+    Attr,
+    /// The longest file that is inline.
+    Inline,
+}
+
+impl Limit {
+    /// Returns what the limit's rule says.
+    pub fn rule(self) -> &'static str
+        ensures { result.now ≡ rule_of_limit self }
+    {
+        match self {
+            Limit::Name => "--name-max is from 1 to 255",
+            Limit::File => "--file-max is from 1 to 2147483647",
+            Limit::Attr => "--attr-max is from 1 to 1022",
+            Limit::Inline => "--inline-max is from 1 to 1022, and at most an eighth of -b",
+        }
+    }
+}
+
+// Returns whether a limit is from 1 to the most, where one is given.
+fn is_within(limit: Option<u32>, most: u32) -> bool
+    ensures { result ≡ is_limit_within most limit }
+{
+    match limit {
+        Some(limit) => 1 <= limit && limit <= most,
+        None => true,
+    }
+}
+
+// Returns the first limit that breaks its rule, with blocks of this size.
+pub(crate) fn first_broken_limit(matches: &ArgMatches<'_>, block_size: u32) -> Option<Limit>
+    requires { HasReadableArgumentValues (found_of matches.now) }
+    ensures { result ≡ first_broken_limit block_size (rows_of (found_of matches.now)) }
+{
+    if !is_within(given_number(matches, "name_max"), 255) {
+        return Some(Limit::Name);
+    }
+    if !is_within(given_number(matches, "file_max"), 2_147_483_647) {
+        return Some(Limit::File);
+    }
+    if !is_within(given_number(matches, "attr_max"), 1022) {
+        return Some(Limit::Attr);
+    }
+    if !is_within(
+        given_number(matches, "inline_max"),
+        (block_size / 8).min(1022),
+    ) {
+        return Some(Limit::Inline);
+    }
+    None
+}
+
+// Returns the versions that are accepted: 2.1, too, where that is given.
+fn given_or_other_versions(matches: &ArgMatches<'_>, other: AcceptedVersions) -> AcceptedVersions
+    ensures { result ≡ given_or_other_versions other (rows_of (found_of matches.now)) }
+{
+    if flag_value_in_matches(matches, "later") {
+        AcceptedVersions::AlsoTwoOne
+    } else {
+        other
+    }
+}
+
+// Returns the profile with the limits and versions that are given.
+pub(crate) fn given_or_other_profile(matches: &ArgMatches<'_>, other: Profile) -> Profile
+    requires { HasReadableArgumentValues (found_of matches.now) }
+    ensures { result ≡ given_or_other_profile other (rows_of (found_of matches.now)) }
+{
+    Profile {
+        versions: given_or_other_versions(matches, other.versions),
+        name_max: given_or_other_number(matches, "name_max", other.name_max),
+        file_max: given_or_other_number(matches, "file_max", other.file_max),
+        attr_max: given_or_other_number(matches, "attr_max", other.attr_max),
+        inline_max: given_or_other_number(matches, "inline_max", other.inline_max),
+        pair_cycles: other.pair_cycles,
+    }
+}

@@ -1,0 +1,299 @@
+// Images with other versions and limits, and what is made with other limits.
+
+use crate::checks::{FRESH, LATER_VERSION};
+use crate::images::{HARD_TAIL, PAIR, SHORT_NAMES};
+use crate::sources::{Items, memory_source_of_items};
+use crate::texts::{check_text, list_text, unpack_text, with_error_line};
+use lfs_device::{AcceptedVersions, Error, Geometry, Profile};
+use lfs_fixtures::{BlockFilling, FixtureEntries, image_with_second_commit};
+use lfs_tool::{ImageLayout, WatchedStream, create};
+use std::alloc::{AllocError, Global};
+use std::test::Fail;
+
+// What is accepted and written by default, and the same with version 2.1.
+const DEFAULT: Profile = Profile {
+    versions: AcceptedVersions::OnlyTwoZero,
+    name_max: 255,
+    file_max: 2_147_483_647,
+    attr_max: 1022,
+    inline_max: 1022,
+    pair_cycles: 0,
+};
+
+const ALSO: Profile = Profile {
+    versions: AcceptedVersions::AlsoTwoOne,
+    ..DEFAULT
+};
+
+// The same with names of at most 32 bytes, and with files of at most 64 bytes in their folder.
+const SHORT: Profile = Profile {
+    name_max: 32,
+    ..DEFAULT
+};
+
+const SMALL: Profile = Profile {
+    inline_max: 64,
+    ..DEFAULT
+};
+
+// Superblocks: of version 2.2, and with a smaller limit of a file and of an attribute.
+const NO_VERSION: &[u8] = &[
+    2, 0, 2, 0, 0, 16, 0, 0, 16, 0, 0, 0, 255, 0, 0, 0, 255, 255, 255, 127, 254, 3, 0, 0,
+];
+
+const SHORT_FILES: &[u8] = &[
+    0, 0, 2, 0, 0, 16, 0, 0, 16, 0, 0, 0, 255, 0, 0, 0, 0, 1, 0, 0, 254, 3, 0, 0,
+];
+
+const SHORT_ATTRIBUTES: &[u8] = &[
+    0, 0, 2, 0, 0, 16, 0, 0, 16, 0, 0, 0, 255, 0, 0, 0, 255, 255, 255, 127, 100, 0, 0, 0,
+];
+
+// A first block that littlefs has compacted: a file stands between the superblock's name and its struct.
+const COMPACTED: BlockFilling<'static> = BlockFilling::Commit(&[
+    (0x0ff0_0008, b"littlefs"),
+    (0x0010_0401, b"a"),
+    (0x2010_041c, b"twenty-eight bytes are in it"),
+    (0x2010_0018, LATER_VERSION),
+]);
+
+// The second pair of a superblock's chain, with a superblock of version 2.1, and one with another limit.
+const LATER_ROOT: &[(usize, BlockFilling<'static>)] = &[(
+    2,
+    BlockFilling::Commit(&[(0x0ff0_0008, b"littlefs"), (0x2010_0018, LATER_VERSION)]),
+)];
+
+const OTHER_ROOT: &[(usize, BlockFilling<'static>)] = &[(
+    2,
+    BlockFilling::Commit(&[(0x0ff0_0008, b"littlefs"), (0x2010_0018, SHORT_NAMES)]),
+)];
+
+// An image, by its second commit and its other blocks; a profile; and the lines of its check.
+type Row<'a> = (
+    FixtureEntries<'a>,
+    &'a [(usize, BlockFilling<'a>)],
+    Profile,
+    &'a str,
+);
+
+const CHECKED: [Row<'static>; 16] = [
+    // versions
+    (&[], &[], ALSO, FRESH),
+    (&[(0x2010_0018, LATER_VERSION)], &[], ALSO, FRESH),
+    (
+        &[(0x2010_0018, LATER_VERSION)],
+        &[],
+        DEFAULT,
+        "corrupt\npair 0 1, superblock: version 2.1\n",
+    ),
+    (
+        &[(0x2010_0018, NO_VERSION)],
+        &[],
+        ALSO,
+        "corrupt\npair 0 1, superblock: version 2.2\n",
+    ),
+    // superblocks that differ in the version, and in something else
+    (
+        &[(HARD_TAIL, PAIR)],
+        LATER_ROOT,
+        ALSO,
+        "ok\nfiles 0\ndirectories 0\nused 4 of 16 blocks\nfree 12\norder either\nrecover no\nwritable yes\n",
+    ),
+    (
+        &[(HARD_TAIL, PAIR)],
+        LATER_ROOT,
+        DEFAULT,
+        "corrupt\npair 2 3, superblock: version 2.1\n",
+    ),
+    (
+        &[(HARD_TAIL, PAIR)],
+        OTHER_ROOT,
+        ALSO,
+        "corrupt\npair 0 1, superblock: another one than in pair 2 3\n",
+    ),
+    // a superblock's struct that doesn't stand behind its name
+    (
+        &[],
+        &[(0, COMPACTED)],
+        DEFAULT,
+        "corrupt\npair 0 1, superblock: version 2.1\n",
+    ),
+    (
+        &[],
+        &[(0, COMPACTED)],
+        ALSO,
+        "ok\nfiles 1\ndirectories 0\nused 2 of 16 blocks\nfree 14\norder either\nrecover no\nwritable yes\n",
+    ),
+    // limits
+    (&[(0x2010_0018, SHORT_NAMES)], &[], SHORT, FRESH),
+    (
+        &[],
+        &[],
+        SHORT,
+        "ok\nfiles 0\ndirectories 0\nused 2 of 16 blocks\nfree 14\norder either\nrecover no\n\
+        writable no: pair 0 1, slot 0: a superblock with other limits than this library writes, name_max 255\n",
+    ),
+    (
+        &[(0x2010_0018, SHORT_FILES)],
+        &[],
+        DEFAULT,
+        "ok\nfiles 0\ndirectories 0\nused 2 of 16 blocks\nfree 14\norder either\nrecover no\n\
+        writable no: pair 0 1, slot 0: a superblock with other limits than this library writes, file_max 256\n",
+    ),
+    (
+        &[(0x2010_0018, SHORT_ATTRIBUTES)],
+        &[],
+        DEFAULT,
+        "ok\nfiles 0\ndirectories 0\nused 2 of 16 blocks\nfree 14\norder either\nrecover no\n\
+        writable no: pair 0 1, slot 0: a superblock with other limits than this library writes, attr_max 100\n",
+    ),
+    (
+        &[(0x0010_0401, b"a"), (0x2010_0440, &[7; 64])],
+        &[],
+        SMALL,
+        "ok\nfiles 1\ndirectories 0\nused 2 of 16 blocks\nfree 14\norder either\nrecover no\nwritable yes\n",
+    ),
+    (
+        &[(0x0010_0401, b"a"), (0x2010_0441, &[7; 65])],
+        &[],
+        SMALL,
+        "ok\nfiles 1\ndirectories 0\nused 2 of 16 blocks\nfree 14\norder either\nrecover no\n\
+        writable no: pair 0 1, slot 1: more bytes inline than inline_max 64\n",
+    ),
+    (
+        &[(0x0010_0401, b"a"), (0x2010_0601, &[7; 513])],
+        &[],
+        ALSO,
+        "ok\nfiles 1\ndirectories 0\nused 2 of 16 blocks\nfree 14\norder either\nrecover no\n\
+        writable no: pair 0 1, slot 1: more bytes inline than an eighth of a block\n",
+    ),
+];
+
+// Whether an image has these lines where it is checked with the profile.
+fn has_expected_check_text(alloc: Global, row: Row<'_>) -> Result<bool, AllocError> {
+    let (entries, others, profile, wanted) = row;
+    let image = image_with_second_commit(alloc, entries, others)?;
+    let layout = ImageLayout::new(4096, 256).with_profile(profile);
+    let text = check_text(alloc, &mut WatchedStream::new(image.as_slice()), layout)?;
+    Ok(text.as_slice() == wanted.as_bytes())
+}
+
+#[test]
+fn profiles_are_checked(rt: HostRuntime) -> Result<(), Fail> {
+    for row in CHECKED {
+        assert!(rt; has_expected_check_text(rt.alloc(), row)?, "{:?}", row.3);
+    }
+    Ok(())
+}
+
+// Whether an image of version 2.1 with a file is listed and unpacked so.
+fn is_later_image_read_as(
+    alloc: Global,
+    profile: Profile,
+    listed: &str,
+    unpacked: &str,
+) -> Result<bool, AllocError> {
+    let image = image_with_second_commit(alloc, &[], &[(0, COMPACTED)])?;
+    let layout = ImageLayout::new(4096, 256).with_profile(profile);
+    let list = list_text(alloc, &mut WatchedStream::new(image.as_slice()), layout)?;
+    let done = unpack_text(alloc, &mut WatchedStream::new(image.as_slice()), layout)?;
+    Ok(list.as_slice() == listed.as_bytes() && done.as_slice() == unpacked.as_bytes())
+}
+
+#[test]
+fn later_version_is_read_where_asked(rt: HostRuntime) -> Result<(), Fail> {
+    let corrupt = "error: Corrupt (84)\n";
+    assert!(rt; is_later_image_read_as(rt.alloc(), DEFAULT, corrupt, corrupt)?);
+    assert!(rt;
+        is_later_image_read_as(
+            rt.alloc(),
+            ALSO,
+            "f 28 /a\n",
+            "f /a twenty-eight bytes are in it\n",
+        )?
+    );
+    Ok(())
+}
+
+const NAME_TOO_LONG: &str = "error: NameTooLong (36)\n";
+
+const TOO_BIG: &str = "error: TooBig (27)\n";
+
+// Files of at most 1,000 bytes.
+const SHORT_FILE: Profile = Profile {
+    file_max: 1000,
+    ..DEFAULT
+};
+
+// Names of 32 and of 33 bytes.
+const NAME_32: &[u8] = b"/nnnnnnnnnnnnnnnnnnnnnnnnnnnnnnnn";
+
+const NAME_33: &[u8] = b"/nnnnnnnnnnnnnnnnnnnnnnnnnnnnnnnnn";
+
+// A source, a profile, and the error of a making, or the lines of the image's check.
+const MADE: [(Items<'static>, Profile, &str); 9] = [
+    (
+        &[(NAME_32, Some(b""))],
+        SHORT,
+        "ok\nfiles 1\ndirectories 0\nused 2 of 16 blocks\nfree 14\norder either\nrecover no\nwritable yes\n",
+    ),
+    (&[(NAME_33, Some(b""))], SHORT, NAME_TOO_LONG),
+    (&[(NAME_33, None)], SHORT, NAME_TOO_LONG),
+    (
+        &[(NAME_33, Some(b""))],
+        SMALL,
+        "ok\nfiles 1\ndirectories 0\nused 2 of 16 blocks\nfree 14\norder either\nrecover no\nwritable yes\n",
+    ),
+    (
+        &[(b"/a", Some(&[7; 1000]))],
+        SHORT_FILE,
+        "ok\nfiles 1\ndirectories 0\nused 3 of 16 blocks\nfree 13\norder either\nrecover no\nwritable yes\n",
+    ),
+    (&[(b"/a", Some(&[7; 1001]))], SHORT_FILE, TOO_BIG),
+    // a file that isn't inline takes a block
+    (
+        &[(b"/a", Some(&[7; 64]))],
+        SMALL,
+        "ok\nfiles 1\ndirectories 0\nused 2 of 16 blocks\nfree 14\norder either\nrecover no\nwritable yes\n",
+    ),
+    (
+        &[(b"/a", Some(&[7; 65]))],
+        SMALL,
+        "ok\nfiles 1\ndirectories 0\nused 3 of 16 blocks\nfree 13\norder either\nrecover no\nwritable yes\n",
+    ),
+    // an image of version 2.0 is made
+    (
+        &[(b"/a", Some(&[7; 512]))],
+        ALSO,
+        "ok\nfiles 1\ndirectories 0\nused 2 of 16 blocks\nfree 14\norder either\nrecover no\nwritable yes\n",
+    ),
+];
+
+// What is shown where an image of a source is made with the profile, and then checked with its limits.
+fn text_of_made_image(alloc: Global, items: Items<'_>, profile: Profile) -> Result<Vec<u8>, Error> {
+    let mut source = memory_source_of_items(alloc, items)?;
+    let geometry = Geometry::new(4096, 256, 16)?.with_profile(profile);
+    let mut out = WatchedStream::new(Vec::new(alloc));
+    let result = create(alloc, &mut source, geometry, &mut out, &mut ());
+    let image = out.into_inner();
+    if result.is_err() {
+        let text = with_error_line(alloc, image, result)?;
+        return Ok(text);
+    }
+    let limits = Profile {
+        versions: AcceptedVersions::OnlyTwoZero,
+        ..profile
+    };
+    let layout = ImageLayout::new(4096, 256).with_profile(limits);
+    let text = check_text(alloc, &mut WatchedStream::new(image.as_slice()), layout)?;
+    Ok(text)
+}
+
+#[test]
+fn images_are_made_with_limits(rt: HostRuntime) -> Result<(), Fail> {
+    for (items, profile, wanted) in MADE {
+        let text = text_of_made_image(rt.alloc(), items, profile)?;
+        assert!(rt; text.as_slice() == wanted.as_bytes(), "{wanted}");
+    }
+    Ok(())
+}

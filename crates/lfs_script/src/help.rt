@@ -11,6 +11,10 @@ Devices:
   fresh B P N [longer-first | shorter-first] [fill XX | keep]
                             a blank device of N blocks of B bytes in pages of P
   image B P FILE [fill XX | keep]  a device with the bytes of a file, mounted
+  profile [also-2.1] [name-max N] [file-max N] [attr-max N] [inline-max N]
+                            what is accepted of the devices from here on, and
+                            the limits by which they are written, in bytes;
+                            without options version 2.0 and the format's own
   unmount                   ends the session
   mount [KIND N [stop] [torn K | whole]]  mounts the device; its N-th call of
                             KIND (any, read, program, erase) fails

@@ -6,11 +6,12 @@ ghost use Rattle.lfs_model.specs.Geometry.{IsValidGeometry};
 ghost use Rattle.lfs_device.specs.RamDevice.{ram_bytes, geometry_of_ram_device, history_of_ram_device};
 
 use lfs_device::{Error, Geometry, RamDevice};
+use lfs_model::Profile;
 use std::alloc::Global;
 use std::rt::Files;
 use std::{fs, io, str};
 
-/// Makes a device that holds 0xff in every byte.
+/// Makes a device that holds 0xff in every byte, with that profile.
 ///
 /// # Errors
 /// - `Invalid` where there are no devices of such blocks.
@@ -20,22 +21,29 @@ pub fn blank_ram_device(
     block_size: u32,
     page: u32,
     block_count: u32,
+    profile: Profile,
 ) -> Result<RamDevice, Error>
-    ensures geometry { IfOk result (λ d. ((geometry_of_ram_device d).block_size ≡ block_size) × ((geometry_of_ram_device d).page ≡ page) × ((geometry_of_ram_device d).block_count ≡ block_count)) }
+    ensures geometry { IfOk result (λ d. ((geometry_of_ram_device d).block_size ≡ block_size) × ((geometry_of_ram_device d).page ≡ page) × ((geometry_of_ram_device d).block_count ≡ block_count) × ((geometry_of_ram_device d).profile ≡ profile)) }
     ensures bytes { IfOk result (λ d. ram_bytes d ≡ replicate (block_size * block_count) 255) }
     ensures no_call { IfOk result (λ d. history_of_ram_device d ≡ []) }
     ensures errors { IfErr result (λ e. (e ≡ Error.NoMemory) ⊎ ((e ≡ Error.Invalid) × (¬ IsValidGeometry block_size page block_count))) }
 {
-    RamDevice::blank(alloc, Geometry::new(block_size, page, block_count)?)
+    let geometry = Geometry::new(block_size, page, block_count)?;
+    RamDevice::blank(alloc, geometry.with_profile(profile))
 }
 
-/// Makes a device that holds these bytes. The call takes no memory.
+/// Makes a device that holds these bytes, with that profile. The call takes no memory.
 ///
 /// # Errors
 /// - `Invalid` exactly where they aren't the blocks of a device.
-pub fn ram_device_of_bytes(bytes: Vec<u8>, block_size: u32, page: u32) -> Result<RamDevice, Error>
+pub fn ram_device_of_bytes(
+    bytes: Vec<u8>,
+    block_size: u32,
+    page: u32,
+    profile: Profile,
+) -> Result<RamDevice, Error>
     ensures image { OnOk result (IsImageOfWholeBlocks block_size page bytes.items) }
-    ensures geometry { IfOk result (λ d. ((geometry_of_ram_device d).block_size ≡ block_size) × ((geometry_of_ram_device d).page ≡ page)) }
+    ensures geometry { IfOk result (λ d. ((geometry_of_ram_device d).block_size ≡ block_size) × ((geometry_of_ram_device d).page ≡ page) × ((geometry_of_ram_device d).profile ≡ profile)) }
     ensures bytes { IfOk result (λ d. ram_bytes d ≡ bytes.items) }
     ensures no_call { IfOk result (λ d. history_of_ram_device d ≡ []) }
     ensures err { IfErr result (λ e. (e ≡ Error.Invalid) × (¬ IsImageOfWholeBlocks block_size page bytes.items)) }
@@ -45,7 +53,8 @@ pub fn ram_device_of_bytes(bytes: Vec<u8>, block_size: u32, page: u32) -> Result
     }
     match u32::try_from(bytes.len() / block_size as usize) {
         Ok(block_count) => {
-            RamDevice::from_bytes(Geometry::new(block_size, page, block_count)?, bytes)
+            let geometry = Geometry::new(block_size, page, block_count)?;
+            RamDevice::from_bytes(geometry.with_profile(profile), bytes)
         }
         Err(_) => Err(Error::Invalid),
     }

@@ -12,6 +12,7 @@ use crate::images::{blank_ram_device, ram_device_of_bytes, read_file, write_file
 use crate::operation_calls::perform_script_operation;
 use lfs_device::{Erased, Error, NameOrder, PlannedFault, RamDevice};
 use lfs_fs::{Reply, Session, format_ordered, mount};
+use lfs_model::Profile;
 use lfs_script_lines::{Answer, Command, ComparisonScope, Operation};
 use std::mem;
 use std::rt::Files;
@@ -38,6 +39,8 @@ fn compare_session_with_file_bytes<R: Files + AllocGlobal>(
 pub struct Script<'a, R: Files> {
     rt: &'a R,
     hand: ScriptDevice,
+    // That of the devices that are made.
+    profile: Profile,
 }
 
 impl<'a, R: Files + AllocGlobal> Script<'a, R> {
@@ -46,6 +49,7 @@ impl<'a, R: Files + AllocGlobal> Script<'a, R> {
         Script {
             rt,
             hand: ScriptDevice::Nothing,
+            profile: Profile::new(),
         }
     }
 
@@ -67,6 +71,15 @@ impl<'a, R: Files + AllocGlobal> Script<'a, R> {
                 Answer::Error(error)
             }
         }
+    }
+
+    fn blank_device(
+        &self,
+        block_size: u32,
+        page: u32,
+        block_count: u32,
+    ) -> Result<RamDevice, Error> {
+        blank_ram_device(self.rt.alloc(), block_size, page, block_count, self.profile)
     }
 
     fn format(
@@ -98,13 +111,20 @@ impl<'a, R: Files + AllocGlobal> Script<'a, R> {
         let Some(bytes) = read_file(self.rt, file) else {
             return Answer::Input;
         };
-        match ram_device_of_bytes(bytes, block_size, page) {
+        match ram_device_of_bytes(bytes, block_size, page, self.profile) {
             Ok(device) => {
                 let device = device_with_planned_fault(device.erased_as(erased), NO_FAULT);
                 self.store_session_or_device_after_mount_attempt(mount(self.rt.alloc(), device))
             }
             Err(error) => Answer::Error(error),
         }
+    }
+
+    fn set_profile(&mut self, profile: Profile) -> Answer
+        ensures { (result ≡ Answer.Reply Reply.Done) × (self.new.profile ≡ profile) × (self.new.hand ≡ self.old.hand) }
+    {
+        self.profile = profile;
+        Answer::Reply(Reply::Done)
     }
 
     fn unmount(&mut self) -> Answer
@@ -194,13 +214,14 @@ impl<'a, R: Files + AllocGlobal> Script<'a, R> {
     /// Performs a command.
     ///
     /// An operation is one of the session. Without a session the answer to it, and to a comparison,
-    /// is `Nothing`. `Calls` and `Save` leave the device and the session.
+    /// is `Nothing`. `Calls` and `Save` leave the device and the session, and so does `Profile`.
     pub fn perform_command(&mut self, command: &Command) -> Answer
         ensures performed { (op : _) → command.now ≡ Command.Perform op → IsScriptStepOfOperation self.old.hand op result self.new.hand }
         ensures unmounted { command.now ≡ Command.Unmount → IsScriptStepOfUnmount self.old.hand result self.new.hand }
         ensures calls { command.now ≡ Command.Calls → (result ≡ answer_with_device_call_counts (device_call_history_of_script self.old.hand)) × (self.new.hand ≡ self.old.hand) }
-        ensures compared { (scope : _) → command.now ≡ Command.Compare scope → IsScriptStepOfComparisonStayingInSession self.old.hand result self.new.hand }
-        ensures compared_with { (file : _) → command.now ≡ Command.CompareWith file → IsScriptStepOfComparisonStayingInSession self.old.hand result self.new.hand }
+        ensures compared { ((scope : _) → command.now ≡ Command.Compare scope → IsScriptStepOfComparisonStayingInSession self.old.hand result self.new.hand)
+            × ((file : _) → command.now ≡ Command.CompareWith file → IsScriptStepOfComparisonStayingInSession self.old.hand result self.new.hand) }
+        ensures profile { (given : _) → command.now ≡ Command.Profile given → (result ≡ Answer.Reply Reply.Done) × (self.new.profile ≡ given) × (self.new.hand ≡ self.old.hand) }
         ensures saved { (file : _) → command.now ≡ Command.Save file → self.new.hand ≡ self.old.hand }
     {
         match command {
@@ -211,7 +232,7 @@ impl<'a, R: Files + AllocGlobal> Script<'a, R> {
                 order,
                 erased,
             } => {
-                let device = blank_ram_device(self.rt.alloc(), *block_size, *page, *block_count);
+                let device = self.blank_device(*block_size, *page, *block_count);
                 self.format(device, *order, *erased)
             }
             Command::Image {
@@ -220,6 +241,7 @@ impl<'a, R: Files + AllocGlobal> Script<'a, R> {
                 file,
                 erased,
             } => self.mount_image_file_as_session(file, *block_size, *page, *erased),
+            Command::Profile(profile) => self.set_profile(*profile),
             Command::Unmount => self.unmount(),
             Command::Mount(fault) => self.mount(*fault),
             Command::Save(file) => self.save(file),

@@ -4,6 +4,7 @@ mod Misfits
 mod Named
 mod Numerals
 mod OptionKinds
+mod ProfileKinds
 mod Refusals
 mod Spelling
 mod Stars

@@ -45,3 +45,11 @@ pub later : (words : List (List ℕ)) (place : ℕ) (kind : WordKind) (kinds : L
     → IsErrorOfWordsNotMatchingKinds words (place + 1) kinds error → IsErrorOfWordsNotMatchingKinds words place (kind ∷ kinds) error
 later words place kind kinds NoMemory fault = tt
 later words place kind kinds (Refused reason) fault = moved words (place + 1) place kinds (kind ∷ kinds) reason fault (suc fault.behind) (omega arith) fault.wanted
+
+-- a word is refused behind two others
+pub later_by_two : (words : List (List ℕ)) (place : ℕ) (first second : WordKind) (kinds : List WordKind) (error : LineError)
+    → IsErrorOfWordsNotMatchingKinds words (place + 2) kinds error → IsErrorOfWordsNotMatchingKinds words place (first ∷ second ∷ kinds) error
+later_by_two words place first second kinds error fault =
+    let same : place + 2 ≡ place + 1 + 1 = omega arith in
+    later words place first (second ∷ kinds) error
+    (later words (place + 1) second kinds error (subst (λ (p : ℕ). IsErrorOfWordsNotMatchingKinds words p kinds error) same fault))

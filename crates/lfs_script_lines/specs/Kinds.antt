@@ -1,5 +1,5 @@
 -- Which kinds of words each command wants behind its name.
-use Rattle.std.specs.Prelude.{ℕ, ◌^◌, ◌||◌, if◌then◌else◌, List, [], ◌∷◌, codes}
+use Rattle.std.specs.Prelude.{ℕ, ◌^◌, ◌||◌, if◌then◌else◌, Bool, List, [], ◌∷◌, codes}
 use Rattle.std.specs.Str.{bytes_eq}
 use Rattle.lfs_script_lines.specs.Words.{IsNumberWordInBaseBelow, IsWordOfBytes}
 use Rattle.lfs_script_lines.specs.declared.names.CommandName.{CommandName}
@@ -84,6 +84,18 @@ abbrev pub word_kinds_of_scope_option : List (List ℕ) → List WordKind
 word_kinds_of_scope_option [] = []
 word_kinds_of_scope_option (word ∷ words) = if bytes_eq word (codes "entries") then Keyword ∷ [] else Byte ∷ []
 
+-- the name of a limit
+abbrev pub is_limit_name : List ℕ → Bool
+is_limit_name word = bytes_eq word (codes "name-max") || bytes_eq word (codes "file-max") || bytes_eq word (codes "attr-max") || bytes_eq word (codes "inline-max")
+
+-- `also-2.1`, and limits with their numbers, in any order
+abbrev pub word_kinds_of_profile_options : List (List ℕ) → List WordKind
+word_kinds_of_profile_options [] = []
+word_kinds_of_profile_options (word ∷ []) = word_kinds_of_keyword_and_following_words (codes "also-2.1") word []
+word_kinds_of_profile_options (word ∷ next ∷ words) =
+    if bytes_eq word (codes "also-2.1") then Keyword ∷ word_kinds_of_profile_options (next ∷ words)
+    else (if is_limit_name word then Keyword ∷ Number ∷ word_kinds_of_profile_options words else NoOption ∷ [])
+
 -- ---- commands
 
 abbrev pub word_kinds_of_operation : OperationName → List WordKind
@@ -112,6 +124,7 @@ word_kinds_of_operation operation.Remount = []
 abbrev pub word_kinds_of_command : CommandName → List (List ℕ) → List WordKind
 word_kinds_of_command command.Fresh (_ ∷ _ ∷ _ ∷ words) = Number ∷ Number ∷ Number ∷ word_kinds_of_order_option words
 word_kinds_of_command command.Image (_ ∷ _ ∷ _ ∷ words) = Number ∷ Number ∷ Bytes ∷ word_kinds_of_erased_option words
+word_kinds_of_command command.Profile words = word_kinds_of_profile_options words
 word_kinds_of_command command.Mount words = word_kinds_of_fault_option words
 word_kinds_of_command command.Save words = Bytes ∷ []
 word_kinds_of_command command.Compare words = word_kinds_of_scope_option words

@@ -35,6 +35,7 @@ operation_name_text operation.Remount = codes "remount"
 abbrev pub command_name_text : CommandName → List ℕ
 command_name_text command.Fresh = codes "fresh"
 command_name_text command.Image = codes "image"
+command_name_text command.Profile = codes "profile"
 command_name_text command.Unmount = codes "unmount"
 command_name_text command.Mount = codes "mount"
 command_name_text command.Save = codes "save"
@@ -70,6 +71,7 @@ operation_argument_word_count operation.Remount = 0
 abbrev pub least_argument_word_count : CommandName → ℕ
 least_argument_word_count command.Fresh = 3
 least_argument_word_count command.Image = 3
+least_argument_word_count command.Profile = 0
 least_argument_word_count command.Unmount = 0
 least_argument_word_count command.Mount = 0
 least_argument_word_count command.Save = 1
@@ -82,6 +84,7 @@ least_argument_word_count (command.Perform name) = operation_argument_word_count
 abbrev pub most_argument_word_count : CommandName → ℕ
 most_argument_word_count command.Fresh = 6
 most_argument_word_count command.Image = 5
+most_argument_word_count command.Profile = 9
 most_argument_word_count command.Unmount = 0
 most_argument_word_count command.Mount = 5
 most_argument_word_count command.Save = 1
@@ -117,6 +120,7 @@ name_of_operation op.Remount = operation.Remount
 abbrev pub name_of_command : Command → CommandName
 name_of_command (made.Fresh block_size page block_count order erased) = command.Fresh
 name_of_command (made.Image block_size page file erased) = command.Image
+name_of_command (made.Profile profile) = command.Profile
 name_of_command made.Unmount = command.Unmount
 name_of_command (made.Mount fault) = command.Mount
 name_of_command (made.Save path) = command.Save

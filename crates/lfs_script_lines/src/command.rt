@@ -2,6 +2,7 @@
 
 use lfs_device::{Erased, NameOrder, PlannedFault};
 use lfs_fs::OpenFlags;
+use lfs_model::Profile;
 
 /// How much of two sessions is compared.
 #[derive(Clone, Copy)]
@@ -37,6 +38,8 @@ pub enum Command {
         /// What its erases leave.
         erased: Erased,
     },
+    /// What is accepted of the devices that are made from now on, and how these are written.
+    Profile(Profile),
     /// The end of the session.
     Unmount,
     /// A session over the device in hand, one of whose calls will fail.

@@ -11,6 +11,7 @@ mod names;
 mod numbers;
 mod operations;
 mod options;
+mod profile;
 mod refusal;
 mod word_text;
 mod words;

@@ -15,6 +15,7 @@ use crate::operations::operation_of_line_words;
 use crate::options::{
     comparison_scope_of_words, erased, name_order_and_erased_option, planned_fault_or_none,
 };
+use crate::profile::profile_of_words;
 use crate::refusal::LineObjection;
 use std::alloc::{AllocError, AllocFailed, Global};
 
@@ -99,6 +100,7 @@ fn command_of_name_and_words(
     let command = match name {
         CommandName::Fresh => fresh_device_command(words)?,
         CommandName::Image => open_image_command(alloc, words)?,
+        CommandName::Profile => Command::Profile(profile_of_words(words)?),
         CommandName::Unmount => Command::Unmount,
         CommandName::Mount => Command::Mount(planned_fault_or_none(words)?),
         CommandName::Save => Command::Save(bytes_of_word_at(alloc, words, 1)?),

@@ -35,6 +35,7 @@ pub enum OperationName {
 pub enum CommandName {
     Fresh,
     Image,
+    Profile,
     Unmount,
     Mount,
     Save,
@@ -81,6 +82,7 @@ fn command_of_word_unless_compare_with_or_operation(word: &[u8]) -> Option<Comma
     match word {
         b"fresh" => Some(CommandName::Fresh),
         b"image" => Some(CommandName::Image),
+        b"profile" => Some(CommandName::Profile),
         b"unmount" => Some(CommandName::Unmount),
         b"mount" => Some(CommandName::Mount),
         b"save" => Some(CommandName::Save),
@@ -144,6 +146,7 @@ pub(crate) fn most_argument_count(name: CommandName) -> usize
     ensures { result ≡ most_argument_word_count name }
 {
     match name {
+        CommandName::Profile => 9,
         CommandName::Fresh => 6,
         CommandName::Image | CommandName::Mount => 5,
         CommandName::Compare => 1,
@@ -182,6 +185,9 @@ impl CommandName {
         match self {
             CommandName::Fresh => "fresh B P N [longer-first | shorter-first] [fill XX | keep]",
             CommandName::Image => "image B P FILE [fill XX | keep]",
+            CommandName::Profile => {
+                "profile [also-2.1] [name-max N] [file-max N] [attr-max N] [inline-max N]"
+            }
             CommandName::Unmount => "unmount",
             CommandName::Mount => "mount [KIND N [stop] [torn K | whole]]",
             CommandName::Save => "save FILE",

@@ -1,33 +1,47 @@
 #!/usr/bin/env python3
 """What the calls from C and from Python answer and leave.
 
-usage: bindings.py [--count N] [--seed WORD] [--built] [--littlefs FOLDER]
+usage: bindings.py [--count N] [--seed WORD] [--built] [--littlefs FOLDER] [--times]
 
 Builds the static library (`rt lib`), and the example and the shared library from it (`make`); not with `--built`. Then in turn:
 
-- the example in C is run, and has to print what it says;
+- the example in C is run twice on one file, and has to print what it says;
 - N lists of 30 operations made at random are carried out through bindings/python on an image each, and worked out by
   session_model.py, which shares nothing with the crates: each answer and refusal is compared, and behind each operation that is
   refused the bytes, and at the end of the list the whole tree, by a second look at these bytes. With the folder of littlefs's own
   code it has to show the same tree of each image whose longer names come first, as littlefs has them;
+- N lists of 40 operations of one session, with open files, are compared with the same model;
 - each call that fills a buffer is given one of no byte, one too short, an exact one, and one with room to spare: what is behind
   the bytes that it says, and all of it where they don't fit, has to stay;
 - each call is given hostile images: changed, cut and random bytes, and sizes out of range. Each answers a number that
   littlefs_c.h names, leaves a refused image and all that lies beside image and buffer, and takes what it accepts to an image that
-  is accepted.
+  is accepted. So do the calls of a session over what a mount accepts;
+- each call is given a handle that is closed;
+- what bindings/python promises beside that: file objects, exceptions, limits and versions, threads, and what comes after a close.
 
-Prints how many there were of each. Fails at the first difference.
+Prints how many there were of each. Fails at the first difference. With `--times` it prints instead how long 1,000 writes of 100
+bytes, 1,000 stats, a read of 1 MiB in pieces and 1,000 new files take: by a session, by a call on an image each, by littlefs's own
+code where its folder is given, and from Python.
 """
 
 import argparse
 import collections
+import contextlib
 import copy
 import ctypes
+import errno
+import gc
+import io
+import json
 import os
 import random
+import re
 import subprocess
 import sys
 import tempfile
+import threading
+import time
+import zipfile
 import zlib
 
 import littlefs_code
@@ -39,7 +53,7 @@ sys.path.insert(0, os.path.join(top, "bindings", "python"))
 import littlefs_c
 
 NAMES = [b"a", b"b", b"ab", b"name with space", b"\\", b"caf\xc3\xa9", b"\xff\x01", b"x" * 255, b"x" * 256]
-EXAMPLE = "f 12 today\n21.5 degrees\n"
+EXAMPLE = ["21.5 degrees\nf 13 today\n", "21.5 degrees\n21.5 degrees\nf 26 today\n"]
 GUARD = 64
 
 
@@ -163,8 +177,8 @@ def by_model(model, name, takes):
 def by_calls(image, name, takes):
     try:
         return getattr(image, name)(*takes)
-    except littlefs_c.Error as error:
-        return type(error).__name__
+    except OSError as error:
+        return littlefs_c.ERRORS[error.errno]
 
 
 def look(image, tree):
@@ -204,13 +218,123 @@ def compare(count, seed, code):
             wanted, model = by_model(model, name, takes)
             got = by_calls(image, name, takes)
             same(f"list {number}, {name} {takes!r:.200}", got, wanted)
-            if name not in CHANGES or isinstance(wanted, str):
+            if name not in CHANGES or isinstance(wanted, str) and name != "write":
                 same(f"list {number}, bytes behind {name} {takes!r:.200}", bytes(image) == before, True)
+            if name == "write" and isinstance(wanted, str):
+                look(image, model.tree)
             seen[name + (" refused" if isinstance(wanted, str) else "")] += 1
         look(littlefs_c.Image(bytes(image), block_size, page), model.tree)
         if code and order == littlefs_c.LONGER_FIRST:
             by_littlefs(code, image, block_size, page, model.tree)
             seen["image shown by littlefs"] += 1
+    return seen
+
+
+# Sessions with open files
+
+
+IN_SESSION = ["open"] * 10 + ["write"] * 6 + ["read"] * 6 + ["seek"] * 4 + ["truncate"] * 2 + ["sync"] * 2 + ["close"] * 3 + ["mkdir", "mkdir", "remove", "rename", "items", "stat", "getattr", "setattr", "removeattr", "used", "recover"]
+FLAGS = [0x1] * 8 + [0x2, 0x102, 0x102, 0x502, 0x502, 0x902, 0x302] * 2 + [0, 0x3, 0x402, 0x1002, 0x101, 0x202]
+
+
+def a_session_call(chance, model):
+    """A call of a session, and what it takes."""
+    name = chance.choice(IN_SESSION if chance.random() > 0.01 else ["remount"])
+    path = a_path(chance, model)
+    if name == "open" and chance.random() < 0.5:
+        path = chance.choice([at for at, node in model.tree.items() if node.content is not None] or [b"/file"])
+    if name in ("mkdir", "open") and sum(at.rpartition(b"/")[0] == path.rpartition(b"/")[0] for at in model.tree) > 5:
+        name = "close"
+    fit = [number for number, file in model.files.items() if file.writes == (name in ("write", "truncate", "sync")) or name in ("seek", "close")]
+    file = chance.choice(fit) if fit and chance.random() < 0.8 else chance.choice([*model.files, 0, 1, 17, 2**32 - 1])
+    size = chance.choice([0, 1, 100, 511, 513, 4096, 9000, chance.randint(0, 30000), 2147483647, 2147483648])
+    takes = {
+        "open": lambda: (path, chance.choice(FLAGS)),
+        "write": lambda: (file, some_bytes(chance, 9000)),
+        "read": lambda: (file, min(size, 40000)),
+        "seek": lambda: (file, size),
+        "truncate": lambda: (file, size),
+        "sync": lambda: (file,),
+        "close": lambda: (file,),
+        "rename": lambda: (path, a_path(chance, model)),
+        "setattr": lambda: (path, chance.choice([0, 7, 255]), some_bytes(chance, 40)[:1100]),
+        "removeattr": lambda: (path, chance.choice([0, 7, 255])),
+        "getattr": lambda: (path, chance.choice([0, 7, 255])),
+        "used": lambda: (),
+        "recover": lambda: (),
+        "remount": lambda: (),
+    }.get(name, lambda: (path,))()
+    return name, takes
+
+
+def model_file_read(model, number, count):
+    file = model.file(number, writes=False)
+    found = model.tree[file.path].content[file.position : file.position + count]
+    file.position += len(found)
+    return found
+
+
+BY_NUMBER = {
+    "open": lambda model, path, flags: int(model.open(word(path), f"{flags:x}").split()[1]),
+    "write": lambda model, number, data: int(model.write(number, word(data)).split()[1]),
+    "read": model_file_read,
+    "seek": lambda model, number, position: model.seek(number, position) and None,
+    "truncate": lambda model, number, size: model.truncate(number, size) and None,
+    "sync": lambda model, number: model.sync(number) and None,
+    "close": lambda model, number: model.close(number) and None,
+    "recover": lambda model: None,
+    "remount": lambda model: model.remount() and None,
+}
+
+
+def session_in_model(model, name, takes):
+    after = copy.deepcopy(model)
+    try:
+        if name in BY_NUMBER:
+            return BY_NUMBER[name](after, *takes), after
+        answer = IN_MODEL[name](after, *takes)
+        return None if name in CHANGES else answer, after
+    except Refused as refused:
+        return str(refused), model
+
+
+def session_by_calls(image, name, takes):
+    """The same call through the handle of an image."""
+    try:
+        if name == "open":
+            return image._call("open", [], *littlefs_c._bytes(takes[0]), takes[1])
+        if name == "read":
+            buffer = bytearray(takes[1])
+            return bytes(buffer[: image._call("file_read", [], takes[0], *littlefs_c._room(buffer))])
+        if name == "write":
+            return image._call("file_write", [], takes[0], *littlefs_c._bytes(takes[1]))
+        if name in ("seek", "truncate", "sync", "close"):
+            return "not 0" if image._call("file_" + name, [], *takes) else None
+        return getattr(image, name)(*takes)
+    except OSError as error:
+        return littlefs_c.ERRORS[error.errno]
+
+
+def sessions(count, seed):
+    seen = collections.Counter()
+    for number in range(count):
+        chance = random.Random(f"{seed} session {number}")
+        block_size, page, blocks = chance.choice([(1024, 8, 64), (4096, 256, 24), (2048, 64, 32), (4096, 512, 16)])
+        model = Model(block_size, page, blocks)
+        with littlefs_c.Image.format(block_size * blocks, block_size, page) as image:
+            for _ in range(40):
+                name, takes = a_session_call(chance, model)
+                before = bytes(image)
+                wanted, model = session_in_model(model, name, takes)
+                got = session_by_calls(image, name, takes)
+                same(f"session {number}, {name} {takes!r:.200}", got, wanted)
+                if isinstance(wanted, str):
+                    same(f"session {number}, bytes behind {name} {takes!r:.200}", bytes(image) == before, True)
+                seen[name + (" refused" if isinstance(wanted, str) else "")] += 1
+            for file in sorted(model.files):
+                image._call("file_close", [], file)
+                model.close(file)
+            look(littlefs_c.Image(bytes(image), block_size, page), model.tree)
     return seen
 
 
@@ -223,6 +347,15 @@ def guarded(size):
     return whole, ctypes.addressof(whole) + GUARD
 
 
+def filled(name, size, whole, answer, wanted, may_be_part):
+    """A buffer of so many bytes has what a call says, and nothing beside it was written."""
+    held = bytes(whole)[GUARD:-GUARD]
+    put = wanted[:size] if may_be_part else wanted if len(wanted) <= size else b""
+    same(f"{name} into {size} bytes", answer, len(put) if may_be_part else len(wanted))
+    same(f"{name} into {size} bytes, the buffer", held, put + b"\xa5" * (size - len(put)))
+    same(f"{name} into {size} bytes, beside it", bytes(whole)[:GUARD] + bytes(whole)[-GUARD:], b"\xa5" * 2 * GUARD)
+
+
 def buffers():
     calls = littlefs_c.load()
     image = littlefs_c.Image.format(24 * 4096)
@@ -230,20 +363,26 @@ def buffers():
     image.write("/d/file", bytes(range(256)) * 20)
     image.write("/d/\\back", b"")
     image.setattr("/d/file", 9, b"an attribute")
-    listed = b"f 0 \\x5cback\nf 5120 file\n"
-    asked = [("list", (b"/d",), listed, False), ("read", (b"/d/file", 0), bytes(range(256)) * 20, True), ("read", (b"/d/file", 5000), (bytes(range(256)) * 20)[5000:], True),
+    data = bytes(image)
+    listed, content = b"f 0 \\x5cback\nf 5120 file\n", bytes(range(256)) * 20
+    asked = [("list", (b"/d",), listed, False), ("read", (b"/d/file", 0), content, True), ("read", (b"/d/file", 5000), content[5000:], True),
              ("read", (b"/d/file", 5120), b"", True), ("get_attr", (b"/d/file", 9), b"an attribute", False)]
+    file = image._call("open", [], *littlefs_c._bytes(b"/d/file"), littlefs_c.READ)
+    held = [("list_at", littlefs_c._bytes(b"/d"), listed, False), ("get_attr_at", (*littlefs_c._bytes(b"/d/file"), 9), b"an attribute", False), ("image", (), data, False),
+            *[("image_part", (offset,), data[offset:], True) for offset in (0, 1, 50000, len(data) - 1, len(data), len(data) + 1, 2**64 - 1)],
+            *[("file_read", (file, position), content[position:], True) for position in (0, 5000, 5120, 6000)]]
     seen = 0
-    for name, takes, wanted, may_be_part in asked:
+    for name, takes, wanted, may_be_part in asked + held:
         for size in {0, max(len(wanted) - 1, 0), len(wanted), len(wanted) + 1, len(wanted) + 100}:
             whole, address = guarded(size)
-            path, more = takes[0], takes[1:]
-            answer = calls[name](image._data, image._size, 4096, 256, *littlefs_c._bytes(path), *more, address, size)
-            held = bytes(whole)[GUARD:-GUARD]
-            put = wanted[:size] if may_be_part else wanted if len(wanted) <= size else b""
-            same(f"{name} into {size} bytes", answer, len(put) if may_be_part else len(wanted))
-            same(f"{name} into {size} bytes, the buffer", held, put + b"\xa5" * (size - len(put)))
-            same(f"{name} into {size} bytes, beside it", bytes(whole)[:GUARD] + bytes(whole)[-GUARD:], b"\xa5" * 2 * GUARD)
+            if name in littlefs_c.CALLS:
+                answer = calls[name](data, len(data), 4096, 256, *littlefs_c._bytes(takes[0]), *takes[1:], address, size)
+            elif name == "file_read":
+                image._call("file_seek", [], *takes)
+                answer = image._call(name, [], takes[0], address, size)
+            else:
+                answer = image._call(name, [], *takes, address, size)
+            filled(name, size, whole, answer, wanted, may_be_part)
             seen += 1
     return seen
 
@@ -295,6 +434,23 @@ def called(calls, name, data, block_size, page, chance):
     return answer, bytes(whole)[GUARD : len(whole) - GUARD]
 
 
+def attack_session(chance, number, data, block_size, page):
+    """A session over hostile bytes answers or refuses, and leaves an image that is accepted."""
+    try:
+        image = littlefs_c.Image(data, block_size, page)
+    except OSError as error:
+        same(f"image {number}: an error's number", littlefs_c.ERRORS[error.errno] in ("Invalid", "Corrupt"), True)
+        return False
+    with image:
+        path, other = b"/d/file", b"/d/" + chance.randbytes(3).replace(b"/", b"_").replace(b"\0", b"_")
+        for call in [lambda: image.recover(), lambda: image.write(other, chance.randbytes(3000)), lambda: list(image.walk()), lambda: image.read(path), lambda: image.rename(path, b"/moved"),
+                     lambda: image.setattr(b"/d", 9, b"other"), lambda: image.remove(other), lambda: image.used(), lambda: image.remount(), lambda: image.open(other, "ab").close()]:
+            with contextlib.suppress(OSError):
+                call()
+        image.check()
+    return True
+
+
 def some_images():
     images = []
     for block_size, page, blocks in [(4096, 256, 8), (1024, 8, 32)]:
@@ -320,7 +476,306 @@ def attack(count, seed):
             else:
                 littlefs_c.Image(left, block_size, page)
             seen["refused" if answer < 0 else "answered"] += 1
+        seen["mounted" if attack_session(chance, number, data, block_size, page) else "not mounted"] += 1
     return seen
+
+
+# What bindings/python promises beside that
+
+
+def raises(wanted, call, number=None, path=None):
+    """A call raises that exception, with that number and that path, where they are given."""
+    try:
+        call()
+    except wanted as error:
+        same(f"the number of {error!r}", number in (None, getattr(error, "errno", None)), True)
+        same(f"the path of {error!r}", path in (None, getattr(error, "filename", None)), True)
+    else:
+        raise Different(f"no {wanted} by {call}")
+
+
+def closed():
+    """Each call through a closed handle is refused, and a second end of a session does nothing."""
+    calls, seen = littlefs_c.load(), 0
+    for name, takes in littlefs_c.SESSION_CALLS.items():
+        handle, room = littlefs_c._Handle(None, 0), ctypes.create_string_buffer(100)
+        if name in ("mount", "mkfs"):
+            continue
+        words = [word for letter in takes for word in ((room, 100) if letter == "b" else (1,))]
+        same(f"{name} of a closed handle", calls[name](handle, *words), 0 if name == "unmount" else -77)
+        same(f"{name} of a closed handle, the handle", (handle.at, handle.is_open), (None, 0))
+        seen += 1
+    with littlefs_c.Image.format(16 * 4096) as image:
+        data = bytes(image)
+        same("a second mount", calls["mount"](image._handle, image._config, data, len(data)), -errno.EBUSY)
+        same("a second format", calls["mkfs"](image._handle, image._config, 16), -errno.EBUSY)
+        image.check()
+    same("a closed image", (image.closed, calls["unmount"](image._handle)), (True, 0))
+    for name in ("used", "listdir", "recover", "remount", "check", "__bytes__", "__enter__"):
+        raises(ValueError, getattr(image, name))
+    raises(ValueError, lambda: image.open("/file", "w"))
+    raises(ValueError, lambda: image.write("/file", b""))
+    return seen
+
+
+def files():
+    """File objects are those of the module io."""
+    image = littlefs_c.Image.format(64 * 4096)
+    with image.open("/text", "w") as file:
+        file.write("ä\nb\n")
+        same("a text's mode", (file.mode, file.encoding), ("w", "utf-8"))
+    with image.open("/text", "a") as file:
+        print("c", file=file)
+    with image.open("/text") as file:
+        same("lines", list(file), ["ä\n", "b\n", "c\n"])
+        same("a position", (file.seek(0), file.read(1), file.readline()), (0, "ä", "\n"))
+    with image.open("/text", "rb") as file:
+        same("from the end", (file.seek(-2, io.SEEK_END), file.read(), file.tell()), (5, b"c\n", 7))
+        same("behind the end", (file.seek(100), file.read()), (100, b""))
+        raises(io.UnsupportedOperation, lambda: file.write(b"x"))
+    with image.open("/json", "w") as file:
+        json.dump({"a": [1, 2]}, file)
+    with image.open("/json") as file:
+        same("json", json.load(file), {"a": [1, 2]})
+    with image.open("/zip", "wb") as file:
+        with zipfile.ZipFile(file, "w") as archive:
+            archive.writestr("a", "b" * 1000)
+    with image.open("/zip", "rb") as file:
+        same("zipfile", zipfile.ZipFile(file).read("a"), b"b" * 1000)
+    with image.open("/raw", "wb", buffering=0) as file:
+        same("a raw file", (type(file), file.write(b"12345"), file.seek(2), file.write(b"ab"), file.truncate(), file.tell()), (littlefs_c.File, 5, 2, 2, 4, 4))
+        same("not saved yet", image.stat("/raw"), 0)
+        file.sync()
+        same("saved", image.stat("/raw"), 4)
+        raises(io.UnsupportedOperation, file.read)
+        raises(OSError, lambda: image.open("/other", "w"), errno.EBUSY, "/other")
+        raises(OSError, lambda: image.remove("/raw"), errno.EBUSY)
+    same("its bytes", image.read("/raw"), b"12ab")
+    raises(FileExistsError, lambda: image.open("/raw", "x"), errno.EEXIST, "/raw")
+    for mode in ("r+", "w+b", "rw", "", "b", "rbt", "rr", "q"):
+        raises(io.UnsupportedOperation, lambda: image.open("/raw", mode))
+    readers = [image.open("/raw", "rb") for _ in range(16)]
+    raises(OSError, lambda: image.open("/raw", "rb"), errno.EBUSY, "/raw")
+    same("what readers read", {file.read() for file in readers}, {b"12ab"})
+    del readers
+    gc.collect()
+    image.open("/raw", "rb").close()
+    lost, other = image.open("/raw", "rb", buffering=0), image.open("/lost", "wb", buffering=0)
+    other.write(b"not saved")
+    image.remount()
+    with image.open("/text", "rb", buffering=0):
+        raises(ValueError, lost.read)
+        raises(ValueError, lambda: other.write(b"x"))
+        lost.close(), other.close()
+    same("behind a remount", (lost.closed, other.closed, image.stat("/lost")), (True, True, 0))
+    left = image.open("/left", "w")
+    left.write("open when the image is closed")
+    kept = bytes(image)
+    same("not in the image yet", littlefs_c.Image(kept).stat("/left"), 0)
+    image.close()
+    raises(ValueError, lambda: left.write("x"))
+    return image
+
+
+def refusals():
+    """Exceptions are Python's own, with their numbers and paths."""
+    image = littlefs_c.Image.format(16 * 4096)
+    image.makedirs("/a/b/c")
+    image.makedirs("/a/b/c", exist_ok=True)
+    image.write("/a/file", bytearray(b"12"))
+    raises(FileNotFoundError, lambda: image.stat("/none"), errno.ENOENT, "/none")
+    raises(FileNotFoundError, lambda: image.open("/none/file", "w"), errno.ENOENT, "/none/file")
+    raises(FileExistsError, lambda: image.mkdir("/a"), errno.EEXIST, "/a")
+    raises(FileExistsError, lambda: image.makedirs("/a/b"), errno.EEXIST, "/a/b")
+    raises(NotADirectoryError, lambda: image.mkdir("/a/file/x"), errno.ENOTDIR)
+    raises(NotADirectoryError, lambda: image.listdir("/a/file"), errno.ENOTDIR)
+    raises(IsADirectoryError, lambda: image.read("/a"), errno.EISDIR, "/a")
+    raises(OSError, lambda: image.remove("/a"), errno.ENOTEMPTY, "/a")
+    raises(OSError, lambda: image.mkdir("no slash"), errno.EINVAL)
+    raises(OSError, lambda: image.mkdir("/" + "x" * 256), errno.ENAMETOOLONG)
+    raises(OSError, lambda: image.write("/large", bytes(16 * 4096)), errno.ENOSPC, "/large")
+    raises(OSError, lambda: image.getattr("/a", 1), 61, "/a")
+    raises(OSError, lambda: littlefs_c.Image(bytes(16 * 4096)), 84)
+    raises(OSError, lambda: littlefs_c.Image(b"12"), errno.EINVAL)
+    raises(OSError, lambda: littlefs_c.Image.format(16 * 4096 + 1), errno.EINVAL)
+    try:
+        image.rename("/none", "/new")
+    except FileNotFoundError as error:
+        same("both paths", (error.filename, error.filename2), ("/none", "/new"))
+    for call in (lambda: image.write("/a/file", 5), lambda: image.write("/a/file", "text"), lambda: littlefs_c.Image(5), lambda: image.setattr("/a", 1, 5), lambda: image.stat(5)):
+        raises(TypeError, call)
+    for call in (lambda: image.setattr("/a", 256, b""), lambda: image.read("/a/file", -1), lambda: littlefs_c.Image.format(16 * 4096, -1), lambda: image.part(-1, 5)):
+        raises(ValueError, call)
+    same("what is left", (sorted(image.walk()), image.stat("/a/file"), image.exists("/large")), ([("/", ["a"], []), ("/a", ["b"], ["file"]), ("/a/b", ["c"], []), ("/a/b/c", [], [])], 2, False))
+    same("entries", list(image.scandir("/a")), [("b", "/a/b", None), ("file", "/a/file", 2)])
+    same("kinds", (image.is_dir("/a"), image.is_file("/a"), image.is_file("/a/file"), image.is_dir("/none"), image.exists("/a/file/x")), (True, False, True, False, False))
+    with image.open("/a/file", "rb") as reader:
+        reader.seek(1)
+        raises(OSError, lambda: image.write("/a/b/file", bytes(16 * 4096)), errno.ENOSPC)
+        image.write("/a/b/file", b"kept")
+        raises(OSError, lambda: image.write("/a/b/file", bytes(16 * 4096)), errno.ENOSPC)
+        same("a reader beside a refused write", (reader.read(), image.read("/a/b/file")), (b"2", b"kept"))
+    missing = subprocess.run([sys.executable, "-c", "import littlefs_c; littlefs_c.Image.format(65536)"], env={**os.environ, "LITTLEFS_C": "/none.so", "PYTHONPATH": os.path.dirname(littlefs_c.__file__)}, capture_output=True, text=True)
+    same("a library that isn't there", "run `rt lib` in crates/littlefs_c and `make` in bindings/c" in missing.stderr, True)
+
+
+def profiles():
+    """Limits hold, are in the image, and are checked by whoever mounts it."""
+    limits = {"name_max": 10, "file_max": 5000, "attr_max": 20, "inline_max": 100}
+    with littlefs_c.Image.format(32 * 4096, **limits) as image:
+        image.write("/" + "n" * 10, bytes(5000))
+        raises(OSError, lambda: image.write("/" + "n" * 11, b""), errno.ENAMETOOLONG)
+        raises(OSError, lambda: image.write("/file", bytes(5001)), errno.EFBIG)
+        image.write("/file", bytes(100))
+        inline = image.used()
+        image.write("/file", bytes(101))
+        same("a block for a longer file", image.used(), inline + 1)
+        image.setattr("/file", 1, bytes(20))
+        raises(OSError, lambda: image.setattr("/file", 1, bytes(21)), errno.EFBIG)
+        data = bytes(image)
+    with littlefs_c.Image(data) as image:
+        same("read by other limits", image.stat("/file"), 101)
+        raises(OSError, lambda: image.write("/file", b""), errno.EROFS)
+    with littlefs_c.Image(data, **limits) as image:
+        image.write("/file", b"written")
+        same("a check by the same limits", image.check(), None)
+    for name, most in {"name_max": 255, "file_max": 2147483647, "attr_max": 1022, "inline_max": 1022}.items():
+        for wrong in (0, most + 1):
+            raises(OSError, lambda: littlefs_c.Image(data, **{**limits, name: wrong}), errno.EINVAL)
+            raises(OSError, lambda: littlefs_c.Image.format(32 * 4096, **{name: wrong}), errno.EINVAL)
+    for order in (2, 2**32 - 1):
+        raises(OSError, lambda: littlefs_c.Image.format(32 * 4096, order=order), errno.EINVAL)
+
+
+def versions(code, room):
+    """Images that littlefs's own code makes of version 2.1 are read and written where that is asked for, and it reads them then."""
+    for number, geometry in enumerate([(4096, 256, 32), (4096, 16, 32), (2048, 128, 64)]):
+        path = f"{room}/later{number}.img"
+        driver = littlefs_code.Driver(code, path, geometry, fresh=True)
+        lines = [f"mkdir {b'/d'.hex()}", f"put {b'/d/file'.hex()} 100 a", f"put {b'/long'.hex()} 9000 b", f"append {b'/long'.hex()} 3 c"]
+        same("made by littlefs", ([driver.tell(line) for line in lines], driver.end(path)), ([0] * len(lines), 0))
+        with open(path, "rb") as file:
+            data = file.read()
+        raises(OSError, lambda: littlefs_c.Image(data, *geometry[:2]), 84)
+        with littlefs_c.Image(data, *geometry[:2], also_2_1=True) as image:
+            same("read of version 2.1", (image.read("/d/file"), image.read("/long")), (b"a" * 100, b"b" * 9000 + b"c" * 3))
+            image.write("/d/file", b"written")
+            with image.open("/d/more", "wb") as file:
+                file.write(bytes(5000))
+            image.check()
+            with open(path, "wb") as file:
+                file.write(bytes(image))
+        shown = littlefs_code.shown(code, path, geometry)
+        wanted = {b"/d/file": b"written", b"/d/more": bytes(5000), b"/long": b"b" * 9000 + b"c" * 3}
+        same("shown by littlefs", {at: content for at, (content, _) in shown.tree.items() if content}, {at: (len(data), zlib.crc32(data) ^ 0xFFFFFFFF) for at, data in wanted.items()})
+    return number + 1
+
+
+def threads():
+    """Threads that use one image at the same time."""
+    image, failed = littlefs_c.Image.format(256 * 4096), []
+    image.write("/shared", b"/" * 5000)
+    shared = image.open("/shared", "rb")
+    names = [f"/file{number}" for number in range(8)]
+    for name in names:
+        image.write(name, name.encode() * 100)
+
+    def work(name):
+        try:
+            for number in range(100):
+                with image.open(name, "rb") as file:
+                    same(f"{name} by a thread", file.read(), name.encode() * 100)
+                    same(f"{name} shared", shared.read(1) in (b"/", b""), True)
+                    shared.seek(0)
+                image.write(f"{name}-{number % 3}", bytes(number))
+                image.listdir()
+        except BaseException as error:
+            failed.append(error)
+
+    workers = [threading.Thread(target=work, args=(name,)) for name in names]
+    for worker in workers:
+        worker.start()
+    for worker in workers:
+        worker.join()
+    if failed:
+        raise failed[0]
+    image.check()
+    ended = [threading.Thread(target=image.close) for _ in range(2)]
+    for worker in ended:
+        worker.start()
+    for worker in ended:
+        worker.join()
+    same("closed by two threads", (image.closed, shared.closed), (True, True))
+    return len(names)
+
+
+# Times
+
+
+def compiled(room, name, words):
+    out = os.path.join(room, name)
+    subprocess.run(["gcc", "-O2", "-w", *words, "-o", out], check=True)
+    return out
+
+
+def programs(room, littlefs):
+    """bindings.c in its forms, by name."""
+    source, c = os.path.join(top, "bench", "bindings.c"), os.path.join(top, "bindings", "c")
+    archives = subprocess.run(["make", "-s", "-C", c, "archives"], check=True, capture_output=True, text=True).stdout.split()
+    ours = [source, f"-I{c}", *[os.path.join(c, it) for it in archives]]
+    made = {"session": compiled(room, "session", ["-DSESSION", *ours]), "a call each": compiled(room, "calls", ["-DCALLS", *ours])}
+    if littlefs:
+        prefix = "lfs2" if os.path.exists(f"{littlefs}/lfs2.c") else "lfs"
+        with open(source) as it:
+            names = set(re.findall(r"\b(?:lfs|LFS)_\w+", it.read()))
+        renamed = [f"-D{name}={name.replace('lfs', 'lfs2', 1).replace('LFS', 'LFS2', 1)}" for name in sorted(names) if not re.match("(?i)lfs_c_", name)] if prefix == "lfs2" else []
+        switches = [f"-D{prefix.upper()}_{it}" for it in ("NO_DEBUG", "NO_WARN", "NO_ERROR")]
+        made["littlefs"] = compiled(room, "littlefs", [f'-DHEADER="{prefix}.h"', f"-I{littlefs}", *renamed, *switches, source, f"{littlefs}/{prefix}.c", f"{littlefs}/{prefix}_util.c"])
+    return made
+
+
+def from_python(size, count):
+    """The same rows through bindings/python."""
+    rows, clock = {}, time.perf_counter
+
+    def put(path, data):
+        with image.open(path, "wb", buffering=0) as file:
+            file.write(data)
+
+    with littlefs_c.Image.format(size) as image:
+        image.write("/small", bytes(100))
+        begun = clock()
+        for number in range(count):
+            put("/small", bytes([number % 256]) * 100)
+        rows["writes"], begun = clock() - begun, clock()
+        for number in range(count):
+            image.stat("/small")
+        rows["stats"] = clock() - begun
+        image.write("/long", bytes(1 << 20))
+        begun = clock()
+        with image.open("/long", "rb", buffering=0) as file:
+            while file.read(4096):
+                pass
+        rows["read"] = clock() - begun
+        image.mkdir("/d")
+        begun = clock()
+        for number in range(count):
+            put(f"/d/file{number:05}", bytes(10))
+        rows["files"] = clock() - begun
+    return rows
+
+
+def times(littlefs):
+    with tempfile.TemporaryDirectory() as room:
+        made = programs(room, littlefs)
+        for size, count in ((3 << 19, 1000), (16 << 20, 1000)):
+            print(f"an image of {size} bytes, seconds (the least of three; of a call each from one run)")
+            for name, program in made.items():
+                runs = [subprocess.run([program, str(size), str(count)], check=True, capture_output=True, text=True).stdout for _ in range(1 if name == "a call each" else 3)]
+                found = [dict(line.split() for line in run.splitlines()) for run in runs]
+                print(f"  {name:12}", *[f"{row} {min(float(it[row]) for it in found):.4f}" for row in found[0]])
+            found = [from_python(size, count) for _ in range(3)]
+            print(f"  {'Python':12}", *[f"{row} {min(it[row] for it in found):.4f}" for row in found[0]])
 
 
 def main():
@@ -329,18 +784,31 @@ def main():
     parser.add_argument("--seed", default="1")
     parser.add_argument("--built", action="store_true")
     parser.add_argument("--littlefs", type=os.path.abspath)
+    parser.add_argument("--times", action="store_true")
     given = parser.parse_args()
     if not given.built:
         build()
-    shown = subprocess.run([os.path.join(top, "bindings", "c", "example")], capture_output=True, text=True, check=True).stdout
-    same("the example", shown, EXAMPLE)
+    if given.times:
+        return times(given.littlefs)
+    with tempfile.TemporaryDirectory() as room:
+        for wanted in EXAMPLE:
+            shown = subprocess.run([os.path.join(top, "bindings", "c", "example"), os.path.join(room, "log.img")], capture_output=True, text=True, check=True).stdout
+            same("the example", shown, wanted)
+    print("closed handles:", closed())
+    files()
+    refusals()
+    profiles()
+    print("threads:", threads())
     print("buffers:", buffers())
     print("hostile images:", dict(attack(given.count, given.seed)))
     with tempfile.TemporaryDirectory() as room:
         code = littlefs_code.build(given.littlefs, f"{room}/exchange", "0x00020000") if given.littlefs else None
         seen = compare(given.count, given.seed, code)
-    print("images shown by littlefs:", seen.pop("image shown by littlefs", 0))
+        later = versions(littlefs_code.build(given.littlefs, f"{room}/newest"), room) if code else 0
+    print("images shown by littlefs:", seen.pop("image shown by littlefs", 0), "of version 2.1:", later)
     print("operations:", sum(seen.values()), dict(sorted(seen.items())))
+    seen = sessions(given.count, given.seed)
+    print("calls of sessions:", sum(seen.values()), dict(sorted(seen.items())))
 
 
 if __name__ == "__main__":

@@ -1,16 +1,30 @@
-/* littlefs at on-disk version 2.0 over images in memory.
+/* littlefs over images in memory.
  *
- * Each call takes a whole image as bytes that the caller owns, carries out one operation on it, and keeps nothing: there is
- * no handle, and nothing is to be freed. Link out/liblittlefs_c.a of crates/littlefs_c, and the kit's c/liblibc_c.a, by which
- * it calls malloc, realloc and free. Each call copies the image, so it takes a little more memory than that while it runs.
+ * An image is mounted once, and then has many calls:
  *
- * What a call answers: 0 or more, or minus one of the numbers below. An image is changed only where the answer isn't negative,
- * and a buffer is written only where what it is to hold fits.
+ *     lfs_c_session fs = LFS_C_CLOSED;                    // all zeros: no session
+ *     lfs_c_config config = LFS_C_CONFIG(4096, 256);      // blocks and pages, and the defaults of all else
+ *     lfs_c_mount(&fs, &config, image, image_len);        // copies the image; or lfs_c_mkfs(&fs, &config, 16)
+ *     int64_t file = lfs_c_open(&fs, path, path_len, LFS_C_WRITE | LFS_C_CREATE | LFS_C_APPEND);
+ *     lfs_c_file_write(&fs, file, text, text_len);
+ *     lfs_c_file_close(&fs, file);                        // commits
+ *     lfs_c_image(&fs, image, image_len);                 // the image as it is now
+ *     lfs_c_unmount(&fs);                                 // frees
+ *
+ * Or one call takes a whole image as bytes that the caller owns, performs one operation on it, and keeps nothing: the last part
+ * below. It copies and mounts the image each time.
+ *
+ * Link out/liblittlefs_c.a of crates/littlefs_c, and the kit's c/liblibc_c.a, by which it calls malloc, realloc and free.
+ *
+ * What a call answers: 0 or more, or minus one of the numbers below. After a refusal nothing has changed: no file, no position,
+ * no byte of the image, and no buffer. A buffer is written only where what it is to hold fits.
  *
  * What the calls rely on, and can't check:
  *   - a pointer isn't NULL, not even beside a length of 0, and as many bytes lie there as the length says;
- *   - what a call may write (an image without const, a buffer) overlaps with none of its other arguments;
- *   - nothing else reads or writes these bytes while the call runs. Calls on different images may run at the same time;
+ *   - what a call may write (an image without const, a buffer, a session) overlaps with none of its other arguments;
+ *   - nothing else reads or writes these bytes while the call runs. Calls on different images and sessions may run at the same time;
+ *   - a session is all zeros, or as the last call left it, and of two copies only one is used. It may go to another thread, which
+ *     is told of it by a lock, a start or a join;
  *   - no call is made from a signal handler.
  * Any bytes may stand in an image, a path may be any bytes, and a number any number.
  *
@@ -28,18 +42,22 @@ extern "C" {
 #endif
 
 #define LFS_C_NO_ENT 2         /* nothing is at the path, or a parent of it isn't there */
+#define LFS_C_BAD_FILE 9       /* no file is open under the number, or it is open for the other purpose */
 #define LFS_C_NO_MEMORY 12     /* memory was wanted and not granted */
+#define LFS_C_BUSY 16          /* the session is open already; or an open file prevents the operation */
 #define LFS_C_EXIST 17         /* something is at the path already */
 #define LFS_C_NOT_DIR 20       /* a file stands where a directory is needed */
 #define LFS_C_IS_DIR 21        /* a directory stands where a file is needed */
-#define LFS_C_INVALID 22       /* the bytes are no image of that geometry, or a path, a position or an order is out of range */
+#define LFS_C_INVALID 22       /* the bytes are no image of that geometry, or a path, flags, a position or a number is out of range */
 #define LFS_C_TOO_BIG 27       /* a file or an attribute would pass its limit */
 #define LFS_C_NO_SPACE 28      /* too few blocks are free */
 #define LFS_C_READ_ONLY 30     /* the image can be read, and this library doesn't write images like it */
-#define LFS_C_NAME_TOO_LONG 36 /* a name has more than 255 bytes */
+#define LFS_C_NAME_TOO_LONG 36 /* a name has more bytes than it may: 255, or as many as the configuration says */
 #define LFS_C_NOT_EMPTY 39     /* the directory has entries */
 #define LFS_C_NO_ATTR 61       /* the attribute isn't there */
+#define LFS_C_NO_SESSION 77    /* the session is closed */
 #define LFS_C_CORRUPT 84       /* the bytes hold no image that is accepted */
+#define LFS_C_FAILED 200       /* the session had no memory in an earlier call; lfs_c_remount mends it */
 #define LFS_C_ENTRY_FULL 201   /* a name and its attributes would take more than a half of their metadata pair */
 
 /* What lfs_c_stat answers for a directory. */
@@ -48,6 +66,143 @@ extern "C" {
 /* Which comes first of a name and a longer one that begins with it. littlefs's own code has the longer ones first. */
 #define LFS_C_LONGER_FIRST 0
 #define LFS_C_SHORTER_FIRST 1
+
+/* ---- a session */
+
+/* An image that is mounted. Only the calls read and write it. */
+typedef struct lfs_c_session {
+    void *at;
+    uint64_t is_open;
+} lfs_c_session;
+
+#define LFS_C_CLOSED { NULL, 0 }
+
+/* How an image is divided, what is accepted of it, and what is written there. littlefs's own code mounts an image only if its
+ * limits are at most those that the code was built with, and it changes short files only if its cache holds them. An image with
+ * other limits can be read, and not be written. */
+typedef struct lfs_c_config {
+    uint32_t block_size; /* bytes */
+    uint32_t page;       /* bytes */
+    uint32_t order;      /* of names in a new image; a mount finds the order by the names */
+    uint32_t versions;   /* LFS_C_ONLY_2_0, or LFS_C_ALSO_2_1 */
+    uint32_t name_max;   /* bytes of a name, 1 to 255 */
+    uint32_t file_max;   /* bytes of a file, 1 to 2,147,483,647 */
+    uint32_t attr_max;   /* bytes of an attribute, 1 to 1,022 */
+    uint32_t inline_max; /* bytes of a file that is kept beside its name, 1 to 1,022; never more than an eighth of a block */
+} lfs_c_config;
+
+/* The on-disk versions that are accepted. littlefs writes 2.1 since its release 2.6. New images are of version 2.0. */
+#define LFS_C_ONLY_2_0 0
+#define LFS_C_ALSO_2_1 1
+
+#define LFS_C_CONFIG(block_size, page) \
+    { (block_size), (page), LFS_C_LONGER_FIRST, LFS_C_ONLY_2_0, 255, 2147483647, 1022, 1022 }
+
+/* Begins a session over a copy of an image, and answers 0. Where both orders of names fit, the longer names come first.
+ * Refused: BUSY where there is a session; INVALID for a number out of range, or bytes that are no image of that geometry;
+ * CORRUPT; NO_MEMORY. */
+int64_t lfs_c_mount(lfs_c_session *session, const lfs_c_config *config, const uint8_t *image, size_t image_len);
+
+/* Makes an empty file system of so many blocks, begins a session over it, and answers 0. All bytes but those of the first two
+ * blocks are 255. Refused: BUSY where there is a session; INVALID for a number out of range; NO_MEMORY. */
+int64_t lfs_c_mkfs(lfs_c_session *session, const lfs_c_config *config, uint32_t block_count);
+
+/* Ends a session, frees its memory, and answers 0, also where there is none. What an open file hasn't synced is lost. */
+int64_t lfs_c_unmount(lfs_c_session *session);
+
+/* Each call below is refused by NO_SESSION where there is none. Where memory isn't granted it answers NO_MEMORY, and the session
+ * has failed: it answers FAILED to all but lfs_c_remount, lfs_c_image, lfs_c_image_part and lfs_c_unmount. */
+
+/* Closes all files, reads the image anew, and answers 0. What an open file hasn't synced is lost. */
+int64_t lfs_c_remount(lfs_c_session *session);
+
+/* Ends what a loss of power left in the image, and answers 0. Each call that changes the image does so first.
+ * Refused: READ_ONLY. */
+int64_t lfs_c_recover(lfs_c_session *session);
+
+/* Answers how many blocks the image uses. */
+int64_t lfs_c_used_blocks(lfs_c_session *session);
+
+/* Answers how many bytes the image has, and writes them to the buffer if they fit. */
+int64_t lfs_c_image(lfs_c_session *session, uint8_t *buffer, size_t buffer_len);
+
+/* Writes the bytes of the image from an offset on to the buffer, as many as it has room for, and answers how many they are. */
+int64_t lfs_c_image_part(lfs_c_session *session, size_t offset, uint8_t *buffer, size_t buffer_len);
+
+/* ---- what is at a path of a session */
+
+/* Answers a file's size in bytes, at most 2,147,483,647, or LFS_C_DIRECTORY. A file that is being written has the size that it had
+ * at its last sync. Refused: INVALID for a path that isn't well formed; NO_ENT, NOT_DIR. */
+int64_t lfs_c_stat_at(lfs_c_session *session, const uint8_t *path, size_t path_len);
+
+/* Answers the room that a directory's lines want, and writes them to the buffer if they fit. The lines are as those of lfs_c_list.
+ * Refused: INVALID for a path that isn't well formed; NO_ENT, NOT_DIR. */
+int64_t lfs_c_list_at(lfs_c_session *session, const uint8_t *path, size_t path_len, uint8_t *buffer, size_t buffer_len);
+
+/* Makes an empty directory, and answers 0.
+ * Refused: READ_ONLY, INVALID, NO_ENT, NOT_DIR, NAME_TOO_LONG, EXIST, ENTRY_FULL, NO_SPACE. */
+int64_t lfs_c_mkdir_at(lfs_c_session *session, const uint8_t *path, size_t path_len);
+
+/* Takes a file, or a directory without entries, and answers 0.
+ * Refused: READ_ONLY, INVALID (also for the root), NO_ENT, NOT_DIR, NOT_EMPTY, BUSY for an open file. */
+int64_t lfs_c_remove_at(lfs_c_session *session, const uint8_t *path, size_t path_len);
+
+/* Gives an entry another path, in place of a file or an empty directory there, and answers 0. What is beneath it goes with it.
+ * Refused: READ_ONLY, INVALID (also for the root, or a new path beneath the old one), NO_ENT, NOT_DIR, NAME_TOO_LONG,
+ * IS_DIR, NOT_EMPTY, BUSY for an open file, ENTRY_FULL, NO_SPACE. */
+int64_t lfs_c_rename_at(lfs_c_session *session, const uint8_t *from, size_t from_len, const uint8_t *to, size_t to_len);
+
+/* Answers the room that the bytes of an entry's attribute want, and writes them to the buffer if they fit.
+ * Refused: INVALID (also for the root), NO_ENT, NOT_DIR, NO_ATTR. */
+int64_t lfs_c_get_attr_at(lfs_c_session *session, const uint8_t *path, size_t path_len, uint8_t kind,
+                          uint8_t *buffer, size_t buffer_len);
+
+/* Gives an entry an attribute of at most attr_max bytes, in place of the one of that type, and answers 0.
+ * Refused: READ_ONLY, INVALID (also for the root), NO_ENT, NOT_DIR, TOO_BIG, ENTRY_FULL, NO_SPACE. */
+int64_t lfs_c_set_attr_at(lfs_c_session *session, const uint8_t *path, size_t path_len, uint8_t kind,
+                          const uint8_t *bytes, size_t bytes_len);
+
+/* Takes an attribute from an entry, and answers 0.
+ * Refused: READ_ONLY, INVALID (also for the root), NO_ENT, NOT_DIR, NO_ATTR. */
+int64_t lfs_c_remove_attr_at(lfs_c_session *session, const uint8_t *path, size_t path_len, uint8_t kind);
+
+/* ---- open files of a session: one that is written, and up to 16 that are read */
+
+#define LFS_C_READ 0x1
+#define LFS_C_WRITE 0x2
+#define LFS_C_CREATE 0x100    /* makes the file where none is at the path; it is in the tree at once */
+#define LFS_C_EXCLUSIVE 0x200 /* with CREATE: refuses where something is at the path */
+#define LFS_C_TRUNCATE 0x400  /* the file is empty at first */
+#define LFS_C_APPEND 0x800    /* each write is at the end */
+
+/* Opens a file, and answers its number: the least that isn't open. Flags are READ alone, or WRITE with any of the others.
+ * Refused: INVALID, NO_ENT, NOT_DIR, IS_DIR; BUSY for reading where the file is open for writing or 16 files are open for
+ * reading; BUSY for writing where a file is open for writing or this one is open; and for writing as lfs_c_write. */
+int64_t lfs_c_open(lfs_c_session *session, const uint8_t *path, size_t path_len, uint32_t flags);
+
+/* Reads a file from its position on, and answers how many bytes it wrote to the buffer: as many as it has room for, and fewer
+ * where the file ends. The position is after them then. Refused: BAD_FILE. */
+int64_t lfs_c_file_read(lfs_c_session *session, uint32_t file, uint8_t *buffer, size_t buffer_len);
+
+/* Writes bytes at the position of a file, or at its end with APPEND, and answers how many they are. Zeros fill a gap before them.
+ * The position is after them then. They are in the tree after a sync or a close. Refused: BAD_FILE, TOO_BIG, NO_SPACE. */
+int64_t lfs_c_file_write(lfs_c_session *session, uint32_t file, const uint8_t *bytes, size_t bytes_len);
+
+/* Sets the position of a file, and answers 0. It may be after the end. Refused: BAD_FILE; INVALID above file_max. */
+int64_t lfs_c_file_seek(lfs_c_session *session, uint32_t file, uint32_t position);
+
+/* Gives a file so many bytes, and answers 0: it is cut, or zeros fill it up. The position stays.
+ * Refused: BAD_FILE, TOO_BIG, NO_SPACE. */
+int64_t lfs_c_file_truncate(lfs_c_session *session, uint32_t file, uint32_t size);
+
+/* Commits what was written to a file, and answers 0. Refused: BAD_FILE. */
+int64_t lfs_c_file_sync(lfs_c_session *session, uint32_t file);
+
+/* Commits what was written to a file, closes it, and answers 0. Its number is free then. Refused: BAD_FILE. */
+int64_t lfs_c_file_close(lfs_c_session *session, uint32_t file);
+
+/* ---- one call on an image. Version 2.0 alone is accepted, with the limits of LFS_C_CONFIG. An image is changed only where the
+ * answer isn't negative. BAD_FILE, BUSY, NO_SESSION and FAILED never come */
 
 /* Makes an image an empty file system, and answers 0. All blocks but the first two stay as they are.
  * Refused: INVALID, NO_MEMORY. */

@@ -1,3 +1,5 @@
+pub mod AsBox
 mod Carrying
 mod FirstRefusal
+mod Formats
 mod Images

@@ -4,3 +4,7 @@ pub mod Codes
 pub mod Starts
 pub mod FirstRefusals
 pub mod Files
+pub mod Configs
+pub mod Slots
+pub mod Sessions
+pub mod Mounts

@@ -3,12 +3,13 @@
 ghost use Rattle.std.specs.Prelude.{◌≡◌, ◌∷◌, ◌<◌, ◌^◌, ◌-◌, [], min, length, IfOk};
 ghost use Rattle.lfs_model.specs.Operations as ops;
 ghost use Rattle.lfs_fs.specs.FlagsView.{flags_view};
-ghost use Rattle.littlefs_c.specs.Buffers.{FillsBufferIfReplyFitsOrRefusesOperations, buffer_with_bytes_if_they_fit};
+ghost use Rattle.littlefs_c.specs.Buffers.{FillsBufferIfReplyFitsOrRefusesOperations};
 ghost use Rattle.littlefs_c.specs.Codes.{name_order_of_number};
 ghost use Rattle.littlefs_c.specs.Calls.{ChangesImageOrRefuses, AcceptsImageOrReportsCause};
 ghost use Rattle.littlefs_c.specs.Files.{operations_to_open_seek_and_read_file, open_flags_of_replaced_file, operations_to_write_file};
 ghost use Rattle.littlefs_c.specs.Starts.{FormatsImageOrRefuses};
 
+use crate::buffers::copy_to_buffer_if_bytes_fit;
 use crate::image::{device, mount_copy_of_image};
 use crate::lines::lines_of_items;
 use crate::operation_runs::apply_operations_to_image;
@@ -65,18 +66,6 @@ pub(crate) fn check_image_is_accepted(
 {
     mount_copy_of_image(alloc, image, block_size, page)?;
     Ok(())
-}
-
-// Puts bytes at the beginning of a buffer, if all of them fit. Returns how many they are.
-fn copy_to_buffer_if_bytes_fit(bytes: &[u8], buffer: &mut [u8]) -> usize
-    ensures room { result ≡ length bytes.now }
-    ensures small { result < 2 ^ 63 }
-    ensures buffer { buffer.new ≡ buffer_with_bytes_if_they_fit bytes.now buffer.old }
-{
-    if bytes.len() <= buffer.len() {
-        buffer[..bytes.len()].copy_from_slice(bytes);
-    }
-    bytes.len()
 }
 
 // Puts the lines of a directory's entries into a buffer.

@@ -1,0 +1,121 @@
+// The calls about a whole session, and its image.
+
+ghost use Rattle.std.specs.Prelude.{◌^◌, ◌<◌};
+ghost use Rattle.lfs_model.specs.Operations as ops;
+ghost use Rattle.littlefs_c.specs.Sessions.{AnswersFromSession, CallsSession, CopiesImage, CopiesImagePart, IsCountCall, IsUnitCall};
+
+use crate::buffers::{copy_part, copy_to_buffer_if_bytes_fit};
+use crate::codes::{return_code_of_count, return_code_of_unit};
+use crate::handle::{CLOSED, Handle, put_session, take_session};
+use lfs_device::RamDevice;
+use lfs_fs::Session;
+use std::alloc::Global;
+
+/// Closes all files, and reads the image anew, after a failure too. Returns 0.
+///
+/// # Errors
+///
+/// 77 where there is no session. `NoMemory` where memory isn't granted; the session has failed
+/// then.
+#[unsafe(no_mangle)]
+pub extern "C" fn lfs_c_remount(alloc: Global, session: &mut Handle) -> i64
+    ensures { CallsSession (IsUnitCall ops.Remount result) result session.old.slot.session session.new.slot.session }
+{
+    let Some(mut inner) = take_session(alloc, session) else {
+        return CLOSED;
+    };
+    let answer = inner.remount(alloc);
+    put_session(session, inner);
+    return_code_of_unit(answer)
+}
+
+/// Ends what a loss of power left in the image. The tree stays. Returns 0.
+///
+/// # Errors
+///
+/// 77 where there is no session, and the refusals of a session's `recover` (docs/OPERATIONS.md).
+#[unsafe(no_mangle)]
+pub extern "C" fn lfs_c_recover(alloc: Global, session: &mut Handle) -> i64
+    ensures { CallsSession (IsUnitCall ops.Recover result) result session.old.slot.session session.new.slot.session }
+{
+    let Some(mut inner) = take_session(alloc, session) else {
+        return CLOSED;
+    };
+    let answer = inner.recover(alloc);
+    put_session(session, inner);
+    return_code_of_unit(answer)
+}
+
+/// Returns how many blocks the image uses.
+///
+/// # Errors
+///
+/// 77 where there is no session, and `Failed` where it has failed.
+#[unsafe(no_mangle)]
+pub extern "C" fn lfs_c_used_blocks(alloc: Global, session: &mut Handle) -> i64
+    ensures { CallsSession (IsCountCall ops.UsedCount ops.Count result) result session.old.slot.session session.new.slot.session }
+{
+    let Some(inner) = take_session(alloc, session) else {
+        return CLOSED;
+    };
+    let answer = inner.used_count();
+    put_session(session, inner);
+    return_code_of_count(answer)
+}
+
+// Puts the bytes of a session's image into a buffer, if all of them fit. Returns how many they are.
+fn copy_image(session: &Session<RamDevice>, buffer: &mut [u8]) -> usize
+    ensures copied { CopiesImage session.now result buffer.old buffer.new }
+    ensures small { result < 2 ^ 63 }
+{
+    copy_to_buffer_if_bytes_fit(session.device().bytes(), buffer)
+}
+
+/// Puts the bytes of the image into the buffer, if all of them fit, and returns how many they are.
+/// Where they don't fit, the buffer is as it was. A failed session has its image too.
+///
+/// # Errors
+///
+/// 77 where there is no session.
+#[unsafe(no_mangle)]
+pub extern "C" fn lfs_c_image(alloc: Global, session: &mut Handle, buffer: &mut [u8]) -> i64
+    ensures { CallsSession (AnswersFromSession (λ s room. CopiesImage s room buffer.old buffer.new) result) result session.old.slot.session session.new.slot.session }
+{
+    let Some(inner) = take_session(alloc, session) else {
+        return CLOSED;
+    };
+    let room = copy_image(&inner, buffer);
+    put_session(session, inner);
+    room as i64
+}
+
+// Puts a part of a session's image into a buffer. Returns how many bytes it has.
+fn copy_image_part(session: &Session<RamDevice>, offset: usize, buffer: &mut [u8]) -> usize
+    ensures copied { CopiesImagePart session.now offset result buffer.old buffer.new }
+    ensures small { result < 2 ^ 63 }
+{
+    copy_part(session.device().bytes(), offset, buffer)
+}
+
+/// Puts the bytes of the image from an offset on into the buffer, as many as it has room for, and
+/// returns how many they are: fewer where the image ends, and none after its end.
+///
+/// # Errors
+///
+/// 77 where there is no session.
+#[unsafe(no_mangle)]
+pub extern "C" fn lfs_c_image_part(
+    alloc: Global,
+    session: &mut Handle,
+    offset: usize,
+    buffer: &mut [u8],
+) -> i64
+    ensures { CallsSession (AnswersFromSession (λ s count. CopiesImagePart s offset count buffer.old buffer.new) result) result session.old.slot.session session.new.slot.session }
+{
+    let Some(inner) = take_session(alloc, session) else {
+        return CLOSED;
+    };
+    let count = copy_image_part(&inner, offset, buffer);
+    put_session(session, inner);
+    count as i64
+}

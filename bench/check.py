@@ -1,7 +1,7 @@
 #!/usr/bin/env python3
 """What `mklittlefs --check` says of images of any kind, beside a plain reader that shares nothing with it.
 
-usage: check.py [PROGRAM] [--count N] [--seed WORD] [--keep FOLDER]
+usage: check.py [PROGRAM] [--count N] [--seed WORD] [--keep FOLDER] [--also-2.1] [--name-max N] [--file-max N] [--attr-max N] [--inline-max N]
 
 PROGRAM is a built mklittlefs. The images are those of images.py, N of them at random, and N more that aim at a rule: whole
 ones whose newest log has one more commit, or that are checked with other sizes. Status, output and errors are compared:
@@ -18,7 +18,8 @@ ones whose newest log has one more commit, or that are checked with other sizes.
 Prints for each kind of image how many were accepted, how often each line on order, recovery and writing came of these, and for
 each kind of line of the others how often it came, how often the reader stopped at the same rule, and at which others. An image
 on which they differ is left in FOLDER. Without PROGRAM the reader and the lines made here are tried alone, as if PROGRAM printed
-the first of these lines. Fails where anything differs.
+the first of these lines. With a version or a limit PROGRAM is given it, the images that are made have it, and an image is writable
+by it. Fails where anything differs.
 """
 
 import argparse
@@ -33,6 +34,7 @@ import tempfile
 import image_maker
 import image_reader
 import images
+import profiles
 from check_lines import INCOMPLETE, LINES_OF, known_of
 from image_maker import NULL, REMOVED, Commit, Entry, Log, numbers
 from image_reader import CREATE, DELETE, FILE, FOLDER, INLINE, LIST, NONE, PAIR_STRUCT, SUPERBLOCK
@@ -236,38 +238,38 @@ def with_a_commit(rnd, plan, aim):
         plan.blocks = {block: what for block, what in plan.blocks.items() if block > 1 or what is first}
 
 
-def random_plan(rnd, with_folders):
+def random_plan(rnd, with_folders, profile):
     """A random plan, with directories where that matters."""
-    plan, lines = image_maker.random_plan(rnd)
+    plan, lines = image_maker.random_plan(rnd, profile=profile)
     while with_folders and b"d 0 " not in lines:
-        plan, lines = image_maker.random_plan(rnd)
+        plan, lines = image_maker.random_plan(rnd, profile=profile)
     return plan
 
 
-def aimed_image(seed, number):
+def aimed_image(seed, number, profile):
     """Kind, image and geometry."""
     rnd, aim = random.Random(f"{seed}/aimed/{number}"), [*AIMED, None][number % (len(AIMED) + 1)]
-    plan = random_plan(rnd, aim in OF_FOLDERS)
+    plan = random_plan(rnd, aim in OF_FOLDERS, profile)
     if aim is None:
         return "other sizes", plan.image(), rnd.choice([(rnd.choice(SIZES), plan.page), (plan.block_size, rnd.choice(PAGES))])
     with_a_commit(rnd, plan, aim)
     return "aimed " + aim.__name__.replace("_", " "), plan.image(), (plan.block_size, plan.page)
 
 
-def all_images(count, seed):
+def all_images(count, seed, profile):
     """(kind, what, image, geometry)"""
-    for kind, what, image, geometry, _ in images.all_images(count, seed):
+    for kind, what, image, geometry, _ in images.all_images(count, seed, profile):
         yield kind, what, image, geometry
     for number in range(count):
-        kind, image, geometry = aimed_image(seed, number)
+        kind, image, geometry = aimed_image(seed, number, profile)
         yield kind, f"{seed}/aimed/{number}", image, geometry
 
 
-def told(program, path, image, geometry):
+def told(program, path, image, geometry, profile):
     """Status, output and errors of the program."""
     with open(path, "wb") as file:
         file.write(image)
-    words = [program, "--check", "-b", str(geometry[0]), "-p", str(geometry[1]), path]
+    words = [program, "--check", "-b", str(geometry[0]), "-p", str(geometry[1]), *profile.options(), path]
     run = subprocess.run(words, capture_output=True, timeout=120)
     return run.returncode, run.stdout.decode("latin-1"), run.stderr.decode("latin-1")
 
@@ -315,7 +317,8 @@ def line_of(out):
 
 
 def without_place(line):
-    return re.sub(r"pair \d+ \d+(, slot \d+)?: ", "", line)
+    """A line without where it is, and without the number of a limit."""
+    return re.sub(r"_max \d+", "_max", re.sub(r"pair \d+ \d+(, slot \d+)?: ", "", line))
 
 
 class Counts:
@@ -345,10 +348,10 @@ class Counts:
 
 
 def compare(options, path):
-    counts, differences = Counts(), 0
-    for kind, what, image, geometry in all_images(options.count, options.seed):
-        known = known_of(image, geometry)
-        run = told(options.program, path, image, geometry) if options.program else first_line(known)
+    counts, differences, profile = Counts(), 0, profiles.chosen(options)
+    for kind, what, image, geometry in all_images(options.count, options.seed, profile):
+        known = known_of(image, geometry, profile)
+        run = told(options.program, path, image, geometry, profile) if options.program else first_line(known)
         counts.add(kind, known, run)
         wrong = [*faults_here(known), *faults_of(known, run)]
         for fault in wrong:
@@ -367,6 +370,7 @@ def main():
     parser.add_argument("--count", type=int, default=20000)
     parser.add_argument("--seed", default="check")
     parser.add_argument("--keep")
+    profiles.add_options(parser)
     options = parser.parse_args()
     with tempfile.TemporaryDirectory() as room:
         counts, differences = compare(options, os.path.join(room, "image"))

@@ -1,7 +1,7 @@
 """What `mklittlefs --check` may print of an image, worked out by the plain reader of image_reader.py.
 
-`known_of(image, (block size, page))` gives what is known: all lines of an image that the reader accepts; and of any other one
-each line that is true of it, in the parts in which the program looks for one.
+`known_of(image, (block size, page), profile)` gives what is known: all lines of an image that the reader accepts; and of any other
+one each line that is true of it, in the parts in which the program looks for one. Without a profile it is the program's own.
 """
 
 import collections
@@ -9,11 +9,11 @@ import itertools
 from dataclasses import dataclass
 
 import image_reader
+import profiles
 from image_reader import CREATE, DELETE, FILE, FOLDER, INLINE, LIST, NONE, PAIR_STRUCT, SET_MOVE, SUPERBLOCK
 
-VERSION = 0x00020000
-LIMITS = (255, 2147483647, 1022)
 LARGEST_IMAGE = 268435456
+FIRST_ENTRIES = bytes.fromhex("f00ffff7") + b"littlefs" + bytes.fromhex("2fe00010")
 STRUCTS = {FILE: (INLINE, LIST), FOLDER: (PAIR_STRUCT,)}
 
 # For each rule of the reader the kinds of lines for it. Where the reader stops at a rule, a line of one of its kinds is true.
@@ -74,33 +74,39 @@ def attribute_sizes(entries):
     return [sum(4 + length for length in slot.values()) for slot in slots]
 
 
-def is_small(read, pair, block_size, page):
+def is_small(read, pair, block_size, page, profile):
     """Whether a pair and its entries are no larger than they are written."""
     attributes = attribute_sizes(image_reader.held_log(read.blocks, pair.address)[1])
     size = sum(8 + len(slot.name) + len(slot.struct[1]) for slot in pair.slots) + sum(attributes)
     entries = [(slot, its) for slot, its in zip(pair.slots, attributes) if slot.kind != SUPERBLOCK]
-    charges = [8 + len(slot.name) + inline_limit(block_size) + its for slot, its in entries]
+    charges = [8 + len(slot.name) + profile.struct_limit(block_size) + its for slot, its in entries]
     most = block_size - 39 - page
     return size <= most and len(pair.slots) <= 1000 and all(charge <= most // 2 for charge in charges)
 
 
-def inline_limit(block_size):
-    return min(block_size // 8, 1022)
+def other_limit(slot, profile):
+    """The first limit of a superblock that isn't the profile's."""
+    limits = zip(("name_max", "file_max", "attr_max"), image_reader.words(slot.struct[1])[3:], profile.limits())
+    return next(f"{name} {number}" for name, number, own in limits if number != own)
 
 
-def beyond_profile(read, block_size, page):
+def inline_limit_text(profile, block_size):
+    return f"inline_max {profile.inline_max}" if profile.inline_max < profiles.DEFAULT.inline_limit(block_size) else "an eighth of a block"
+
+
+def beyond_profile(read, block_size, page, profile):
     """What of an accepted image isn't in the writing profile of docs/FORMAT.md, in the order of the search."""
     slots = [("pair %d %d, slot %d" % (*pair.address, ident), slot) for pair in read.pairs for ident, slot in enumerate(pair.slots)]
     for where, slot in slots:
-        if slot.kind == SUPERBLOCK and image_reader.words(slot.struct[1])[3:] != LIMITS:
-            yield where + ": a superblock with other limits than this library writes"
+        if slot.kind == SUPERBLOCK and image_reader.words(slot.struct[1])[3:] != profile.limits():
+            yield where + ": a superblock with other limits than this library writes, " + other_limit(slot, profile)
     for where, slot in slots:
-        if slot.kind != SUPERBLOCK and slot.struct[0] == INLINE and len(slot.struct[1]) > inline_limit(block_size):
-            yield where + ": more bytes inline than an eighth of a block"
+        if slot.kind != SUPERBLOCK and slot.struct[0] == INLINE and len(slot.struct[1]) > profile.inline_limit(block_size):
+            yield where + ": more bytes inline than " + inline_limit_text(profile, block_size)
     for before, pair in zip(read.pairs[read.root :], read.pairs[read.root + 1 :]):
         if before.tail[0] and not pair.slots:
             yield "pair %d %d: no entry, but a directory goes on in it" % pair.address
-    if not all(is_small(read, pair, block_size, page) for pair in read.pairs):
+    if not all(is_small(read, pair, block_size, page, profile) for pair in read.pairs):
         yield "a pair or an entry is larger than this library writes"
 
 
@@ -113,13 +119,13 @@ def used_blocks(read):
     return len(used)
 
 
-def summary(read, listing, block_size, page):
+def summary(read, listing, block_size, page, profile):
     kinds = collections.Counter(line[:1] for line in listing.splitlines())
     used, count = used_blocks(read), len(read.blocks)
     orders = {image_reader.longer_first: "longer-first", image_reader.shorter_first: "shorter-first"}
     order = "either" if len(read.rising) == 2 else orders[next(iter(read.rising))]
     recover = "yes" if read.sync or read.moved else "no"
-    cause = next(beyond_profile(read, block_size, page), None)
+    cause = next(beyond_profile(read, block_size, page, profile), None)
     writable = "no: " + cause if cause else "yes"
     return (f"ok\nfiles {kinds[b'f']}\ndirectories {kinds[b'd']}\nused {used} of {count} blocks\nfree {count - used}\n"
             f"order {order}\nrecover {recover}\nwritable {writable}\n")
@@ -128,25 +134,28 @@ def summary(read, listing, block_size, page):
 # The lines that are true of any other one
 
 
-def wrong_numbers(fields, block_size, count):
+def wrong_numbers(fields, block_size, count, versions):
     """What a superblock's 24 bytes say that isn't so."""
     version, size, blocks = image_reader.words(fields)[:3]
     if size != block_size:
         yield f"superblock: block size {size}, given {block_size}"
     if blocks != count:
         yield f"superblock: block count {blocks}, given {count}"
-    if version != VERSION:
+    if version not in versions:
         yield f"superblock: version {version >> 16}.{version & 0xffff}"
 
 
-def wrong_by_place(image, block_size):
-    """The numbers of what seems a superblock in block 0 or 1. None are known of a file past the largest image."""
+def wrong_by_place(image, block_size, versions):
+    """The numbers of what seems a superblock in block 0 or 1: the name and the struct are the first entries, whatever the checksum is.
+
+    None are known of a file past the largest image.
+    """
     if block_size == 0 or len(image) > LARGEST_IMAGE:
         return
     for at in 0, block_size:
         start = image[at : at + 44]
-        if len(start) == 44 and start[8:16] == b"littlefs":
-            for text in wrong_numbers(start[20:], block_size, len(image) // block_size):
+        if len(start) == 44 and start[4:20] == FIRST_ENTRIES:
+            for text in wrong_numbers(start[20:], block_size, len(image) // block_size, versions):
                 yield "by place", text
 
 
@@ -209,7 +218,7 @@ def is_headed(pair):
     return bool(pair.slots) and pair.slots[0].kind == SUPERBLOCK
 
 
-def wrong_chain(pairs, root, block_size, count):
+def wrong_chain(pairs, root, block_size, count, versions):
     """What is wrong with slot 0 of the pairs of the superblock's chain."""
     if not is_headed(pairs[root]):
         yield "no superblock", "superblock: the root directory doesn't begin with one"
@@ -219,15 +228,21 @@ def wrong_chain(pairs, root, block_size, count):
         if struct != INLINE or len(data) != 24:
             yield "no fields", "pair %d %d, slot 0: no superblock's struct" % pair.address
         else:
-            for text in wrong_numbers(data, block_size, count):
+            for text in wrong_numbers(data, block_size, count, versions):
                 yield "other fields", "pair %d %d, %s" % (*pair.address, text)
 
 
-def wrong_others(pairs, root):
+def same_superblocks(one, other, versions):
+    """Whether two structs of superblocks are the same, or differ in an accepted version alone."""
+    accepted = {image_reader.word(one), image_reader.word(other)} <= set(versions)
+    return one == other or accepted and len(one) == len(other) and one[4:] == other[4:]
+
+
+def wrong_others(pairs, root, versions):
     """Superblocks of the chain that differ from the root directory's."""
     for pair in filter(is_headed, pairs[:root] if is_headed(pairs[root]) else []):
         one, other = pair.slots[0].struct, pairs[root].slots[0].struct
-        if one[0] == other[0] == INLINE and one != other:
+        if one[0] == other[0] == INLINE and not same_superblocks(one[1], other[1], versions):
             yield "other superblock", "pair %d %d, superblock: another one than in pair %d %d" % (*pair.address, *pairs[root].address)
 
 
@@ -397,12 +412,12 @@ def wrong_lists(blocks, pairs, moved):
                     yield "in two files", "block %d: in two files, %s and %s" % (block, other, where)
 
 
-def true_lines(image, block_size, page):
+def true_lines(image, block_size, page, versions):
     """The parts in the order of the search, each with the lines that are true. What is behind a broken thread isn't known.
 
     Names out of order and where entries lead are one part, as the search walks once and looks at both in each directory.
     """
-    parts = [list(wrong_by_place(image, block_size)), list(wrong_sizes(image, block_size, page))]
+    parts = [list(wrong_by_place(image, block_size, versions)), list(wrong_sizes(image, block_size, page))]
     if parts[1]:
         return parts
     blocks = image_reader.blocks_of(image, block_size)
@@ -410,17 +425,17 @@ def true_lines(image, block_size, page):
     if wrong:
         return parts + [wrong]
     root, moved = image_reader.last_superblock(pairs), moved_slots(pairs)
-    chain = [wrong_chain(pairs, root, block_size, len(blocks)), wrong_others(pairs, root), wrong_superblock_name(pairs)]
+    chain = [wrong_chain(pairs, root, block_size, len(blocks), versions), wrong_others(pairs, root, versions), wrong_superblock_name(pairs)]
     slots = [wrong_slots(pairs, root)]
     directories = [wrong(pairs, root, moved) for wrong in (wrong_walk, wrong_two_orders, wrong_unreached)]
     rest = [wrong_move(pairs), wrong_first_entry(pairs), wrong_lists(blocks, pairs, moved)]
     return parts + [list(part) for part in chain + slots + directories + rest]
 
 
-def known_of(image, geometry):
-    parts = true_lines(image, *geometry)
+def known_of(image, geometry, profile=profiles.DEFAULT):
+    parts = true_lines(image, *geometry, profile.versions)
     try:
-        read, listing = image_reader.listed_image(image, *geometry)
+        read, listing = image_reader.listed_image(image, *geometry, profile)
     except image_reader.Refused as refused:
         return Known(refused.rule, None, parts)
-    return Known(None, summary(read, listing, *geometry), parts)
+    return Known(None, summary(read, listing, *geometry, profile), parts)

@@ -1,6 +1,6 @@
 // Images by littlefs's own code, for exchange.py, which builds this with it: shows one, makes or changes one by operations
 // at random, which may end in a loss of power, or carries out operations that it is told. Where VERSION isn't given, its images
-// are of the newest version that the code knows.
+// are of the newest version that the code knows. CACHE is the size of its caches; without it these hold the longest inline file.
 //
 //   exchange list IMAGE BLOCK PAGE [ended]       a line for each entry, with paths and attributes in hexadecimal numbers;
 //                                                with `ended` what a loss of power left half done is ended first:
@@ -11,9 +11,12 @@
 //   exchange run IMAGE BLOCK PAGE COUNT CYCLES   reads operations, one a line, and answers each with 0 or an error's number;
 //                                                the image is made where COUNT isn't 0. Paths are hexadecimal numbers.
 //     put PATH SIZE LETTER, append PATH SIZE LETTER, rename OLD NEW, remove PATH, mkdir PATH
-//     cut N        the power goes after so many more programs and erases
+//     write PATH AT SIZE LETTER, truncate PATH SIZE
+//     read PATH    answers the checksum of a file's bytes
+//     cut N        the power goes after so many more programs and erases: nothing but a save comes behind it
 //     save FILE    unmounts, writes the image, and mounts it again
 #include HEADER
+#include <setjmp.h>
 #include <stdio.h>
 #include <stdlib.h>
 #include <string.h>
@@ -22,8 +25,9 @@ static uint8_t *device;
 static struct lfs_config config;
 static lfs_t lfs;
 
-// how many more programs and erases are carried out before the power goes
+// how many more programs and erases are carried out before the power goes, and -2 from then on; where it goes on then
 static long left = -1;
+static jmp_buf cut_short;
 static int keeps; // an erase leaves what is there
 
 static uint64_t state;
@@ -46,8 +50,8 @@ static int program_device(const struct lfs_config *c, lfs_block_t block, lfs_off
     if (left == 0) {
         left = -2;
         memcpy(at(block, off), buffer, below(size + 1));
+        longjmp(cut_short, 1);
     }
-    if (left == -2) return LFS_ERR_IO;
     if (left > 0) left--;
     memcpy(at(block, off), buffer, size);
     return 0;
@@ -55,8 +59,10 @@ static int program_device(const struct lfs_config *c, lfs_block_t block, lfs_off
 
 static int erase_device(const struct lfs_config *c, lfs_block_t block) {
     (void)c;
-    if (left == 0) left = -2;
-    if (left == -2) return LFS_ERR_IO;
+    if (left == 0) {
+        left = -2;
+        longjmp(cut_short, 1);
+    }
     if (left > 0) left--;
     if (!keeps) memset(at(block, 0), 0xff, config.block_size);
     return 0;
@@ -69,13 +75,17 @@ static void configure(uint32_t block, uint32_t page, uint32_t count, int32_t cyc
     config.prog = program_device;
     config.erase = erase_device;
     config.sync = sync_device;
-    config.read_size = page;
-    config.prog_size = page;
+#ifdef CACHE
+    config.cache_size = CACHE;
+#else
+    // room for the longest file that stands in its entry, which littlefs wants to change one
+    config.cache_size = block / 8;
+#endif
+    config.read_size = page < config.cache_size ? page : config.cache_size;
+    config.prog_size = config.read_size;
     config.block_size = block;
     config.block_count = count;
     config.block_cycles = cycles;
-    // room for the longest file that stands in its entry, which littlefs wants to change one
-    config.cache_size = block / 8;
     config.lookahead_size = 64;
 #ifdef VERSION
     config.disk_version = VERSION;
@@ -101,18 +111,27 @@ static int show_attributes(const char *path) {
     return 0;
 }
 
-static int show_file(const char *path) {
+// The size and the checksum of a file's bytes.
+static int sum_file(const char *path, uint32_t *size, uint32_t *sum) {
     static uint8_t part[4096];
     lfs_file_t file;
     int err = lfs_file_open(&lfs, &file, path, LFS_O_RDONLY);
     if (err) return err;
-    uint32_t sum = 0xffffffff;
+    *sum = 0xffffffff;
     lfs_ssize_t len;
-    while ((len = lfs_file_read(&lfs, &file, part, sizeof part)) > 0) sum = lfs_crc(sum, part, (size_t)len);
-    printf("f %u %08x ", (unsigned)lfs_file_size(&lfs, &file), (unsigned)sum);
-    hex((const uint8_t *)path, strlen(path));
+    while ((len = lfs_file_read(&lfs, &file, part, sizeof part)) > 0) *sum = lfs_crc(*sum, part, (size_t)len);
+    *size = (uint32_t)lfs_file_size(&lfs, &file);
     lfs_file_close(&lfs, &file);
     return (int)len;
+}
+
+static int show_file(const char *path) {
+    uint32_t size = 0, sum = 0;
+    int err = sum_file(path, &size, &sum);
+    if (err == LFS_ERR_NOENT) return err;
+    printf("f %u %08x ", (unsigned)size, (unsigned)sum);
+    hex((const uint8_t *)path, strlen(path));
+    return err;
 }
 
 static int show(const char *path);
@@ -242,7 +261,8 @@ static void refuse_corruption(int err) {
 
 // Carries out operations until one meets the loss of power; refusals are passed over.
 static void operate_often(void) {
-    for (uint32_t times = below(below(2) ? 20 : 200); times && left != -2; times--) refuse_corruption(operate());
+    if (setjmp(cut_short)) return;
+    for (uint32_t times = below(below(2) ? 20 : 200); times; times--) refuse_corruption(operate());
 }
 
 // Makes short files and some directories, as far as there is room.
@@ -297,16 +317,32 @@ static void unhex(const char *word, char *out) {
     *out = 0;
 }
 
-static int put(const char *path, int flags, uint32_t size, char letter) {
+static int put(const char *path, int flags, uint32_t from, uint32_t size, char letter) {
     lfs_file_t file;
     int err = lfs_file_open(&lfs, &file, path, LFS_O_WRONLY | flags);
     if (err) return err;
     char *bytes = malloc(size + 1);
     memset(bytes, letter, size);
-    lfs_ssize_t wrote = lfs_file_write(&lfs, &file, bytes, size);
+    lfs_ssize_t wrote = lfs_file_seek(&lfs, &file, (lfs_soff_t)from, LFS_SEEK_SET);
+    if (wrote >= 0) wrote = lfs_file_write(&lfs, &file, bytes, size);
     free(bytes);
     err = lfs_file_close(&lfs, &file);
     return wrote < 0 ? (int)wrote : err;
+}
+
+static int truncate_file(const char *path, uint32_t size) {
+    lfs_file_t file;
+    int err = lfs_file_open(&lfs, &file, path, LFS_O_WRONLY);
+    if (err) return err;
+    int cut = lfs_file_truncate(&lfs, &file, size);
+    err = lfs_file_close(&lfs, &file);
+    return cut ? cut : err;
+}
+
+static int64_t sum_of(const char *path) {
+    uint32_t size = 0, sum = 0;
+    int err = sum_file(path, &size, &sum);
+    return err ? err : (int64_t)sum;
 }
 
 static int keep(const char *file) {
@@ -315,15 +351,19 @@ static int keep(const char *file) {
     return err || left == -2 ? err : lfs_mount(&lfs, &config);
 }
 
-static int obey(char *line) {
-    static char path[4096], other[4096], words[4][8192];
-    int count = sscanf(line, "%8191s %8191s %8191s %8191s", words[0], words[1], words[2], words[3]);
-    uint32_t size = count == 4 ? (uint32_t)atol(words[2]) : 0;
+static int64_t obey(char *line) {
+    static char path[4096], other[4096], words[5][8192];
+    int count = sscanf(line, "%8191s %8191s %8191s %8191s %8191s", words[0], words[1], words[2], words[3], words[4]);
+    uint32_t size = count > 2 ? (uint32_t)atol(words[count - 2]) : 0;
     if (!strcmp(words[0], "save")) return keep(words[1]);
+    if (left == -2) return LFS_ERR_IO;
     if (!strcmp(words[0], "cut")) { left = atol(words[1]); return 0; }
     unhex(words[1], path);
-    if (!strcmp(words[0], "put")) return put(path, LFS_O_CREAT | LFS_O_TRUNC, size, words[3][0]);
-    if (!strcmp(words[0], "append")) return put(path, LFS_O_APPEND, size, words[3][0]);
+    if (!strcmp(words[0], "put")) return put(path, LFS_O_CREAT | LFS_O_TRUNC, 0, size, words[3][0]);
+    if (!strcmp(words[0], "append")) return put(path, LFS_O_APPEND, 0, size, words[3][0]);
+    if (!strcmp(words[0], "write")) return put(path, 0, (uint32_t)atol(words[2]), size, words[4][0]);
+    if (!strcmp(words[0], "truncate")) return truncate_file(path, (uint32_t)atol(words[2]));
+    if (!strcmp(words[0], "read")) return sum_of(path);
     if (!strcmp(words[0], "remove")) return lfs_remove(&lfs, path);
     if (!strcmp(words[0], "mkdir")) return lfs_mkdir(&lfs, path);
     unhex(words[2], other);
@@ -331,10 +371,15 @@ static int obey(char *line) {
     exit(2);
 }
 
+static int64_t obey_until_cut(char *line) {
+    if (setjmp(cut_short)) return LFS_ERR_IO;
+    return obey(line);
+}
+
 static int run(void) {
     static char line[20000];
     while (fgets(line, sizeof line, stdin)) {
-        printf("%d\n", obey(line));
+        printf("%lld\n", (long long)obey_until_cut(line));
         fflush(stdout);
     }
     return 0;

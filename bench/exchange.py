@@ -1,7 +1,7 @@
 #!/usr/bin/env python3
 """Images exchanged with littlefs's own code: what it writes is read here, and what is written here is read by it.
 
-usage: exchange.py LITTLEFS [SCRIPT TOOL] [--count N] [--operations N] [--seed WORD] [--only GROUP] [--keep FOLDER]
+usage: exchange.py LITTLEFS [SCRIPT TOOL] [--count N] [--operations N] [--seed WORD] [--only GROUP[,GROUP..]] [--keep FOLDER]
 
 LITTLEFS is the folder of littlefs's own code with version 2.7 or later, which can write images of version 2.0: a checkout of it, or
 `lib/littlefs` of Debian's source package micropython. SCRIPT is a built lfs_script, TOOL a built mklittlefs. There are N images of
@@ -11,14 +11,22 @@ each kind, but for long use, whose images are those of N operations each:
   random; some of littlefs's end in a loss of power;
 - names by littlefs, by the tool (`-c`), by sessions: directories whose names are beginnings of one another, over several pairs;
 - each of these that littlefs changed after it (which first ends what a stop left half done), or that a session changed;
+- limits: the same for builds of littlefs whose names have at most 32 bytes, and 64 with smaller files and attributes too: images by
+  littlefs, by `-c` with `--name-max` and its kin, and by sessions of that profile;
+- caches: the same for builds of littlefs with caches of 64, 128 and 256 bytes: images by `-c` with `--inline-max` and by sessions of that
+  profile. littlefs writes each file in place, adds to it, shortens it and reads it;
 - long use: a logger in the root, and mixed operations, with a `block_cycles` of 3, 20, 100 and 500; an image at each unmount, some
   that a loss of power cut after it, and these when littlefs had gone on with them;
-- version 2.1: images written here that littlefs in its default version then wrote to.
+- version: images written here that littlefs in its default version then wrote to;
+- later: images by littlefs in its default version, and in version 2.0 and then in that, after any operations, some of which a loss of
+  power ended and it went on with;
+- turns: images that littlefs in its default version and sessions that accept version 2.1 change in turns. The device of some sessions
+  stops in an operation.
 
 Each is shown by littlefs, and compared with the plain tree that the operations make, where that is known. A session, the tool and the
-plain reader (image_reader.py) have to show the same. An image of version 2.1 has to be refused, and one that wasn't written yet is
-listed as it was. Without SCRIPT and TOOL the reader alone is tried, on images by littlefs. GROUP is random, names, long or version:
-the kinds of one line above.
+plain reader (image_reader.py) have to show the same. Of the last three kinds they have to where version 2.1 is accepted, as with
+`--also-2.1`. Where it isn't, an image of version 2.1 has to be refused, and one that wasn't written yet is listed as it was. Without
+SCRIPT and TOOL the reader alone is tried, on images by littlefs. GROUP is random, names, limits, caches, long, version, later or turns.
 
 Prints a table: how many images and entries there were; images refused here, with the cause; names that littlefs lists and doesn't find,
 or that it doesn't list; names that it lists twice; older trees that were listed here; and other differences. Cut images of a
@@ -41,6 +49,7 @@ import zlib
 import exchange_kinds
 import image_reader
 import littlefs_code
+import profiles
 from exchange_operations import answers_of
 from session_model import word
 
@@ -92,16 +101,17 @@ def lines(tree):
 # The three that read an image here: each gives its listing, or the error's name
 
 
-def by_reader(image, geometry):
+def by_reader(image, geometry, profile):
     with open(image, "rb") as it:
         try:
-            return image_reader.listing(it.read(), *geometry[:2])
+            return image_reader.listing(it.read(), *geometry[:2], profile)
         except image_reader.Refused as refused:
             return str(refused)
 
 
-def by_tool(options, image, geometry):
-    run = subprocess.run([options.tool, "-l", "-b", str(geometry[0]), "-p", str(geometry[1]), image], capture_output=True)
+def by_tool(options, image, geometry, profile):
+    words = ["-l", "-b", str(geometry[0]), "-p", str(geometry[1]), *profile.options()]
+    run = subprocess.run([options.tool, *words, image], capture_output=True)
     return run.stdout if run.returncode == 0 else run.stderr.decode().partition("error: ")[2].partition(" (")[0]
 
 
@@ -113,10 +123,10 @@ def by_session(tree, asked, answers):
     return f"another answer to {wrong[0][:100]}" if wrong else lines(tree)
 
 
-def read_here(options, case, tree, asked, told):
-    answers = {"the plain reader": by_reader(case.image, case.geometry)}
+def read_here(options, case, tree, asked, told, profile):
+    answers = {"the plain reader": by_reader(case.image, case.geometry, profile)}
     if options.script:
-        answers |= {"the tool": by_tool(options, case.image, case.geometry), "a session": by_session(tree, asked, told)}
+        answers |= {"the tool": by_tool(options, case.image, case.geometry, profile), "a session": by_session(tree, asked, told)}
     return answers
 
 
@@ -199,27 +209,48 @@ class Table:
         return any(row[column] for row in self.rows.values() for column in COLUMNS[2:] if column != "half moved")
 
 
+def profiles_of(case):
+    """By which an image is read: where version 2.1 may be in it, also by one that accepts it."""
+    return [profiles.ALSO_2_1, profiles.DEFAULT] if case.newer else [profiles.DEFAULT]
+
+
+def lines_of(case, profile, asked):
+    """A script that asks a session of an image. A script has the default profile at first, and behind each image."""
+    opening = [profile.line()] if case.newer else []
+    return opening + [f"image {case.geometry[0]} {case.geometry[1]} {case.image}"] + [line for line, _ in asked]
+
+
 def compare(options, table, cases):
     """Counts what littlefs and the readers here make of each image."""
     for at in range(0, len(cases), BATCH):
         script, stories = [], []
         for case in cases[at : at + BATCH]:
-            code = options.newest if case.newer else options.code
-            shown = littlefs_code.shown(code, case.image, case.geometry, ended=case.cut and has_move(case.image, case.geometry))
+            ended = case.cut and has_move(case.image, case.geometry)
+            shown = littlefs_code.shown(case.code or options.code, case.image, case.geometry, ended)
             tree = case.tree or (shown.tree if shown else None)
             asked = list(questions(tree)) if tree else []
             stories.append((case, shown, tree, asked))
-            script += [f"image {case.geometry[0]} {case.geometry[1]} {case.image}"] + [line for line, _ in asked]
-        answers, place = answers_of(options.script, script) if options.script else [], 0
+            script += [line for profile in profiles_of(case) for line in lines_of(case, profile, asked)]
+        answers = answers_of(options.script, script) if options.script else []
         for case, shown, tree, asked in stories:
-            told, place = answers[place : place + 1 + len(asked)], place + 1 + len(asked)
-            table.count(case.kind, "images")
-            if tree is None:
-                table.fault(case, "differences", "littlefs does not show it")
-                continue
-            table.count(case.kind, "entries", len(tree) - 1)
-            judge_littlefs(table, case, shown, tree)
-            judge_readers(table, case, tree, read_here(options, case, tree, asked, told))
+            read = []
+            for profile in profiles_of(case):
+                count = len(lines_of(case, profile, asked))
+                told, answers = answers[:count], answers[count:]
+                read += [read_here(options, case, tree, asked, told[-1 - len(asked) :], profile)] if tree else []
+            judge(table, case, shown, tree, read)
+
+
+def judge(table, case, shown, tree, read):
+    table.count(case.kind, "images")
+    if tree is None:
+        table.fault(case, "differences", "littlefs does not show it")
+        return
+    table.count(case.kind, "entries", len(tree) - 1)
+    judge_littlefs(table, case, shown, tree)
+    judge_readers(table, case, tree, read[0])
+    if case.newer:
+        judge_default(table, case, tree, read[1])
 
 
 def judge_littlefs(table, case, shown, tree):
@@ -237,27 +268,45 @@ def judge_littlefs(table, case, shown, tree):
         table.fault(case, "differences", f"littlefs shows another {path}")
 
 
+def refused_and_others(tree, answers):
+    """Who refuses an image, and who shows another tree."""
+    refused = [who for who, answer in answers.items() if answer == CORRUPT]
+    return refused, [who for who, answer in answers.items() if answer not in (CORRUPT, lines(tree))]
+
+
 def judge_readers(table, case, tree, answers):
     """Whether what was read here is the tree."""
-    refused = [who for who, answer in answers.items() if answer == CORRUPT]
-    others = [who for who, answer in answers.items() if answer not in (CORRUPT, lines(tree))]
-    if case.newer:
-        judge_newer(table, case, refused, others, len(answers))
-        return
+    refused, others = refused_and_others(tree, answers)
     if refused:
         table.refused(case, tree, refused, len(answers))
     if others:
         table.fault(case, "differences", f"{' and '.join(others)}: {answers[others[0]][:200]}")
 
 
-def judge_newer(table, case, refused, others, count):
-    """The same where littlefs had the image in its default version. One that a loss of power cut may have either."""
+def judge_default(table, case, tree, answers):
+    """The same of an image that littlefs had in its default version, where version 2.0 alone is accepted."""
+    refused, others = refused_and_others(tree, answers)
+    later = has_later_version(case.image, case.geometry)
     if others:
         table.fault(case, "older trees", f"by {' and '.join(others)}")
-    elif case.written and len(refused) < count:
+    elif case.written and later is False:
+        table.fault(case, "differences", "littlefs has written to it, and it isn't of version 2.1")
+    elif (case.written or later) and len(refused) < len(answers):
         table.fault(case, "differences", "version 2.1 is accepted")
-    elif not case.written and not case.cut and refused:
+    elif later is False and refused:
         table.fault(case, "differences", f"refused as it was by {' and '.join(refused)}")
+
+
+def has_later_version(image, geometry):
+    """Whether a superblock of the image is of version 2.1. None where its pairs aren't known."""
+    with open(image, "rb") as it:
+        data = it.read()
+    try:
+        pairs = image_reader.read_thread(image_reader.blocks_of(data, geometry[0]))
+    except image_reader.Refused:
+        return None
+    superblocks = [slot for pair in pairs for slot in pair.slots if slot.kind == image_reader.SUPERBLOCK]
+    return any(image_reader.word(slot.struct[1]) == profiles.TWO_ONE for slot in superblocks)
 
 
 def main():
@@ -268,12 +317,15 @@ def main():
     parser.add_argument("--count", type=int, default=200)
     parser.add_argument("--operations", type=int, default=10000)
     parser.add_argument("--seed", default="exchange")
-    parser.add_argument("--only", choices=exchange_kinds.GROUPS)
+    parser.add_argument("--only", type=lambda words: words.split(","), default=list(exchange_kinds.GROUPS))
     parser.add_argument("--keep", type=os.path.abspath, default=".")
     options = parser.parse_args()
+    if not set(options.only) <= set(exchange_kinds.GROUPS):
+        parser.error(f"the groups are {', '.join(exchange_kinds.GROUPS)}")
     table = Table(options)
     with tempfile.TemporaryDirectory() as options.room:
-        options.code = littlefs_code.build(options.littlefs, f"{options.room}/exchange", VERSION)
+        options.build = lambda name, **words: littlefs_code.build(options.littlefs, f"{options.room}/{name}", VERSION, **words)
+        options.code = options.build("exchange")
         options.newest = littlefs_code.build(options.littlefs, f"{options.room}/exchange_newest")
         for cases in exchange_kinds.all_cases(options):
             compare(options, table, cases)

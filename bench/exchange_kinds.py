@@ -7,8 +7,10 @@ import shutil
 import subprocess
 import zlib
 
-from exchange_operations import a_few, answers_of, beside_a_log, carry_out, logging, mixed, scripted, some_changes, some_tree, told
-from littlefs_code import NOT_FOUND, Driver, shown, summed
+from exchange_operations import (ANY, Limits, a_few, answers_of, beside_a_log, carry_out, every_file, logging, mixed, scripted, some_changes,
+                                 some_tree, told)
+from littlefs_code import NOT_FOUND, TOO_LONG, Driver, shown, summed
+from profiles import ALSO_2_1, DEFAULT, Profile
 
 GEOMETRIES = [(1024, 16, 64), (1024, 128, 64), (1536, 64, 48), (2048, 64, 128), (4096, 256, 64), (4096, 512, 48)]
 ROOMY = [(1024, 128, 256), (1024, 16, 256), (2048, 64, 128), (4096, 256, 64), (4096, 512, 64)]
@@ -16,6 +18,23 @@ WORN = (4096, 256, 64)
 CYCLES = [3, 20, 100, 500]
 EVERY = 250  # operations from an unmount to the next
 GONE_ON = 6
+TURNS = 3  # by littlefs and by a session
+# the limits with which littlefs was built: of a name alone, and of all three
+LIMITS = [Profile(name_max=32), Profile(name_max=64, file_max=1000000, attr_max=64)]
+CACHES = [64, 128, 256]
+CACHED = [*ROOMY, (8192, 256, 48)]
+
+
+@dataclass(frozen=True)
+class Firmware:
+    """A build of littlefs, and the images that are made for it."""
+
+    name: str  # its kinds begin with it
+    code: str
+    profile: Profile = DEFAULT  # by which images are made and changed here
+    limits: Limits = ANY
+    changes: callable = some_changes  # by littlefs
+    geometries: tuple = tuple(ROOMY)
 
 
 @dataclass
@@ -29,6 +48,7 @@ class Case:
     plain: dict = None  # the same with the files' bytes
     cycles: int = -1
     cut: bool = False  # a loss of power may have cut an operation
+    code: str = None  # littlefs's own code that shows it; None: that which is set to version 2.0
     newer: bool = False  # littlefs had it in its default version
     written: bool = False  # and has written to it
     missing: set = field(default_factory=set)  # paths that littlefs didn't find when it was to change them
@@ -42,7 +62,7 @@ def known(kind, image, geometry, plain, **more):
 def all_cases(options):
     """Lists of images; those of a list are there until the next one is asked for."""
     for group, make in GROUPS.items():
-        if options.only in (None, group):
+        if group in options.only:
             yield from make(options)
 
 
@@ -75,14 +95,16 @@ def by_littlefs(options):
 
 def with_changed(options, cases):
     """The images, and then copies of them after littlefs changed them."""
-    changed = []
-    for case in cases:
-        image, seed = case.image.replace(".img", "_changed.img"), str(zlib.crc32(os.path.basename(case.image).encode()))
-        shutil.copy(case.image, image)
-        subprocess.run([options.code, "change", image, *map(str, case.geometry[:2]), str(case.cycles), seed], check=True)
-        changed.append(Case(f"{case.kind}, changed", image, case.geometry, cycles=case.cycles, cut=True))
+    changed = [changed_at_random(case, case.code or options.code, f"{case.kind}, changed", newer=case.newer, written=case.written) for case in cases]
     yield cases
     yield changed
+
+
+def changed_at_random(case, code, kind, **more):
+    image, seed = case.image.replace(".img", "_changed.img"), str(zlib.crc32(os.path.basename(case.image).encode()))
+    shutil.copy(case.image, image)
+    subprocess.run([code, "change", image, *map(str, case.geometry[:2]), str(case.cycles), seed], check=True)
+    return Case(kind, image, case.geometry, cycles=case.cycles, cut=True, code=code, **more)
 
 
 def some_session(rnd, geometry):
@@ -127,19 +149,41 @@ def by_sessions(options, kind, stops):
 
 
 def names(options):
-    for make in [names_by_littlefs, names_by_tool, names_by_sessions] if options.script else [names_by_littlefs]:
-        cases = [make(options, number) for number in range(options.count)]
-        by_session = [other for case in cases if options.script and (other := changed_by_session(options, case))]
-        later = [changed_by_littlefs(options, case, "then by littlefs") for case in by_session]
-        changed = [changed_by_littlefs(options, case, "changed by littlefs") for case in cases]
+    yield from for_firmware(options, Firmware("names", options.code), [made_by_littlefs, made_by_tool, made_by_sessions])
+
+
+def limits(options):
+    """For builds of littlefs with other limits, which mount no image with larger ones."""
+    for profile in LIMITS:
+        code = options.build(f"exchange_{profile.name_max}", name_max=profile.name_max, file_max=profile.file_max, attr_max=profile.attr_max)
+        firmware = Firmware(f"name max {profile.name_max},", code, profile, Limits(longest=profile.name_max))
+        yield from for_firmware(options, firmware, [made_by_littlefs, made_by_tool, made_by_sessions])
+
+
+def caches(options):
+    """For builds of littlefs with a small cache, which change no file that is inline and longer than it."""
+    for cache in CACHES:
+        code = options.build(f"exchange_cache_{cache}", cache=cache)
+        geometries = tuple(it for it in CACHED if it[0] // 8 >= cache)
+        firmware = Firmware(f"cache {cache},", code, Profile(inline_max=cache), Limits(near=cache), every_file, geometries)
+        yield from for_firmware(options, firmware, [made_by_tool, made_by_sessions])
+
+
+def for_firmware(options, firmware, makes):
+    for make in makes if options.script else [it for it in makes if it == made_by_littlefs]:
+        cases = [make(options, number, firmware) for number in range(options.count)]
+        by_session = [other for case in cases if options.script and (other := changed_by_session(options, case, firmware))]
+        later = [changed_by_littlefs(case, "then by littlefs", firmware) for case in by_session]
+        changed = [changed_by_littlefs(case, "changed by littlefs", firmware) for case in cases]
         yield from [cases, changed, by_session, later]
 
 
-def names_by_littlefs(options, number):
-    rnd, geometry, image = begin(options, "names by littlefs", number, ROOMY)
-    case, plain = known("names by littlefs", image, geometry, {}), {b"": None}
-    driver = Driver(options.code, image, geometry, fresh=True)
-    for operation in some_tree(rnd, geometry[0]):
+def made_by_littlefs(options, number, firmware):
+    kind = f"{firmware.name} by littlefs"
+    rnd, geometry, image = begin(options, kind, number, firmware.geometries)
+    case, plain = known(kind, image, geometry, {}, code=firmware.code), {b"": None}
+    driver = Driver(firmware.code, image, geometry, fresh=True)
+    for operation in some_tree(rnd, geometry[0], firmware.limits):
         tell(driver, case, operation, plain)
     driver.end(image)
     case.plain, case.tree = plain, summed(plain)
@@ -148,19 +192,22 @@ def names_by_littlefs(options, number):
 
 def tell(driver, case, operation, plain):
     """Has littlefs carry out an operation, and the plain tree with it."""
-    answer = driver.tell(told(operation))
+    answer, wanted = driver.tell(told(operation)), 0
+    if operation[0] == "read" and plain[operation[1]] is not None:
+        wanted = summed({b"": plain[operation[1]]})[b""][0][1]
     if answer == NOT_FOUND:
         case.missing.add(operation[1])
-    elif answer:
-        case.wrong.append(f"{operation[:2]} is refused with {answer}")
+    elif answer != wanted:
+        case.wrong.append(f"{operation[:2]} is answered with {answer}")
     carry_out(plain, operation)
 
 
-def names_by_tool(options, number):
+def made_by_tool(options, number, firmware):
     """By `mklittlefs -c` of a folder."""
-    rnd, geometry, image = begin(options, "names by -c", number, ROOMY)
+    kind = f"{firmware.name} by -c"
+    rnd, geometry, image = begin(options, kind, number, firmware.geometries)
     plain, folder = {b"": None}, f"{options.room}/folder"
-    for operation in some_tree(rnd, geometry[0]):
+    for operation in some_tree(rnd, geometry[0], firmware.limits):
         carry_out(plain, operation)
     for path, node in plain.items():
         if node is None:
@@ -169,48 +216,65 @@ def names_by_tool(options, number):
             with open(folder.encode() + path, "wb") as it:
                 it.write(node)
     sizes = ["-b", str(geometry[0]), "-p", str(geometry[1]), "-s", str(geometry[0] * geometry[2])]
-    subprocess.run([options.tool, "-c", folder, *sizes, image], check=True)
+    subprocess.run([options.tool, "-c", folder, *sizes, *firmware.profile.options(), image], check=True)
     shutil.rmtree(folder)
-    return known("names by -c", image, geometry, plain)
+    return known(kind, image, geometry, plain, code=firmware.code)
 
 
-def names_by_sessions(options, number):
-    rnd, geometry, image = begin(options, "names by sessions", number, ROOMY)
-    plain, script = {b"": None}, ["fresh %d %d %d" % geometry]
-    for operation in some_tree(rnd, geometry[0]):
+def made_by_sessions(options, number, firmware):
+    kind = f"{firmware.name} by sessions"
+    rnd, geometry, image = begin(options, kind, number, firmware.geometries)
+    plain, script = {b"": None}, [*opening(firmware.profile), "fresh %d %d %d" % geometry]
+    for operation in some_tree(rnd, geometry[0], firmware.limits):
         carry_out(plain, operation)
         script += scripted(operation)
     answers = answers_of(options.script, [*script, "unmount", f"save {image}"])
-    return known("names by sessions", image, geometry, plain, wrong=refusals(answers))
+    return known(kind, image, geometry, plain, wrong=refusals(answers), code=firmware.code)
+
+
+def opening(profile):
+    """The line for a profile, where it isn't the one that a script has without it."""
+    return [] if profile == DEFAULT else [profile.line()]
 
 
 def refusals(answers):
     return [f"a session answers {answer}" for answer in answers if answer.startswith(("refused", "error"))][:1]
 
 
-def changed_by_littlefs(options, case, how):
+def changed_by_littlefs(case, how, firmware):
     """A copy of the image after littlefs changed it: files written anew, added to, renamed onto others, removed, made."""
     rnd, image = random.Random(case.image + how), case.image.replace(".img", f"_{how.replace(' ', '_')}.img")
     shutil.copy(case.image, image)
-    plain, changed = dict(case.plain), known(f"{case.kind}, {how}", image, case.geometry, {})
-    driver = Driver(options.code, image, case.geometry)
-    for operation in some_changes(rnd, dict(plain), case.geometry[0]):
+    plain, changed = dict(case.plain), known(f"{case.kind}, {how}", image, case.geometry, {}, code=firmware.code)
+    driver = Driver(firmware.code, image, case.geometry)
+    for operation in firmware.changes(rnd, dict(plain), case.geometry[0], firmware.limits):
         tell(driver, changed, operation, plain)
+    answer = driver.tell(told(("mkdir", too_long(firmware.limits))))
+    if answer != TOO_LONG:
+        changed.wrong.append(f"a name that is too long is answered with {answer}")
     driver.end(image)
     changed.plain, changed.tree = plain, summed(plain)
     return changed
 
 
-def changed_by_session(options, case):
+def too_long(limits):
+    return b"/" + b"n" * (limits.longest + 1)
+
+
+def changed_by_session(options, case, firmware):
     """A copy of the image after a session changed it, or none where it isn't mounted."""
     rnd, image = random.Random(case.image), case.image.replace(".img", "_by_session.img")
-    plain, script = dict(case.plain), [f"image {case.geometry[0]} {case.geometry[1]} {case.image}"]
-    for operation in some_changes(rnd, plain, case.geometry[0]):
+    plain, script = dict(case.plain), [*opening(firmware.profile), f"image {case.geometry[0]} {case.geometry[1]} {case.image}"]
+    mounted = len(script) - 1
+    for operation in some_changes(rnd, plain, case.geometry[0], firmware.limits):
         script += scripted(operation)
-    answers = answers_of(options.script, [*script, "unmount", f"save {image}"])
-    if answers[0] != "done":
+    long_name = f"mkdir {too_long(firmware.limits).decode()}"
+    answers = answers_of(options.script, [*script, long_name, "unmount", f"save {image}"])
+    if answers[mounted] != "done":
         return None
-    return known(f"{case.kind}, changed by a session", image, case.geometry, plain, wrong=refusals(answers))
+    refused = answers.pop(len(script))
+    wrong = refusals(answers) + [f"a session answers {refused} to a name that is too long"] * (refused != "refused NameTooLong 36")
+    return known(f"{case.kind}, changed by a session", image, case.geometry, plain, wrong=wrong, code=firmware.code)
 
 
 # Long use, with pairs that move as they wear
@@ -253,14 +317,14 @@ def cut_short(options, rnd, case, operate):
         carry_out(plain, operation)
     driver.end(cut.image)
     yield cut
-    standing = left_by(options, cut, before, operation)
-    if standing:
+    standing = left_by(options.code, cut, before, operation)
+    if standing is not None:
         yield gone_on(options, rnd, cut, operate, standing)
 
 
-def left_by(options, cut, before, operation):
+def left_by(code, cut, before, operation, ended=False):
     """Which plain tree an operation that was cut short left, if any of those that it may."""
-    after, begun, found = dict(before), dict(before), shown(options.code, cut.image, WORN)
+    after, begun, found = dict(before), dict(before), shown(code, cut.image, cut.geometry, ended)
     carry_out(after, operation)
     begun[operation[1]] = before.get(operation[1], b"")  # a new file, without its bytes yet
     return next((plain for plain in (before, after, begun) if found and found.tree == summed(plain)), None)
@@ -282,12 +346,12 @@ def gone_on(options, rnd, cut, operate, plain):
 
 def version(options):
     """Images made here, to which littlefs writes in its default version: nothing, an operation, or a few, the last perhaps cut short."""
-    cases = []
+    cases, firmware = [], Firmware("names", options.code)
     for number in range(options.count if options.script else 0):
-        made = (names_by_tool if number % 2 else names_by_sessions)(options, number)
+        made = (made_by_tool if number % 2 else made_by_sessions)(options, number, firmware)
         rnd, image = random.Random(f"{options.seed}/version/{number}"), made.image.replace(".img", "_newer.img")
         shutil.copy(made.image, image)
-        case = Case("version 2.1", image, made.geometry, newer=True, cut=number % 3 == 2)
+        case = Case("version 2.1", image, made.geometry, code=options.newest, newer=True, cut=number % 3 == 2)
         driver, plain = Driver(options.newest, image, made.geometry), dict(made.plain)
         if case.cut:
             driver.tell(f"cut {rnd.randrange(12)}")
@@ -306,4 +370,74 @@ def is_same(one, other):
         return it.read() == that.read()
 
 
-GROUPS = {"random": at_random, "names": names, "long": long_use, "version": version}
+def later(options):
+    """Images by littlefs in its default version, and by littlefs in version 2.0 and then in that; many operations, some cut, and gone on."""
+    cases, before = [], []
+    for number in range(options.count):
+        rnd, geometry, image = begin(options, "version 2.1 by littlefs", number, GEOMETRIES)
+        words = [*map(str, geometry), str(rnd.choice([-1, *CYCLES])), str(rnd.getrandbits(32))]
+        subprocess.run([options.newest, "make", image, *words], check=True)
+        case = Case("version 2.1 by littlefs", image, geometry, cycles=int(words[3]), cut=True, code=options.newest, newer=True, written=True)
+        cases.append(case)
+        image = image.replace(".img", "_before.img")
+        words[3] = str(rnd.choice([2, 3, 20]))  # few, so that the superblock's pair moves on
+        subprocess.run([options.code, "make", image, *words], check=True)
+        before.append(Case("version 2.0", image, geometry, cycles=int(words[3])))
+    yield from with_changed(options, cases)
+    yield [changed_at_random(case, options.newest, "version 2.0 and then 2.1 by littlefs", newer=True) for case in before]
+    for case in before:
+        os.unlink(case.image)
+
+
+def turns(options):
+    """Images that littlefs in its default version and sessions change in turns. The device of some sessions stops."""
+    firmware = Firmware("in turns,", options.newest)
+    made = [(made_by_tool if number % 2 else made_by_littlefs)(options, number, firmware) for number in range(options.count if options.script else 0)]
+    for case in made:
+        case.newer = case.written = case.kind.endswith("littlefs")
+    for turn in range(1, TURNS + 1):
+        by_littlefs = [turn_by_littlefs(case, turn, firmware) for case in made]
+        yield made
+        made = [turn_by_session(options, case, turn) for case in by_littlefs]
+        yield by_littlefs
+    yield made
+
+
+def turn_by_littlefs(case, turn, firmware):
+    changed = changed_by_littlefs(case, f"turn {turn}", firmware)
+    changed.kind, changed.newer, changed.written = f"in turns, {turn} by littlefs", True, True
+    return changed
+
+
+def turn_by_session(options, case, turn):
+    """A copy of the image after a session changed it. It ends with an operation in which the device stops, if it stops."""
+    rnd, image = random.Random(f"{case.image}/session"), case.image.replace(".img", "_session.img")
+    stop = ["unmount", f"mount program {1 + rnd.randrange(12)} stop torn {rnd.randrange(1500)}"] * (rnd.random() < 0.3)
+    begun = [ALSO_2_1.line(), f"image {case.geometry[0]} {case.geometry[1]} {case.image}", *stop]
+    operations = list(some_changes(rnd, dict(case.plain), case.geometry[0]))
+    script = begun + [line for operation in operations for line in scripted(operation)]
+    answers = answers_of(options.script, [*script, "unmount", f"save {image}"])
+    changed = Case(f"in turns, {turn} by a session", image, case.geometry, code=options.newest, newer=True, written=True, cut=bool(stop))
+    changed.plain = followed(changed, dict(case.plain), operations, answers[len(begun) :])
+    changed.wrong += [f"a session answers {answer}" for answer in answers[: len(begun)] if answer != "done"]
+    changed.tree = summed(changed.plain)
+    return changed
+
+
+def followed(case, plain, operations, answers):
+    """The plain tree behind the operations of a session: behind all of them, or what the one left in which the device stopped."""
+    for operation in operations:
+        count = len(scripted(operation))
+        if "error Io 5" in answers[:count] and case.cut:
+            standing = left_by(case.code, case, plain, operation, ended=True)
+            if standing is None:
+                case.wrong.append(f"{operation[:2]} left another tree")
+            return plain if standing is None else standing
+        case.wrong += refusals(answers[:count])
+        answers = answers[count:]
+        carry_out(plain, operation)
+    return plain
+
+
+GROUPS = {"random": at_random, "names": names, "limits": limits, "caches": caches, "long": long_use, "version": version, "later": later,
+          "turns": turns}

@@ -1,16 +1,27 @@
 """Operations at random for exchange.py: the plain tree that they make, and how littlefs's own code and a session are told them.
 
 A tree has for each path a file's bytes, or None for a directory; the root's path is empty. An operation is a tuple of a word and
-its arguments: put PATH SIZE LETTER (a file has these bytes from then on), append PATH SIZE LETTER, rename OLD NEW, remove PATH,
-mkdir PATH. Most names are the beginning of another one in their directory, or begin with one.
+its arguments: put PATH SIZE LETTER (a file has these bytes from then on), append PATH SIZE LETTER, write PATH AT SIZE LETTER,
+truncate PATH SIZE, read PATH, rename OLD NEW, remove PATH, mkdir PATH. Most names are the beginning of another one in their
+directory, or begin with one.
 """
 
+from dataclasses import dataclass
 import subprocess
 
 from session_model import word
 
 FAMILIES = [[b"index.html", b"index.html.gz"], [b"main.py", b"main.pyc"], [b"log", b"log.old"], [b"x", b"x.tmp"]]
 LETTERS = b"abc.~_- "
+
+
+@dataclass(frozen=True)
+class Limits:
+    longest: int = 255  # name
+    near: int = 0  # many files have about so many bytes, unless it is 0
+
+
+ANY = Limits()
 
 
 # What an operation means
@@ -21,9 +32,14 @@ def carry_out(tree, operation):
     what, path, *more = operation
     if what in ("put", "append"):
         tree[path] = (tree[path] if what == "append" else b"") + more[1].encode() * more[0]
+    elif what == "write":
+        at, size, letter = more
+        tree[path] = tree[path][:at].ljust(at, b"\0") + letter.encode() * size + tree[path][at + size :]
+    elif what == "truncate":
+        tree[path] = tree[path][: more[0]].ljust(more[0], b"\0")
     elif what == "mkdir":
         tree[path] = None
-    else:
+    elif what != "read":
         moved = {at: tree.pop(at) for at in beneath(tree, path)}
         if what == "rename":
             tree.update({more[0] + at[len(path) :]: node for at, node in moved.items()})
@@ -44,6 +60,12 @@ def scripted(operation):
     what, path, *more = operation
     if what == "put" or what == "append":
         return [f"open {word(path)} {'502' if what == 'put' else '802'}", f"write 0 *{more[0]}:{more[1]}", "close 0"]
+    if what == "write":
+        return [f"open {word(path)} 2", f"seek 0 {more[0]}", f"write 0 *{more[1]}:{more[2]}", "close 0"]
+    if what == "truncate":
+        return [f"open {word(path)} 2", f"truncate 0 {more[0]}", "close 0"]
+    if what == "read":
+        return []
     return [f"{what} {word(path)} {word(more[0])}" if more else f"{what} {word(path)}"]
 
 
@@ -60,68 +82,87 @@ def some_name(rnd):
     return bytes(rnd.choices(LETTERS, k=rnd.choice([1, 1, 2, 3, 8, 30]))).replace(b".", b"_") + b"~"
 
 
-def some_family(rnd):
+def some_family(rnd, limits=ANY):
     """Names each of which is the beginning of the next."""
     if rnd.random() < 0.4:
         return rnd.choice(FAMILIES)
     names = [some_name(rnd)]
     for _ in range(rnd.randint(1, 3)):
-        names.append((names[-1] + bytes(rnd.choices(LETTERS, k=rnd.choice([1, 1, 2, 20]))))[:255])
+        names.append((names[-1] + bytes(rnd.choices(LETTERS, k=rnd.choice([1, 1, 2, 20]))))[: limits.longest])
     return names
 
 
-def some_size(rnd, block_size):
+def some_size(rnd, block_size, limits=ANY):
+    if limits.near and rnd.random() < 0.4:
+        return limits.near + rnd.randrange(-1, 2)
     return rnd.choice([1, rnd.randrange(1, 60), rnd.randrange(1, 60), rnd.randrange(1, block_size // 8), rnd.randrange(1, 2 * block_size)])
 
 
-def some_put(rnd, path, block_size, what="put"):
-    return what, path, some_size(rnd, block_size), rnd.choice("uvwxyz")
+def some_put(rnd, path, block_size, what="put", limits=ANY):
+    return what, path, some_size(rnd, block_size, limits), rnd.choice("uvwxyz")
 
 
-def some_tree(rnd, block_size):
+def some_tree(rnd, block_size, limits=ANY):
     """Operations that make a tree from nothing: directories first, then files in any order."""
     folders = [b""]
-    for family in [some_family(rnd) for _ in range(rnd.randrange(3))]:
+    for family in [some_family(rnd, limits) for _ in range(rnd.randrange(3))]:
         above = rnd.choice(folders)
         folders += [above + b"/" + name for name in family]
     folders = list(dict.fromkeys(folders))
-    files = {folder + b"/" + name for folder in folders for _ in range(rnd.choice([2, 4, 7])) for name in some_family(rnd)}
+    files = {folder + b"/" + name for folder in folders for _ in range(rnd.choice([2, 4, 7])) for name in some_family(rnd, limits)}
     files = sorted(files - set(folders))
     rnd.shuffle(files)
-    return [("mkdir", folder) for folder in folders[1:]] + [some_put(rnd, path, block_size) for path in files[:70]]
+    return [("mkdir", folder) for folder in folders[1:]] + [some_put(rnd, path, block_size, limits=limits) for path in files[:70]]
 
 
-def some_changes(rnd, tree, block_size):
+def some_changes(rnd, tree, block_size, limits=ANY):
     """Operations upon a tree, in which each kind comes; the plain tree is changed with them."""
     kinds = ["put", "append", "replace", "remove", "add"] + rnd.choices(["put", "append", "replace", "remove", "add", "rename"], k=rnd.randrange(8))
     rnd.shuffle(kinds)
     for kind in kinds:
-        for operation in some_change(rnd, tree, block_size, kind):
+        for operation in some_change(rnd, tree, block_size, kind, limits):
             yield operation
             carry_out(tree, operation)
 
 
-def some_change(rnd, tree, block_size, kind):
+def every_file(rnd, tree, block_size, limits=ANY):
+    """Each file of a tree is written in place, added to and shortened, in some order, and read behind each; the tree is changed with them."""
+    for path in [path for path, node in tree.items() if node is not None]:
+        for what in rnd.sample(["write", "append", "truncate"], 3):
+            for operation in change_of_file(rnd, what, path, len(tree[path])), ("read", path):
+                yield operation
+                carry_out(tree, operation)
+
+
+def change_of_file(rnd, what, path, size):
+    if what == "truncate":
+        return what, path, rnd.randrange(size + 1)
+    if what == "append":
+        return what, path, rnd.randrange(1, 80), rnd.choice("uvwxyz")
+    return what, path, rnd.randrange(size + 1), 1 + rnd.randrange(max(1, size // 2)), rnd.choice("uvwxyz")
+
+
+def some_change(rnd, tree, block_size, kind, limits=ANY):
     files = [path for path, node in tree.items() if node is not None]
     path = rnd.choice(files) if files else b"/x"
     if kind == "add" or not files:
-        return [some_put(rnd, new_path(rnd, tree, path), block_size)]
+        return [some_put(rnd, new_path(rnd, tree, path, limits), block_size, limits=limits)]
     if kind == "replace":  # by a file that is written first, under a name that begins with this one
         above, _, name = path.rpartition(b"/")
-        before = above + b"/" + name[:250] + b".tmp"
+        before = above + b"/" + name[: limits.longest - 5] + b".tmp"
         before += b"~" * (tree.get(before, b"") is None)
-        return [some_put(rnd, before, block_size), ("rename", before, path)]
+        return [some_put(rnd, before, block_size, limits=limits), ("rename", before, path)]
     if kind == "rename":
-        return [("rename", path, new_path(rnd, tree, path))]
-    return [("remove", path)] if kind == "remove" else [some_put(rnd, path, block_size, kind)]
+        return [("rename", path, new_path(rnd, tree, path, limits))]
+    return [("remove", path)] if kind == "remove" else [some_put(rnd, path, block_size, kind, limits)]
 
 
-def new_path(rnd, tree, path):
+def new_path(rnd, tree, path, limits=ANY):
     """A path that isn't there: one that begins with that path, or a beginning of it."""
     above, _, name = path.rpartition(b"/")
     while True:
         cut = name[: rnd.randrange(len(name) + 1)]
-        other = rnd.choice([cut, name[:200] + some_name(rnd)[:20], rnd.choice(some_family(rnd))])
+        other = rnd.choice([cut, (name[:200] + some_name(rnd)[:20])[: limits.longest], rnd.choice(some_family(rnd, limits))])
         if other not in (b"", b".", b"..") and above + b"/" + other not in tree:
             return above + b"/" + other
 

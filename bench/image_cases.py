@@ -1,8 +1,9 @@
-"""Fixed images with the answers that the rules of docs/FORMAT.md give: `cases()` yields (what, image, geometry, answer).
+"""Fixed images with the answers that the rules of docs/FORMAT.md give: `cases(profile)` yields (what, image, geometry, answer).
 
-An answer is the listing in bytes, or the error's name. Geometry is (block size, page).
+An answer is the listing in bytes, or the error's name. Geometry is (block size, page). Without a profile version 2.0 alone is accepted.
 """
 
+import profiles
 from image_maker import Commit, Entry, Log, folder, inline, list_of, listed, move, numbers, simple_plan, superblock, tail
 
 NULL = 0xffffffff
@@ -202,13 +203,13 @@ def forward_first():
     return made
 
 
-def forward_checksums():
+def forward_checksums(profile):
     """An entry of version 2.1 means nothing; but the version of the superblock behind it counts."""
-    newer = Entry(0x201, 0, superblock(4096, 16, version=0x00020001).data)
+    newer = Entry(0x201, 0, superblock(4096, 16, version=profiles.TWO_ONE).data)
     both = b"f 0 /f\nf 0 /g\n"
     for length in 0, 1, 4, 8, 12, 200, 1022:
         yield f"a forward checksum of {length} bytes", forward(length=length), both
-        yield f"version 2.1 behind one of {length} bytes", forward(newer, length=length), "Corrupt"
+        yield f"version 2.1 behind one of {length} bytes", forward(newer, length=length), where_later(profile, both)
     yield "a forward checksum without data in the first commit", forward(length=0, told=0x3ff), "Corrupt"
     yield "a forward checksum without data", after(Entry(0x5ff, 0x3ff, length=0x3ff), newer), b"f 0 /f\n"
     yield "a forward checksum past the block", after(Entry(0x5ff, 0x3ff, bytes(8)), *[Entry(0x5ff, 0x3ff, bytes(1022))] * 4, newer), b"f 0 /f\n"
@@ -216,6 +217,31 @@ def forward_checksums():
     yield "a forward checksum first", forward_first(), "Corrupt"
     yield "forward checksums alone", after(*[Entry(0x5ff, 0x3ff, bytes(8))] * 3), b"f 0 /f\n"
     yield "another type of class 5", after(Entry(0x5fe, 0x3ff, bytes(8)), newer), b"f 0 /f\n"
+
+
+def where_later(profile, lines):
+    """The answer for an image of version 2.1."""
+    return lines if profiles.TWO_ONE in profile.versions else "Corrupt"
+
+
+def versions(profile):
+    """Superblocks of other versions, alone and in a chain."""
+    first, second, third = (0, 1), (2, 3), (4, 5)
+    on, more, shown = tail(second, hard=True), tail(third, hard=True), b"f 2 /f\n"
+    later, latest = superblock(4096, 16, version=profiles.TWO_ONE), superblock(4096, 16, version=0x00020002)
+    yield "version 2.1", plan([first, [later, HI]]), where_later(profile, shown)
+    for version in 0, 1, 0x00010007, 0x00020002, 0x00030000, 0x00030001, 0x01020000, 0x00020001 << 8, NULL:
+        yield f"version {version >> 16}.{version & 0xffff}", plan([first, [superblock(4096, 16, version=version), HI]]), "Corrupt"
+    for what, one, other in ("2.0, 2.1", HEAD, later), ("2.1, 2.0", later, HEAD), ("2.1, 2.1", later, later):
+        yield f"a chain {what}", plan([first, [one], on], [second, [other, HI]]), where_later(profile, shown)
+        yield f"a chain {what}, and a pair without slots", plan(
+            [first, [one], on], [second, [], more], [third, [other, HI]]), where_later(profile, shown)
+    yield "a chain 2.0, 2.1, 2.0", plan([first, [HEAD], on], [second, [later], more], [third, [HEAD, HI]]), where_later(profile, shown)
+    for what, other in ("another limit", superblock(4096, 16, 32, profiles.TWO_ONE)), ("17 blocks", superblock(4096, 17, version=profiles.TWO_ONE)):
+        yield f"a chain 2.0, 2.1 with {what}", plan([first, [HEAD], on], [second, [other, HI]]), "Corrupt"
+        yield f"a chain 2.1 with {what}, 2.0", plan([first, [other], on], [second, [HEAD, HI]]), "Corrupt"
+    yield "a chain 2.0, 2.2", plan([first, [HEAD], on], [second, [latest, HI]]), "Corrupt"
+    yield "a chain 2.2, 2.1", plan([first, [latest], on], [second, [later, HI]]), "Corrupt"
 
 
 def fronts():
@@ -271,8 +297,8 @@ def geometries():
         yield geometry, "Invalid"
 
 
-def cases():
-    for what, made, answer in [*plans(), *logs(), *orders(), *forward_checksums(), *fronts()]:
+def cases(profile=profiles.DEFAULT):
+    for what, made, answer in [*plans(), *logs(), *orders(), *forward_checksums(profile), *versions(profile), *fronts()]:
         yield what, made.image(), (4096, 256), answer
     for what, image, answer in images():
         yield what, image, (4096, 256), answer

@@ -1,4 +1,4 @@
-"""Makes littlefs images (on-disk version 2.0), written apart from the crates and from the reader.
+"""Makes littlefs images, written apart from the crates and from the reader: of version 2.0, or of any that a profile accepts.
 
 A Plan says what each block holds: a Log of commits or plain bytes. `plan.image()` lays it out with right tags and checksums,
 so a plan that was changed gives an image that is wrong in that one thing. `random_plan(rnd)` makes a random tree and a plan
@@ -9,6 +9,8 @@ of names, forward checksums. It gives the tree's lines too.
 
 from dataclasses import dataclass, field
 import zlib
+
+import profiles
 
 NULL = 0xffffffff
 REMOVED = 0x3ff
@@ -95,8 +97,8 @@ def put_tag(out, previous, kind, ident, length):
     return tag
 
 
-def superblock(block_size, count, names=255, version=0x00020000):
-    fields = numbers(version, block_size, count, names, 2147483647, 1022)
+def superblock(block_size, count, names=255, version=profiles.TWO_ZERO, files=2147483647, attributes=1022):
+    fields = numbers(version, block_size, count, names, files, attributes)
     return Slot(0x0ff, b"littlefs", 0x201, fields)
 
 
@@ -203,8 +205,8 @@ class Directory:
 
 
 class Layout:
-    def __init__(self, rnd, geometry, order):
-        self.rnd, self.plan, self.order = rnd, Plan(*geometry), order
+    def __init__(self, rnd, geometry, order, profile):
+        self.rnd, self.plan, self.order, self.profile = rnd, Plan(*geometry), order, profile
         self.free = list(range(2, self.plan.count))
         rnd.shuffle(self.free)
         self.directories, self.unreached, self.root = [], False, 0
@@ -220,7 +222,7 @@ class Layout:
 
     def file(self, name, data):
         rnd = self.rnd
-        if len(data) <= 400 and (not data or rnd.random() < 0.8):
+        if len(data) <= min(400, self.profile.inline_max) and (not data or rnd.random() < 0.8):
             slot = inline(name, data)
         else:
             blocks = self.take(blocks_for(self.plan.block_size, len(data)))
@@ -251,6 +253,13 @@ class Layout:
             groups[-1].append(slot)
         return groups
 
+    def superblock(self):
+        """One of an accepted version; those of a chain may have different ones."""
+        versions = self.profile.versions
+        version = versions[0] if len(versions) == 1 else self.rnd.choice(versions)
+        names, files, attributes = self.profile.limits()
+        return superblock(self.plan.block_size, self.plan.count, names, version, files, attributes)
+
     def thread(self, tree):
         """All pairs in the thread's order: (address, slots, whether the tail to the next is hard)."""
         rnd, plan = self.rnd, self.plan
@@ -269,7 +278,7 @@ class Layout:
             pairs += zip(directory.addresses, directory.slots, hard)
         for (_, slots, _), without in zip(pairs, empty):
             if not without:
-                slots.insert(0, superblock(plan.block_size, plan.count))
+                slots.insert(0, self.superblock())
         return pairs
 
 
@@ -381,18 +390,18 @@ def put_pair(rnd, plan, address, log):
         plan.blocks[other] = Log(log.revision - rnd.choice(behind) & NULL, old + log.commits[: rnd.randint(0, 1)])
 
 
-def random_plan(rnd, geometry=None, tree=None, mixed=False):
+def random_plan(rnd, geometry=None, tree=None, mixed=False, profile=profiles.DEFAULT):
     """A plan of a random tree and the tree's lines. The names are in one of the two orders, or in either in each directory."""
     while True:
         try:
             order = None if mixed else rnd.choice(ORDERS)
-            return plan_of(rnd, geometry or rnd.choice(GEOMETRIES), random_tree(rnd) if tree is None else tree, order)
+            return plan_of(rnd, geometry or rnd.choice(GEOMETRIES), random_tree(rnd) if tree is None else tree, order, profile)
         except NoRoom:
             continue
 
 
-def plan_of(rnd, geometry, tree, order):
-    layout = Layout(rnd, geometry, order)
+def plan_of(rnd, geometry, tree, order, profile):
+    layout = Layout(rnd, geometry, order, profile)
     pairs = layout.thread(tree)
     state = random_state(rnd, pairs[layout.root :], layout.unreached or rnd.random() < 0.1)
     states = spread(rnd, state, len(pairs))

@@ -1,13 +1,15 @@
-"""A plain reader of littlefs images (on-disk version 2.0), written apart from the crates.
+"""A plain reader of littlefs images, written apart from the crates.
 
-`listing(image, block_size, page)` gives what `mklittlefs -l` has to print, or raises
+`listing(image, block_size, page, profile)` gives what `mklittlefs -l` has to print, or raises
 Refused: `Invalid` for a length or geometry outside the limits, `Corrupt` for bytes that
-hold no accepted image. Each log is folded forward from its start and each list walked
+hold no accepted image. Without a profile version 2.0 alone is accepted. Each log is folded forward from its start and each list walked
 block by block; nothing is kept or searched. docs/FORMAT.md tells the format and its rules.
 """
 
 from dataclasses import dataclass
 import zlib
+
+import profiles
 
 FILE, FOLDER, SUPERBLOCK = 0x001, 0x002, 0x0ff
 PAIR_STRUCT, INLINE, LIST = 0x200, 0x201, 0x202
@@ -15,6 +17,7 @@ CREATE, DELETE, SET_MOVE = 0x401, 0x4ff, 0x4ff
 FORWARD_CHECKSUM = 0x5ff  # of version 2.1: an entry without meaning
 NONE = 0x3ff  # as an id: no slot; as a length: removed
 NULL = 0xffffffff
+SUPERBLOCK_BYTES = 24
 FIXED = {SUPERBLOCK: 8, PAIR_STRUCT: 8, LIST: 8, CREATE: 0, DELETE: 0, 0x600: 8, 0x601: 8, 0x7ff: 12}
 OF_ANY_LENGTH = {FILE, FOLDER, INLINE}
 LARGEST_FILE = 2147483647
@@ -232,14 +235,17 @@ class Image:
         accept(self.pairs[index].slots[ident].kind != SUPERBLOCK, "move")
         self.moved = (index, ident)
 
-    def check_superblocks(self, block_size):
+    def check_superblocks(self, block_size, versions):
         chain = [pair for pair in self.pairs[: self.root + 1] if pair.slots]
         accept(chain and chain[0].first == (SUPERBLOCK, 0, 8, b"littlefs"), "first entry")
         accept(chain[0].slots[0].name == b"littlefs", "superblock's name")
         fields = chain[0].slots[0].struct[1]
-        accept(len(fields) == 24 and words(fields)[:3] == (0x00020000, block_size, len(self.blocks)), "fields")
+        accept(len(fields) == SUPERBLOCK_BYTES and word(fields) in versions, "fields")
+        accept(words(fields)[1:3] == (block_size, len(self.blocks)), "fields")
         for pair in chain:
-            accept(pair.slots[0].kind == SUPERBLOCK and pair.slots[0].struct == (INLINE, fields), "same fields")
+            kind, other = pair.slots[0].struct
+            accept(pair.slots[0].kind == SUPERBLOCK and kind == INLINE and len(other) == SUPERBLOCK_BYTES, "same fields")
+            accept(word(other) in versions and other[4:] == fields[4:], "same fields")
         for index, pair in enumerate(self.pairs):
             others = pair.slots[1:] if index <= self.root else pair.slots
             accept(all(slot.kind != SUPERBLOCK for slot in others), "second superblock")
@@ -317,15 +323,15 @@ def blocks_of(image, block_size):
     return [image[at : at + block_size] for at in range(0, len(image), block_size)]
 
 
-def listed_image(image, block_size, page):
+def listed_image(image, block_size, page, profile=profiles.DEFAULT):
     """The image as it is read, and its lines."""
     check_geometry(len(image), block_size, page)
     image = Image(blocks_of(image, block_size))
-    image.check_superblocks(block_size)
+    image.check_superblocks(block_size, profile.versions)
     image.check_slots()
     image.check_blocks()
     return image, image.lines()
 
 
-def listing(image, block_size=4096, page=256):
-    return listed_image(image, block_size, page)[1]
+def listing(image, block_size=4096, page=256, profile=profiles.DEFAULT):
+    return listed_image(image, block_size, page, profile)[1]

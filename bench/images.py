@@ -1,14 +1,15 @@
 #!/usr/bin/env python3
 """What `mklittlefs -l` answers for images of any kind, beside a plain reader that shares nothing with it.
 
-usage: images.py [PROGRAM] [--count N] [--seed WORD] [--keep FOLDER]
+usage: images.py [PROGRAM] [--count N] [--seed WORD] [--keep FOLDER] [--also-2.1] [--name-max N] [--file-max N] [--attr-max N] [--inline-max N]
 
 PROGRAM is a built mklittlefs. The images: fixed ones whose answers are written down; one with each byte of two blocks inverted
 in turn; and N that are made at random, whole ones and ones that were changed, in their bytes or in one field with the
 checksums right again. Output, errors and status are compared with what the reader (image_reader.py) answers. Prints for each
 kind how many images there were and what the reader said of them, and each difference; an image on which they differ is left
 in FOLDER. Without PROGRAM the reader alone is tried: the fixed answers, and that made images list as the trees they were
-made of. Fails where anything differs.
+made of. With --also-2.1 images of that version are made too; PROGRAM and the reader accept them. With a limit the superblocks
+of the images that are made have it. Fails where anything differs.
 """
 
 import argparse
@@ -22,6 +23,7 @@ import tempfile
 import image_cases
 import image_maker
 import image_reader
+import profiles
 from image_maker import NULL, REMOVED, Commit, Entry, Log, numbers
 
 KINDS = [0x001, 0x002, 0x0ff, 0x200, 0x201, 0x202, 0x300, 0x3ff, 0x401, 0x4ff, 0x500, 0x501, 0x502, 0x5ff, 0x600, 0x601, 0x7ff, 0x003, 0x203, 0x400, 0x602, 0x700]
@@ -211,10 +213,10 @@ MIXED = "orders"  # a tree whose directories may have different orders of names
 MADE = [WHOLE, WHOLE, MIXED] + PLANNED + PLANNED + RAW
 
 
-def made_image(seed, number):
+def made_image(seed, number, profile):
     """Kind, image, geometry, and what it has to list where that is known."""
     rnd, how = random.Random(f"{seed}/{number}"), MADE[number % len(MADE)]
-    plan, lines = image_maker.random_plan(rnd, mixed=how == MIXED)
+    plan, lines = image_maker.random_plan(rnd, mixed=how == MIXED, profile=profile)
     geometry = (plan.block_size, plan.page)
     if how == MIXED:
         return how, plan.image(), geometry, None
@@ -227,31 +229,36 @@ def made_image(seed, number):
     return how.__name__, plan.image(), geometry, None
 
 
-def all_images(count, seed):
+def all_images(count, seed, profile):
     """(kind, what, image, geometry, the answer where it is known)"""
-    for what, image, geometry, answer in image_cases.cases():
+    for what, image, geometry, answer in image_cases.cases(profile):
         yield "fixed", what, image, geometry, answer
     for what, image, geometry in image_cases.every_byte():
         yield "each byte", what, image, geometry, None
     for number in range(count):
-        kind, image, geometry, answer = made_image(seed, number)
+        kind, image, geometry, answer = made_image(seed, number, profile)
         yield kind, f"{seed}/{number}", image, geometry, answer
 
 
-def read(image, geometry):
+def read(image, geometry, profile):
     try:
-        return image_reader.listing(image, *geometry)
+        return image_reader.listing(image, *geometry, profile)
     except image_reader.Refused as refused:
         return str(refused)
 
 
-def told(program, path, image, geometry):
+def told(program, path, image, geometry, profile):
     """Status, output and errors of the program."""
     with open(path, "wb") as file:
         file.write(image)
-    words = [program, "-l", "-b", str(geometry[0]), "-p", str(geometry[1]), path]
+    words = [program, "-l", "-b", str(geometry[0]), "-p", str(geometry[1]), *later(profile), path]
     run = subprocess.run(words, capture_output=True, timeout=120)
     return run.returncode, run.stdout, run.stderr
+
+
+def later(profile):
+    """What a reading takes of a profile: the limits are the image's own."""
+    return profiles.Profile(profile.versions).options()
 
 
 def expected(answer):
@@ -261,13 +268,13 @@ def expected(answer):
 
 
 def compare(options, path):
-    answers, differences = collections.defaultdict(collections.Counter), 0
-    for kind, what, image, geometry, known in all_images(options.count, options.seed):
-        answer = read(image, geometry)
+    answers, differences, profile = collections.defaultdict(collections.Counter), 0, profiles.chosen(options)
+    for kind, what, image, geometry, known in all_images(options.count, options.seed, profile):
+        answer = read(image, geometry, profile)
         answers[kind]["listed" if isinstance(answer, bytes) else answer] += 1
         wrong = [] if known in (None, answer) else [("written down", known)]
         if options.program:
-            run = told(options.program, path, image, geometry)
+            run = told(options.program, path, image, geometry, profile)
             wrong += [("program", run)] if run != expected(answer) else []
         for side, other in wrong:
             differences += 1
@@ -285,6 +292,7 @@ def main():
     parser.add_argument("--count", type=int, default=20000)
     parser.add_argument("--seed", default="images")
     parser.add_argument("--keep")
+    profiles.add_options(parser)
     options = parser.parse_args()
     with tempfile.TemporaryDirectory() as room:
         answers, differences = compare(options, os.path.join(room, "image"))

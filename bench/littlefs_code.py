@@ -7,18 +7,23 @@ import re
 import subprocess
 import zlib
 
-NOT_FOUND = -2
+NOT_FOUND, TOO_LONG = -2, -36
 here = os.path.dirname(os.path.abspath(__file__))
 
 
-def build(littlefs, out, version=None):
-    """exchange.c with littlefs's code, whose names may begin with lfs2, as MicroPython has them; in its default version, or in that one."""
+def build(littlefs, out, version=None, cache=None, **limits):
+    """exchange.c with littlefs's code, whose names may begin with lfs2, as MicroPython has them; in its default version, or in that one.
+
+    Its caches have that size. A limit is one of LFS_NAME_MAX and its kin, as name_max=32.
+    """
     prefix = "lfs2" if os.path.exists(f"{littlefs}/lfs2.c") else "lfs"
     with open(f"{here}/exchange.c") as it:
         names = set(re.findall(r"\b(?:lfs|LFS)_\w+", it.read()))
     renamed = [f"-D{name}={name.replace('lfs', 'lfs2', 1).replace('LFS', 'LFS2', 1)}" for name in sorted(names)] if prefix == "lfs2" else []
     switches = [f"-D{prefix.upper()}_{it}" for it in ("NO_DEBUG", "NO_WARN", "NO_ERROR")]
     switches += [f"-DVERSION={version}", f"-D{prefix.upper()}_MULTIVERSION"] if version else []
+    switches += [f"-DCACHE={cache}"] if cache else []
+    switches += [f"-D{prefix.upper()}_{name.upper()}={bytes_}" for name, bytes_ in limits.items()]
     sources = [f"{here}/exchange.c", f"{littlefs}/{prefix}.c", f"{littlefs}/{prefix}_util.c"]
     subprocess.run(["gcc", "-O1", f'-DHEADER="{prefix}.h"', *switches, f"-I{littlefs}", *renamed, "-o", out, *sources], check=True)
     return out

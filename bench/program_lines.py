@@ -28,8 +28,15 @@ OBJECTIONS = [
     ("get-attr /a 100", "word 3 is no hexadecimal number up to ff"),
     ("stat /\\x0", "word 2 is not spelled as bytes are (--help says how)"),
     ("fresh 4096 256 16 sideways", "from word 5 on there are no options of the command"),
+    ("profile also-2.0", "from word 2 on there are no options of the command"),
+    ("profile also-2.1 name-max", "from word 3 on there are no options of the command"),
+    ("profile name-max 0x20", "word 3 is no decimal number up to 4294967295"),
+    ("profile attr-max 5 also-2.1 inline-max -1", "word 6 is no decimal number up to 4294967295"),
+    ("profile name-max 5 5", "from word 4 on there are no options of the command"),
+    ("profile name-max 1 file-max 2 attr-max 3 inline-max 4 also-2.1 name-max 5",
+     "too many words: profile [also-2.1] [name-max N] [file-max N] [attr-max N] [inline-max N]"),
 ]
-COMMANDS = """fresh image unmount mount save calls compare compare-with open read write seek truncate sync close mkdir remove rename list
+COMMANDS = """fresh image profile unmount mount save calls compare compare-with open read write seek truncate sync close mkdir remove rename list
 stat get-attr set-attr remove-attr gstate is-used used-count recover remount""".split()
 
 
@@ -99,6 +106,32 @@ def tool_rows(tool, folder):
     before = os.stat(folder + "/x.img").st_ino
     yield "the old image stays", (run(tool, ["-c", "both", *sizes, "x.img"], "", folder)[0], os.stat(folder + "/x.img").st_ino), (1, before)
     yield "a check", run(tool, ["--check", "x.img"], "", folder)[1].splitlines()[:3], ["ok", "files 1", "directories 0"]
+    yield from limit_rows(tool, folder)
+
+
+def limit_rows(tool, folder):
+    """The same of limits, boards and versions."""
+    rules = [(["--name-max", "0"], "--name-max is from 1 to 255"), (["--file-max", "2147483648"], "--file-max is from 1 to 2147483647"),
+             (["--attr-max", "1023"], "--attr-max is from 1 to 1022"), (["--board", "esp"], "--board is esp8266, esp32, rp2040 or micropython"),
+             (["-b", "1024", "-p", "128", "--inline-max", "129"], "--inline-max is from 1 to 1022, and at most an eighth of -b")]
+    for words, rule in rules:
+        yield " ".join(words), run(tool, ["-c", "some", *words, "x.img"], "", folder), (2, "", f"error: {rule}\n")
+    write(folder, "named/four", b"hi")
+    yield "a name that is too long", run(tool, ["-c", "named", "--name-max", "3", "n.img"], "", folder), (1, "", "error: NameTooLong (36)\n")
+    yield "a file that is too long", run(tool, ["-c", "named", "--file-max", "1", "n.img"], "", folder), (1, "", "error: TooBig (27)\n")
+    made = run(tool, ["-c", "named", "--board", "esp8266", "--attr-max", "64", "n.img"], "", folder)
+    yield "limits in the image", (made, limits_in(folder + "/n.img")), ((0, "", ""), (32, 2147483647, 64))
+    other = "writable no: pair 0 1, slot 0: a superblock with other limits than this library writes, name_max 32"
+    for words, line in ([], other), (["--name-max", "32", "--attr-max", "64"], "writable yes"):
+        shown = run(tool, ["--check", "-b", "8192", *words, "n.img"], "", folder)
+        yield " ".join(["a check", *words]), (shown[0], shown[1].splitlines()[-1]), (0, line)
+
+
+def limits_in(image):
+    """The three limits of a fresh image's superblock."""
+    with open(image, "rb") as file:
+        data = file.read(44)
+    return tuple(int.from_bytes(data[at : at + 4], "little") for at in (32, 36, 40))
 
 
 def main():

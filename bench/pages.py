@@ -1,0 +1,260 @@
+#!/usr/bin/env python3
+"""Names in the pages that aren't there: files, crates, functions, definitions and options between backticks.
+
+usage: pages.py [PAGE..]
+
+Without PAGE it takes README.md, CONTRIBUTING.md, what is in docs, bench/README.md, and the pages of the crates. Code blocks are passed
+over, and so are what names the past, CHANGELOG.md, and what names other tools. It looks at what stands between backticks:
+
+- a path is one of the repository's: from the top, from `crates`, or from a crate. Its ending may be left out;
+- of a wrong body `CRATE/NAME` is its file;
+- a name is a word of the code, the definitions or the scripts, outside of comments; where the line speaks of proofs, and in
+  docs/DEVICE_LAWS.md, of the proofs too. Of `A::b`, `A.b` and `A::{b, c}` it is each part, and of a call the name before the bracket;
+- it is a word of a crate where the page says so: in `lfs_tag::find`, in "`A` and `B` of `lfs_tag`" and "of `lfs_tag` `A` and `B`". In
+  the first column of docs/PROVED.md it is a word of the code of the crates that the heading names;
+- in a column of definitions, and of what shows them, it is a word of `lfs_model`, unless another crate is named behind it;
+- in a column of files it is a definitions' file, a crate or a path;
+- an option is one of mklittlefs, of lfs_script or of a script in bench;
+- in `docs/USING.md, "Scripts"` there is such a heading.
+
+Prints a line for each that isn't there, and fails then.
+"""
+
+import glob
+import os
+import re
+import subprocess
+import sys
+
+TOP = os.path.dirname(os.path.dirname(os.path.abspath(__file__)))
+PAGES = ["README.md", "CONTRIBUTING.md", "docs/*.md", "bench/README.md", "crates/*/*.md"]
+ENDINGS = ["", ".rt", ".antt", ".py", ".c", ".h", ".md", ".edit"]
+WORD = r"[A-Za-z_][A-Za-z0-9_]*(?:[-'][A-Za-z0-9_]+)*"
+LONG_OPTION, SHORT_OPTION = r"(?<![\w-])--[a-z][a-z0-9.-]*", r"(?<![\w-])-[a-z](?![\w-])"
+DEFINITIONS = "crates/lfs_model/specs/"
+# columns of files, and of what other tools name
+FILES, OF_MODEL, OTHERS = {"File", "Files"}, {"Definition", "Shown by"}, {"littlefs's word", "There", "littlefs-python", "Where", "Setting", "Where the numbers are from"}
+OTHER_SECTIONS = {("docs/USING.md", "## A driver in C")}
+
+# Names from outside: of littlefs, of the kit and its language, of C, Python and Linux. An ending * stands for any.
+OUTSIDE = set("""
+LFS_* lfs_dir_find_match lfs_bd_prog struct malloc free realloc lfs.h LittleFS _FS_start _FS_end spiffs MKSPIFFSTOOL
+rt antt KIT RT_* rattle-kit-* search grind omega simp subst cc rw refl ap elim absurd Bazel
+Vec Option Result Ok Err None Some String Box RefCell Cell Send Sync Drop Copy Model Iterator Read Write Error Debug u8 u16 u32 u64 usize bool
+std core alloc libc byteorder arrayvec lru bitflags clap itoa thiserror anyhow std_alloc std_heap
+objdump perf cat cksum cp mkfs genext2fs zlib echo sync gzip exec
+extern unsafe safe ensures requires ghost impl fn let match mod use
+""".split())
+COMMANDS_FROM_OUTSIDE = ("rt ", "gcc", "cp ", "fs.", "pio ", "sync ", "cat ", "grep ")
+
+
+class Repository:
+    """What there is: files and folders, the words of each crate, and those of everything else."""
+
+    def __init__(self):
+        run = subprocess.run(["git", "ls-files", "--cached", "--others", "--exclude-standard"], cwd=TOP, stdout=subprocess.PIPE, text=True, check=True)
+        self.files = {path for path in run.stdout.splitlines() if os.path.exists(f"{TOP}/{path}")}
+        self.paths = self.files | {folder for path in self.files for folder in parents(path)}
+        self.bases = {os.path.basename(path) for path in self.paths}
+        self.stems = {os.path.splitext(os.path.basename(path))[0] for path in self.paths if "/proofs/" not in path}
+        with open(f"{TOP}/crates.txt") as it:
+            self.crates = {line.split(":")[0].split()[0] for line in it if ":" in line}
+        self.code = {crate: set() for crate in self.crates}  # words of the code with its contracts
+        self.definitions = {crate: set() for crate in self.crates}
+        self.proofs, self.others, self.options = set(), set(), {"--help", "--version", "-h"}
+        for path in self.files:
+            self.read(path)
+        self.words = set().union(self.others, *self.code.values(), *self.definitions.values()) | self.crates
+
+    def read(self, path):
+        """Takes the words of a file to those of its crate, or to the others."""
+        is_text = path.endswith((".rt", ".antt", ".py", ".c", ".h", "Makefile", "toml"))
+        if not is_text or path == "bench/pages.py":
+            return
+        with open(f"{TOP}/{path}", encoding="utf-8") as it:
+            text = without_comments(path, it.read())
+        crate = path.split("/")[1] if path.startswith("crates/") else None
+        kinds = {"src": self.code, "specs": self.definitions}
+        to = kinds[path.split("/")[2]][crate] if crate in self.crates and path.split("/")[2] in kinds else self.proofs if "/proofs/" in path else self.others
+        to |= {part for word in re.findall(WORD, text) for part in [word, *re.split("[-']", word)]}
+        if path.endswith(".antt"):
+            to.add(os.path.splitext(os.path.basename(path))[0])
+        if crate == "lfs_tool_line":
+            self.options |= {"--" + name for name in re.findall(r'"([a-z][a-z0-9.-]+)"', text)} | {"-" + name for name in re.findall(r"'([a-z])'", text)}
+        elif path.startswith("bench/"):
+            self.options |= set(re.findall(LONG_OPTION, text))
+
+    def has(self, path):
+        if "*" not in path:
+            return path in self.paths
+        form = re.compile(re.escape(path).replace(r"\*", "[^/]*"))
+        return any(form.fullmatch(it) for it in self.paths)
+
+    def has_path(self, path):
+        """Whether a path, that may lack its ending, is there from the top, from `crates` or from a crate, or is a wrong body."""
+        crate, _, rest = path.rstrip("/").partition("/")
+        above = ["", "crates/", "docs/", "bench/wrong_bodies/", DEFINITIONS, "crates/*/"] if "*" not in path else ["", "crates/", "crates/*/"]
+        ways = [it + path.rstrip("/") for it in above] + [f"crates/{crate}/must-fail/{rest}"] * bool(rest)
+        return any(self.has(way + ending) for way in ways for ending in ENDINGS)
+
+    def has_word(self, word, crates, only_code):
+        """Whether a name is a word of one of these crates, or of anything if none is given."""
+        if not crates:
+            return word in self.words or word in self.stems or is_outside(word)
+        return any(word in self.code[crate] or not only_code and word in self.definitions[crate] for crate in crates)
+
+
+def parents(path):
+    while path := os.path.dirname(path):
+        yield path
+
+
+def without_comments(path, text):
+    """The text of a file without its comments, and without what it takes from elsewhere."""
+    if path.endswith(".rt"):
+        text = re.sub(r"(?m)^\s*(ghost )?use [^;]*;", "", text)
+    if path.endswith((".rt", ".c", ".h")):
+        return re.sub(r"(?m)(^|\s)//.*$", "", re.sub(r"(?s)/\*.*?\*/", "", text))
+    return re.sub(r"(?m)(^|\s)--.*$", "", text) if path.endswith(".antt") else text
+
+
+def is_outside(word):
+    return word in OUTSIDE or any(word.startswith(it[:-1]) for it in OUTSIDE if it.endswith("*"))
+
+
+def has_placeholder(path):
+    """Whether a part of a path is in capitals: it stands for any."""
+    return any(re.fullmatch(r"[A-Z_]{2,}(\.\w+)?", part) and part != "README.md" for part in path.split("/"))
+
+
+# What a text between backticks names
+
+
+def missing_in(repository, text, crates=(), only_code=False):
+    """What it names that isn't there. Its names have to be words of the crates, if any are given."""
+    text = text.strip()
+    if text.startswith(("c.", "g.", "l.")):  # what a proof has at hand
+        return []
+    if re.fullmatch(r"[\w.*-]+(/[\w.*-]*)+", text):
+        return missing_path(repository, text)
+    if re.fullmatch(r"[\w-]+\.(md|rt|antt|py|c|h|txt|edit)", text):
+        return [] if text in repository.bases | OUTSIDE or has_placeholder(text) else [f"no file {text}"]
+    missing = missing_options(repository, text)
+    if re.fullmatch(rf"{WORD}((::|\.){WORD})*(::\{{[^}}]*\}})?!?", text):
+        for name in expanded(text.rstrip("!")):
+            missing += missing_name(repository, re.split(r"::|\.", name), crates, only_code)
+    elif call := re.fullmatch(rf"({WORD}(?:(?:::|\.){WORD})*)\([^()]*\)", text):
+        missing += missing_name(repository, re.split(r"::|\.", call[1])[-1:], (), False)
+    return missing
+
+
+def expanded(name):
+    """`a::{b, c}` as a::b and a::c."""
+    found = re.fullmatch(r"(.*)::\{(.*)\}", name)
+    return [f"{found[1]}::{part.strip()}" for part in found[2].split(",")] if found else [name]
+
+
+def missing_path(repository, path):
+    is_made = "out" in path.split("/") or path.startswith("KIT") or has_placeholder(path)
+    if is_made or repository.has_path(path):
+        return []
+    is_ours = path.split("/")[0] in repository.crates | repository.bases
+    return [f"no path {path}"] if is_ours or path.endswith(tuple(ENDINGS[1:])) else []
+
+
+def missing_options(repository, text):
+    if text.startswith(COMMANDS_FROM_OUTSIDE) or "=" in text:
+        return []
+    named = re.findall(LONG_OPTION, text) + (re.findall(SHORT_OPTION, text) if text.startswith(("-", "mklittlefs")) else [])
+    return [f"no option {option}" for option in named if option not in repository.options]
+
+
+def missing_name(repository, parts, crates, only_code):
+    if parts[0] in repository.crates:
+        crates, parts = [parts[0]], parts[1:]
+    if is_outside(parts[0]) if parts and not crates else False:
+        return []
+    where = f" in {' or '.join(crates)}" if crates else ""
+    return [f"no name {part}{where}" for part in parts if len(part) > 1 and not repository.has_word(part, crates, only_code)]
+
+
+# Pages
+
+
+def lines_of(page):
+    """The lines outside of code blocks: their numbers, their cells with the headings of the columns, and the section."""
+    section, titles, is_code = "", [], False
+    with open(f"{TOP}/{page}", encoding="utf-8") as it:
+        for number, line in enumerate(it.read().splitlines(), 1):
+            if line.startswith("```"):
+                is_code = not is_code
+            if is_code or line.startswith("```"):
+                continue
+            if line.startswith("## "):
+                section = line
+            cells = [cell.strip() for cell in re.split(r"(?<!\\)\|", line)[1:-1]] if line.startswith("|") else []
+            titles = (titles or cells) if cells else []
+            yield number, line, list(zip(titles, cells)) or [("", line)], section
+
+
+def spans(text):
+    return re.findall(r"`([^`]+)`", text)
+
+
+def of_crates(repository, line):
+    """Pairs of a name and the crate of which a line says it is: "`A` and `B` of `lfs_tag`", or "of `lfs_tag` `A` and `B`"."""
+    names = r"((?:`[^`]+`(?:, | and |, and )?)+)"
+    for named, crate in re.findall(names + r" of `(\w+)`", line):
+        yield from ((name, crate) for name in spans(named))
+    for crate, named in re.findall(r"of `(\w+)` " + names, line):
+        yield from ((name, crate) for name in spans(named))
+
+
+def missing_headings(line):
+    for page, heading in re.findall(r'(docs/\w+\.md|README\.md), "([^"]+)"', line):
+        with open(f"{TOP}/{page}", encoding="utf-8") as it:
+            if not re.search(rf"(?m)^#+ .*{re.escape(heading)}", it.read()):
+                yield f'no heading "{heading}" in {page}'
+
+
+def missing_files(repository, names):
+    """Names in a column of files, or that begin a point of a list of files, that are no definitions' file, crate or path."""
+    for name in names:
+        if re.fullmatch(WORD, name) and name not in repository.crates and not repository.has_path(DEFINITIONS + name):
+            yield f"no definitions' file {name}"
+
+
+def missing_of_line(repository, page, line, cells, section):
+    if (page, section) in OTHER_SECTIONS:
+        return
+    crates = [name for name in spans(section) if name in repository.crates] if page == "docs/PROVED.md" else []
+    is_of_proofs = page == "docs/DEVICE_LAWS.md" or "proofs" in line
+    for column, (title, cell) in enumerate(cells):
+        is_call = bool(crates) and title == "Call" and column == 0 and not cell.startswith("- ")
+        for text in spans(cell) if title not in OTHERS else []:
+            if not (is_of_proofs and text in repository.proofs):
+                yield from missing_in(repository, text, crates if is_call else (), is_call)
+        of_other = {name for name, _ in of_crates(repository, cell)}
+        if title in OF_MODEL and "contract" not in cell:
+            yield from (it for name in spans(cell) if name not in of_other for it in missing_in(repository, name, ["lfs_model"]))
+        if title in FILES:
+            yield from missing_files(repository, [name for name in spans(cell) if name not in of_other | repository.bases])
+    if page.endswith("READING.md") and line.startswith("- "):
+        yield from missing_files(repository, spans(line.partition(":")[0]))
+    for text, crate in of_crates(repository, line):
+        if crate in repository.crates:
+            yield from missing_in(repository, text, [crate])
+    yield from missing_headings(line)
+
+
+def main():
+    repository = Repository()
+    pages = sys.argv[1:] or sorted(os.path.relpath(path, TOP) for form in PAGES for path in glob.glob(f"{TOP}/{form}"))
+    missing = [f"{page}:{number}: {what}" for page in pages for number, *line in lines_of(page)
+               for what in dict.fromkeys(missing_of_line(repository, page, *line))]
+    print("\n".join(missing) or f"{len(pages)} pages, nothing is missing")
+    return bool(missing)
+
+
+if __name__ == "__main__":
+    sys.exit(main())

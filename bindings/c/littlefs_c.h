@@ -56,7 +56,7 @@ extern "C" {
 #define LFS_C_NOT_EMPTY 39     /* the directory has entries */
 #define LFS_C_NO_ATTR 61       /* the attribute isn't there */
 #define LFS_C_NO_SESSION 77    /* the session is closed */
-#define LFS_C_CORRUPT 84       /* the bytes hold no image that is accepted */
+#define LFS_C_CORRUPT 84       /* the bytes hold no image that is accepted; one of version 2.1 is with LFS_C_ALSO_2_1 */
 #define LFS_C_FAILED 200       /* the session had no memory in an earlier call; lfs_c_remount mends it */
 #define LFS_C_ENTRY_FULL 201   /* a name and its attributes would take more than a half of their metadata pair */
 

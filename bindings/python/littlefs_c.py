@@ -32,14 +32,21 @@ LONGER_FIRST, SHORTER_FIRST = 0, 1
 READ, WRITE, CREATE, EXCLUSIVE, TRUNCATE, APPEND = 0x1, 0x2, 0x100, 0x200, 0x400, 0x800
 MODES = {"r": READ, "w": WRITE | CREATE | TRUNCATE, "a": WRITE | CREATE | APPEND, "x": WRITE | CREATE | EXCLUSIVE}
 
-# the numbers of littlefs_c.h, by name, and what they mean here
+# the numbers of littlefs_c.h: their names there, and what is said of those that the system has no such words for
 ERRORS = {errno.ENOENT: "NoEnt", errno.EBADF: "BadFile", errno.ENOMEM: "NoMemory", errno.EBUSY: "Busy", errno.EEXIST: "Exist",
           errno.ENOTDIR: "NotDir", errno.EISDIR: "IsDir", errno.EINVAL: "Invalid", errno.EFBIG: "TooBig", errno.ENOSPC: "NoSpace",
           errno.EROFS: "ReadOnly", errno.ENAMETOOLONG: "NameTooLong", errno.ENOTEMPTY: "NotEmpty", 61: "NoAttr", 84: "Corrupt",
           200: "Failed", 201: "EntryFull"}
-MEANINGS = {errno.EINVAL: "no image of that geometry, or a path, a position or a number is out of range", errno.EBUSY: "an open file prevents it",
-            errno.EROFS: "the image can be read, and images like it aren't written", 61: "the attribute isn't there", 84: "no image is accepted in these bytes",
-            200: "an earlier call had no memory, and remount() mends it", 201: "a name and its attributes would take more than half of a metadata pair"}
+MEANINGS = {
+    errno.EBUSY: "an open file prevents it",
+    errno.EINVAL: "no image of that geometry, or a path, a position or a number is out of range",
+    errno.EROFS: "the image can be read, and images like it aren't written",
+    61: "the attribute isn't there",
+    84: "no image is accepted in these bytes; one of version 2.1 is with also_2_1=True",
+    200: "an earlier call had no memory, and remount() mends it",
+    201: "a name and its attributes would take more than half of a metadata pair",
+}
+NOT_BUILT = "the library isn't there: run `rt lib` in crates/littlefs_c and `make` in bindings/c"
 
 PathName = Union[str, bytes, "os.PathLike[Any]"]
 
@@ -75,7 +82,7 @@ def load(path: Optional[PathName] = None) -> dict[str, Any]:
                 call.restype = ctypes.c_int64
                 call.argtypes = [kind for letter in first + takes for kind in _TYPES[letter]]
     except (OSError, AttributeError) as error:
-        raise FileNotFoundError(errno.ENOENT, "the library isn't there: run `rt lib` in crates/littlefs_c and `make` in bindings/c", os.fsdecode(path)) from error
+        raise FileNotFoundError(errno.ENOENT, NOT_BUILT, os.fsdecode(path)) from error
     return calls
 
 

@@ -22,7 +22,7 @@ TURNS = 3  # by littlefs and by a session
 # the limits with which littlefs was built: of a name alone, and of all three
 LIMITS = [Profile(name_max=32), Profile(name_max=64, file_max=1000000, attr_max=64)]
 CACHES = [64, 128, 256]
-CACHED = [*ROOMY, (8192, 256, 48)]
+CACHED = [(1024, 128, 256), (1024, 16, 256), (2048, 64, 160), (4096, 256, 128), (4096, 512, 128), (8192, 256, 128)]
 
 
 @dataclass(frozen=True)
@@ -165,7 +165,7 @@ def caches(options):
     for cache in CACHES:
         code = options.build(f"exchange_cache_{cache}", cache=cache)
         geometries = tuple(it for it in CACHED if it[0] // 8 >= cache)
-        firmware = Firmware(f"cache {cache},", code, Profile(inline_max=cache), Limits(near=cache), every_file, geometries)
+        firmware = Firmware(f"cache {cache},", code, Profile(inline_max=cache), Limits(near=cache, files=25), every_file, geometries)
         yield from for_firmware(options, firmware, [made_by_tool, made_by_sessions])
 
 
@@ -391,7 +391,7 @@ def later(options):
 
 def turns(options):
     """Images that littlefs in its default version and sessions change in turns. The device of some sessions stops."""
-    firmware = Firmware("in turns,", options.newest)
+    firmware = Firmware("in turns,", options.newest, limits=Limits(files=40))
     made = [(made_by_tool if number % 2 else made_by_littlefs)(options, number, firmware) for number in range(options.count if options.script else 0)]
     for case in made:
         case.newer = case.written = case.kind.endswith("littlefs")

@@ -19,6 +19,7 @@ LETTERS = b"abc.~_- "
 class Limits:
     longest: int = 255  # name
     near: int = 0  # many files have about so many bytes, unless it is 0
+    files: int = 70  # as many at most
 
 
 ANY = Limits()
@@ -112,7 +113,7 @@ def some_tree(rnd, block_size, limits=ANY):
     files = {folder + b"/" + name for folder in folders for _ in range(rnd.choice([2, 4, 7])) for name in some_family(rnd, limits)}
     files = sorted(files - set(folders))
     rnd.shuffle(files)
-    return [("mkdir", folder) for folder in folders[1:]] + [some_put(rnd, path, block_size, limits=limits) for path in files[:70]]
+    return [("mkdir", folder) for folder in folders[1:]] + [some_put(rnd, path, block_size, limits=limits) for path in files[: limits.files]]
 
 
 def some_changes(rnd, tree, block_size, limits=ANY):

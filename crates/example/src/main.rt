@@ -1,3 +1,4 @@
+// SPDX-License-Identifier: BSD-3-Clause
 //! File systems in memory. First a directory is made, a file is written, the device is mounted again, and the file is read. Then
 //! come a device of one's own, a loss of power and its recovery, and a list of operations.
 #![tactic(auto)]

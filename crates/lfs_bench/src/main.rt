@@ -1,3 +1,4 @@
+// SPDX-License-Identifier: BSD-3-Clause
 //! Figures that benchmarks judge: the checksum of a block, look-ups in a block, the device reads of a
 //! list, the writes of a file over a session, and the rows that are measured beside littlefs's own code.
 //! The first word names one of them, none all but these rows. The second says how many rounds are timed,

@@ -1,3 +1,4 @@
+// SPDX-License-Identifier: BSD-3-Clause
 //! Tests of devices, of the map of blocks, of the cache, of the clients that are proved over any device,
 //! of skip lists, and of contents that are written in blocks.
 #![tactic(auto)]

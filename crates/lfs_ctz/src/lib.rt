@@ -1,3 +1,4 @@
+// SPDX-License-Identifier: BSD-3-Clause
 //! Skip lists of blocks, which hold the bytes of files.
 #![tactic(auto)]
 

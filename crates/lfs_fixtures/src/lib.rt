@@ -1,3 +1,4 @@
+// SPDX-License-Identifier: BSD-3-Clause
 //! Clients of the layers, proved over any device, and images for the tests of several crates.
 #![tactic(auto)]
 

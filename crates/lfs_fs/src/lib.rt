@@ -1,3 +1,4 @@
+// SPDX-License-Identifier: BSD-3-Clause
 //! Sessions over a littlefs image: open files, the checks of each operation in order, and runs.
 #![tactic(auto)]
 

@@ -1,3 +1,4 @@
+// SPDX-License-Identifier: BSD-3-Clause
 //! Tests of sessions whose device or memory fails, and of the lines of scripts.
 #![tactic(auto)]
 

@@ -1,3 +1,4 @@
+// SPDX-License-Identifier: BSD-3-Clause
 //! Look-ups in the directories of an accepted image, by name and by path. Also the image's
 //! superblock, and whether the image may be changed.
 #![tactic(auto)]

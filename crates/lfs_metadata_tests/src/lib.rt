@@ -1,3 +1,4 @@
+// SPDX-License-Identifier: BSD-3-Clause
 //! Tests of metadata, on devices whose erases leave this or that, whose calls fail and which stop: tags
 //! and logs with vectors of the format, pairs that are fetched, threads that are read, mounted and changed
 //! step by step, and devices made empty.

@@ -1,3 +1,4 @@
+// SPDX-License-Identifier: BSD-3-Clause
 //! Decides which images are accepted. One pass goes over the metadata pairs, whose headers are in
 //! memory. Then a search among the directories, for each order of names, reads nothing.
 #![tactic(auto)]

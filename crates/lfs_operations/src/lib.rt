@@ -1,3 +1,4 @@
+// SPDX-License-Identifier: BSD-3-Clause
 //! Changes of the tree of an accepted image, in steps each of which is atomic under a loss of
 //! power.
 #![tactic(auto)]

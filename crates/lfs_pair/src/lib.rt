@@ -1,3 +1,4 @@
+// SPDX-License-Identifier: BSD-3-Clause
 //! Metadata pairs: fetched from two blocks, made of two blocks, changed by commits, and split.
 #![tactic(auto)]
 

@@ -1,3 +1,4 @@
+// SPDX-License-Identifier: BSD-3-Clause
 //! lfs_script: performs the operations of standard input, one a line, on a littlefs file system in
 //! memory, and prints the answer to each.
 #![tactic(auto)]

@@ -1,3 +1,4 @@
+// SPDX-License-Identifier: BSD-3-Clause
 //! Scripts: operations on a file system as text, one a line, and the answers to them.
 #![tactic(auto)]
 

@@ -1,3 +1,4 @@
+// SPDX-License-Identifier: BSD-3-Clause
 //! The log of a metadata block: tags, checksums, commits, and what a block holds for a name or an id.
 #![tactic(auto)]
 

@@ -1,3 +1,4 @@
+// SPDX-License-Identifier: BSD-3-Clause
 //! The tool mklittlefs, over any reader and writer, any source and target: an image is listed, unpacked, or
 //! made of a tree of files.
 #![tactic(auto)]

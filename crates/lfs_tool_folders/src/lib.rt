@@ -1,3 +1,4 @@
+// SPDX-License-Identifier: BSD-3-Clause
 //! Sources and targets of a tree of files: memory, or a folder of the real file system. And the file
 //! of an image that is made beside its path, and put there once it is whole.
 #![tactic(auto)]

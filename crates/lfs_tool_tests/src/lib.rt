@@ -1,3 +1,4 @@
+// SPDX-License-Identifier: BSD-3-Clause
 //! Tests of mklittlefs's libraries: rows as data, each carried out by one small function.
 #![tactic(auto)]
 

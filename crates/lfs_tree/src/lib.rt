@@ -1,3 +1,4 @@
+// SPDX-License-Identifier: BSD-3-Clause
 //! A mounted image: format and mount, the calls that take a path, the recovery, and the contents of
 //! open writers. Paths, and the results of calls, are in `lfs_lookup`.
 #![tactic(auto)]

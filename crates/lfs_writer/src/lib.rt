@@ -1,3 +1,4 @@
+// SPDX-License-Identifier: BSD-3-Clause
 //! The contents of a file that is open for writing, streamed into blocks of a device. The device
 //! may be that of a thread of metadata pairs.
 //!

@@ -1,3 +1,4 @@
+// SPDX-License-Identifier: BSD-3-Clause
 //! littlefs over images in memory, to be called from C: sessions that C keeps a handle of, and calls
 //! that perform one operation of a session on an image.
 #![tactic(auto)]

@@ -1,3 +1,4 @@
+// SPDX-License-Identifier: BSD-3-Clause
 //! mklittlefs: makes an image of a littlefs file system from a folder, unpacks one into a folder, lists one, or checks one.
 #![tactic(auto)]
 

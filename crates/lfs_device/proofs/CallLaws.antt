@@ -4,8 +4,8 @@ use Rattle.lfs_device.specs.declared.device.BlockDevice.{Ghosts}
 use Rattle.lfs_device.specs.Calls.{ReadsOnly, ChangesOnlyThisBlock}
 use Rattle.lfs_model.specs.Blocks.{AreBlocksEqualExceptOne}
 use Rattle.lfs_model.specs.History.{device_call_event_with_blocks}
-use Rattle.lfs_model.specs.History.DeviceCall.{Read, Program, Erase}
-use Rattle.lfs_model.proofs.Histories.{began, goes_on, goes_on_by, IsTrueAfterAnyPowerLossSince-weaker, IsTrueAfterAnyPowerLossSince-read_count_of_history, ArePossibleBlocksAfterPowerLossInCall-read, AreCallsSinceOnlyReads-read, AreBytesStillUnprogrammed-trans, AreBytesStillUnprogrammed-read_count_of_history, AreBytesStillUnprogrammed-erase, AreBytesStillUnprogrammed-program}
+use Rattle.lfs_model.specs.History.DeviceCall.{Read, Program, Erase, Blank}
+use Rattle.lfs_model.proofs.Histories.{began, goes_on, goes_on_by, IsTrueAfterAnyPowerLossSince-weaker, IsTrueAfterAnyPowerLossSince-read_count_of_history, ArePossibleBlocksAfterPowerLossInCall-read, AreCallsSinceOnlyReads-read, AreBytesStillUnprogrammed-trans, AreBytesStillUnprogrammed-read_count_of_history, AreBytesStillUnprogrammed-erase, AreBytesStillUnprogrammed-program, AreBytesStillUnprogrammed-blank}
 use Rattle.lfs_model.proofs.Overwrites.{AreBlocksEqualExceptOne-refl, AreBlocksEqualExceptOne-trans}
 
 module _ {D : Type 0} (g : Ghosts D) where
@@ -47,5 +47,14 @@ module _ {D : Type 0} (g : Ghosts D) where
     elsewhere = AreBytesStillUnprogrammed-program is;
     geometry = geometry;
     at_worst = goes_on began is (λ disk left. left);
+  }
+
+  pub ChangesOnlyThisBlock-blank : {old new : D} (changed : ℕ) {b off len : ℕ} {failed : Bool} → g.history new ≡ device_call_event_with_blocks (Blank b off len) (g.blocks old) (g.blocks new) failed ∷ g.history old
+      → g.blocks new ≡ g.blocks old → g.geometry new ≡ g.geometry old → ChangesOnlyThisBlock g changed old new
+  ChangesOnlyThisBlock-blank {old} changed is same geometry = record {
+    others = subst (AreBlocksEqualExceptOne changed (g.blocks old)) (sym same) (AreBlocksEqualExceptOne-refl changed (g.blocks old));
+    elsewhere = AreBytesStillUnprogrammed-blank (changed ∷ []) is;
+    geometry = geometry;
+    at_worst = goes_on began is (λ disk left. subst (AreBlocksEqualExceptOne changed (g.blocks old)) (sym left) (AreBlocksEqualExceptOne-refl changed (g.blocks old)));
   }
   -- ---- several blocks

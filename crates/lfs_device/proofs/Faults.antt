@@ -7,7 +7,7 @@ use Rattle.lfs_device.specs.declared.fault.FaultExtent.{FaultExtent}
 use Rattle.lfs_device.specs.declared.fault.FaultExtent.TheVariants.{Nothing, FirstBytes, Whole}
 use Rattle.lfs_device.specs.declared.fault.PlannedFault.{PlannedFault}
 use Rattle.lfs_model.specs.Blocks.{Blocks}
-use Rattle.lfs_model.specs.History.{DeviceCall, Read, Program, Erase, DeviceCallEvent, device_call_event_with_blocks, fault_count_of_history, is_byte_unprogrammed, is_byte_unprogrammed_after_call}
+use Rattle.lfs_model.specs.History.{DeviceCall, Read, Program, Erase, Blank, DeviceCallEvent, device_call_event_with_blocks, fault_count_of_history, is_byte_unprogrammed, is_byte_unprogrammed_after_call}
 use Rattle.lfs_device.specs.Fault.{is_counted_call, is_nth_counted_call, has_device_stopped, is_call_to_fail, extent_of_call_if_due_to_fail, have_due_calls_failed, count_of_unplanned_faults}
 use Rattle.lfs_device.specs.CallsBelow.{PassesCallOrFailsAtPlannedExtent}
 
@@ -77,6 +77,7 @@ below-call {call} {failed} {older = older} old new is below keeps b k was =
     more (Read at off len) x y of here = of here
     more (Program at off bytes) x y of here = both (not (b == at && nat_le off k && nat_lt k (off + length bytes))) x y of here
     more (Erase at) x y of here = either (b == at) (not failed) x y of here
+    more (Blank at off len) x y of here = either (not failed && (b == at && nat_le off k && nat_lt k (off + len))) true x y of here
 
 -- what a call did that succeeded
 pub done_at_ok : {A : Type 0} (result : Result (Unit {0}) Error) → OnOk result A → is_err result ≡ false → A

@@ -4,7 +4,7 @@ use Rattle.lfs_device.specs.declared.device.BlockDevice.{Ghosts}
 use Rattle.lfs_device.specs.declared.fault.FaultExtent.{FaultExtent}
 use Rattle.lfs_device.specs.declared.fault.FaultExtent.TheVariants.{Nothing, FirstBytes, Whole}
 use Rattle.lfs_model.specs.History.{DeviceCall, device_call_event_with_blocks, fault_count_of_history}
-use Rattle.lfs_model.specs.History.DeviceCall.{Read, Program, Erase}
+use Rattle.lfs_model.specs.History.DeviceCall.{Read, Program, Erase, Blank}
 
 -- the device below has this one call more, which failed or did not
 abbrev pub PassesCallToDeviceBelow : {D : Type 0} → Ghosts D → DeviceCall → Bool → D → D → Type 0
@@ -19,6 +19,7 @@ abbrev pub NonProgramCallLeavesDeviceUnchanged : {D : Type 0} → Ghosts D → D
 NonProgramCallLeavesDeviceUnchanged g (Program b off bytes) old new = Unit {0}
 NonProgramCallLeavesDeviceUnchanged g (Read b off len) old new = new ≡ old
 NonProgramCallLeavesDeviceUnchanged g (Erase b) old new = new ≡ old
+NonProgramCallLeavesDeviceUnchanged g (Blank b off len) old new = new ≡ old
 
 -- A call that isn't due to fail is passed on, and fails only as the device below does. A call that is due fails, after the given
 -- part of it was done.

@@ -1,7 +1,7 @@
-ghost use Rattle.std.specs.Prelude.{◌≡◌, ◌≤◌, ◌<◌, ℕ, ◌+◌, ◌%◌, List, ◌∷◌, length, slice_range, is_err, IfErr, OnOk, OnErr};
+ghost use Rattle.std.specs.Prelude.{◌≡◌, true, false, ◌≤◌, ◌<◌, ℕ, ◌+◌, ◌%◌, List, ◌∷◌, length, slice_range, is_err, IfErr, IsErrOf, OnOk, OnErr, Ok};
 ghost use Rattle.lfs_model.specs.Blocks.{Blocks, HasBlocksOfCountAndSize, AreBlocksEqualExceptOne, AreBytesEqualOutsideRange, block_bytes_by_number, programmed};
 ghost use Rattle.lfs_model.specs.History.{DeviceCallEvent, device_call_event_with_blocks, AreBytesUnprogrammed, AreBlocksLeftByNewestCall};
-ghost use Rattle.lfs_model.specs.History.DeviceCall.{Read, Program, Erase};
+ghost use Rattle.lfs_model.specs.History.DeviceCall.{Read, Program, Erase, Blank};
 ghost use Rattle.lfs_model.specs.Conformance.{DoSuccessfulCallsHaveOnlyTheirEffect};
 ghost use Rattle.lfs_device.specs.declared.geometry.Geometry.{Geometry};
 ghost use Rattle.lfs_device.specs.Bytes.{AreAllBlockElementsBelow256};
@@ -73,6 +73,26 @@ pub trait BlockDevice {
         ensures geometry { geometry self.new ≡ geometry self.old }
         ensures history { history self.new ≡ device_call_event_with_blocks (Erase block) (blocks self.old) (blocks self.new) (is_err result) ∷ history self.old }
         ensures error { IfErr result (λ e. e ≡ Error.Io) };
+
+    /// Tells whether `len` bytes of a block from the offset `off` on are unprogrammed since the last
+    /// erase of the block, as far as the device knows. A driver answers yes only where it is sure:
+    /// the bytes read as erased ones, and no program of them was cut short. By default a device
+    /// answers no, without a call.
+    ///
+    /// Errors: `Io` where the device failed.
+    fn is_unprogrammed(&mut self, block: u32, off: u32, len: u32) -> Result<bool, Error>
+        requires in_device { block < (geometry self.old).block_count }
+        requires in_block { off + len ≤ (geometry self.old).block_size }
+        ensures same { blocks self.new ≡ blocks self.old }
+        ensures geometry { geometry self.new ≡ geometry self.old }
+        ensures yes { result ≡ Ok true → history self.new ≡ device_call_event_with_blocks (Blank block off len) (blocks self.old) (blocks self.new) false ∷ history self.old }
+        ensures no { result ≡ Ok false → history self.new ≡ history self.old }
+        ensures failed { IsErrOf result Error.Io → history self.new ≡ device_call_event_with_blocks (Blank block off len) (blocks self.old) (blocks self.new) true ∷ history self.old }
+        ensures error { IfErr result (λ e. e ≡ Error.Io) }
+    {
+        let _ = (block, off, len);
+        Ok(false)
+    }
 
     /// The device has as many blocks as its geometry says, each of that size.
     ghost shape: { (d : Self) → HasBlocksOfCountAndSize (geometry d).block_size (geometry d).block_count (blocks d) };

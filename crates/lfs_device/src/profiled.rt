@@ -77,4 +77,9 @@ impl<D: BlockDevice> BlockDevice for Profiled<D> {
         let outcome = self.inner.erase(block);
         outcome
     }
+
+    fn is_unprogrammed(&mut self, block: u32, off: u32, len: u32) -> Result<bool, Error> {
+        let outcome = self.inner.is_unprogrammed(block, off, len);
+        outcome
+    }
 }

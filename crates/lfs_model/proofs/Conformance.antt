@@ -6,7 +6,7 @@ use Rattle.std.proofs.lemmas.List.{get_or_past}
 use Rattle.std.proofs.lemmas.List.Elements.{All-same, All-cons, All-contains}
 use Rattle.lfs_model.specs.Blocks.{Blocks, AreBlocksEqualExceptOne, block_bytes_by_number, programmed}
 use Rattle.lfs_model.specs.Log.{log_of_block}
-use Rattle.lfs_model.specs.History.{DeviceCall, Read, Program, Erase, DeviceCallEvent, device_call_event_with_blocks}
+use Rattle.lfs_model.specs.History.{DeviceCall, Read, Program, Erase, Blank, DeviceCallEvent, device_call_event_with_blocks}
 use Rattle.lfs_model.specs.Conformance.{HasOnlyItsEffectIfSuccessful, DoSuccessfulCallsHaveOnlyTheirEffect}
 use Rattle.lfs_model.specs.Stops.{AreBlocksLeftByPowerLossInCall, are_blocks_after_stopped_call, MayStoppedProgramLeaveBlock, LeavesNoNewLogIfSuccessfulErase, leaves_no_new_log_if_successful_erase}
 use Rattle.lfs_model.proofs.Overwrites.{block_bytes_by_number-programmed}
@@ -18,11 +18,13 @@ abbrev written_by : DeviceCall → Blocks → Blocks
 written_by (Read block off len) blocks = blocks
 written_by (Program block off bytes) blocks = programmed blocks block off bytes
 written_by (Erase block) blocks = blocks
+written_by (Blank block off len) blocks = blocks
 
 abbrev place_of : DeviceCall → ℕ
 place_of (Read block off len) = block
 place_of (Program block off bytes) = block
 place_of (Erase block) = block
+place_of (Blank block off len) = block
 
 pub conforms_read : (block off len : ℕ) (before after : Blocks) (failed : Bool) → after ≡ before → HasOnlyItsEffectIfSuccessful (device_call_event_with_blocks (Read block off len) before after failed)
 conforms_read block off len before after failed same = record {
@@ -30,6 +32,16 @@ conforms_read block off len before after failed same = record {
   programs = λ b o bytes is ok. absurd (cc);
   others = λ b o bytes is ok. absurd (cc);
   erases = λ b is ok. absurd (cc);
+  blanks = λ b o n is ok. absurd (cc);
+}
+
+pub conforms_blank : (block off len : ℕ) (before after : Blocks) (failed : Bool) → after ≡ before → HasOnlyItsEffectIfSuccessful (device_call_event_with_blocks (Blank block off len) before after failed)
+conforms_blank block off len before after failed same = record {
+  reads = λ b o n is ok. absurd (cc);
+  programs = λ b o bytes is ok. absurd (cc);
+  others = λ b o bytes is ok. absurd (cc);
+  erases = λ b is ok. absurd (cc);
+  blanks = λ b o n is ok. same;
 }
 
 pub conforms_program : (block off : ℕ) (bytes : List ℕ) (before after : Blocks) (failed : Bool) → (failed ≡ false → after ≡ programmed before block off bytes) → AreBlocksEqualExceptOne block before after
@@ -39,6 +51,7 @@ conforms_program block off bytes before after failed done same = record {
   programs = λ b o other is ok. done ok ∙ ap (λ call. written_by call before) is;
   others = λ b o other is ok. subst (λ call. AreBlocksEqualExceptOne (place_of call) before after) is same;
   erases = λ b is ok. absurd (cc);
+  blanks = λ b o n is ok. absurd (cc);
 }
 
 pub conforms_erase : (block : ℕ) (before after : Blocks) (failed : Bool) → AreBlocksEqualExceptOne block before after → HasOnlyItsEffectIfSuccessful (device_call_event_with_blocks (Erase block) before after failed)
@@ -47,6 +60,7 @@ conforms_erase block before after failed same = record {
   programs = λ b o bytes is ok. absurd (cc);
   others = λ b o bytes is ok. absurd (cc);
   erases = λ b is ok. subst (λ call. AreBlocksEqualExceptOne (place_of call) before after) is same;
+  blanks = λ b o n is ok. absurd (cc);
 }
 
 pub conforms_next : {e : DeviceCallEvent} {older later : List DeviceCallEvent} → later ≡ e ∷ older → HasOnlyItsEffectIfSuccessful e → DoSuccessfulCallsHaveOnlyTheirEffect older → DoSuccessfulCallsHaveOnlyTheirEffect later
@@ -70,6 +84,7 @@ conforming_stops e conforms ok cleanly = go e.call refl cleanly
         let same = conforms.others block off bytes is ok in
         (same, left_by_program block off bytes e.before e.after same (conforms.programs block off bytes is ok))
     go (Erase block) is clean = (conforms.erases block is ok, subst (λ failed. leaves_no_new_log_if_successful_erase (Erase block) failed e.before e.after) ok clean)
+    go (Blank block off len) is clean = conforms.blanks block off len is ok
 
 pub conforming_stops_among : (history : List DeviceCallEvent) (e : DeviceCallEvent) → DoSuccessfulCallsHaveOnlyTheirEffect history → Contains history e → e.failed ≡ false → LeavesNoNewLogIfSuccessfulErase e → AreBlocksLeftByPowerLossInCall e e.after
 conforming_stops_among history e all among = conforming_stops e (All-contains HasOnlyItsEffectIfSuccessful history e all among)

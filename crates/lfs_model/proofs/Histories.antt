@@ -1,11 +1,11 @@
 -- What follows from the history of a device, for those who call it.
-use Rattle.std.proofs.Common.{◌≡◌, ◌≢◌, ◌≤◌, ℕ, ◌+◌, Bool, true, false, nat_lt, ◌==◌, length, arith, List, [], ◌∷◌, ◌++◌, refl, sym, ◌∙◌, ap, subst, append_assoc}
+use Rattle.std.proofs.Common.{◌≡◌, ◌≢◌, ◌≤◌, ℕ, ◌+◌, Bool, true, false, not, ◌&&◌, if◌then◌else◌, nat_le, nat_lt, ◌==◌, length, arith, List, [], ◌∷◌, ◌++◌, refl, sym, ◌∙◌, ap, subst, append_assoc}
 use Rattle.std.specs.Prelude.{All}
 use Rattle.std.proofs.lemmas.Bool.Decides.{nat_tests}
 use Rattle.std.proofs.lemmas.List.{append_cancel_right}
 use Rattle.lfs_model.specs.Blocks.{Blocks}
 use Rattle.lfs_model.specs.Stops.{AreBlocksLeftByPowerLossInCall, are_blocks_after_stopped_call}
-use Rattle.lfs_model.specs.History.{DeviceCall, DeviceCallEvent, device_call_event_with_blocks, Read, Program, Erase, read_count_of_call, are_possible_blocks_after_interrupted_call, read_count_of_history, program_count_of_history, erase_count_of_history, fault_count_of_history, is_byte_unprogrammed, is_byte_unprogrammed_after_call, AreBytesUnprogrammed, AreBytesStillUnprogrammed, IsTrueOfEachCall, IsTrueOfEachCallSince, IsReadThatKeepsBlocks, AreCallsSinceOnlyReads, ArePossibleBlocksAfterPowerLossInCall, IsTrueAfterAnyPowerLossSince}
+use Rattle.lfs_model.specs.History.{DeviceCall, DeviceCallEvent, device_call_event_with_blocks, Read, Program, Erase, Blank, read_count_of_call, are_possible_blocks_after_interrupted_call, read_count_of_history, program_count_of_history, erase_count_of_history, blank_count_of_call, blank_count_of_history, fault_count_of_history, is_byte_unprogrammed, is_byte_unprogrammed_after_call, AreBytesUnprogrammed, AreBytesStillUnprogrammed, IsTrueOfEachCall, IsTrueOfEachCallSince, IsReadThatKeepsBlocks, AreCallsSinceOnlyReads, ArePossibleBlocksAfterPowerLossInCall, IsTrueAfterAnyPowerLossSince}
 
 -- Calls that all have P: none yet, one more, those of another stretch, and what P implies.
 
@@ -104,6 +104,7 @@ writes_in_read : (call : DeviceCall) → read_count_of_call call ≡ 1 → (prog
 writes_in_read (Read block off len) is = (refl, refl)
 writes_in_read (Program block off bytes) is = absurd (cc)
 writes_in_read (Erase block) is = absurd (cc)
+writes_in_read (Blank block off len) is = absurd (cc)
 
 programs_in_reads : (blocks : Blocks) (events old : List DeviceCallEvent) → IsTrueOfEachCall (IsReadThatKeepsBlocks blocks) events → program_count_of_history (events ++ old) ≡ program_count_of_history old
 programs_in_reads blocks [] old each = refl
@@ -119,10 +120,24 @@ erases_in_reads blocks (e ∷ events) old each =
     let rest = erases_in_reads blocks events old each.1 in
     omega arith
 
+blanks_in_read : (call : DeviceCall) → read_count_of_call call ≡ 1 → blank_count_of_call call ≡ 0
+blanks_in_read (Read block off len) is = refl
+blanks_in_read (Program block off bytes) is = refl
+blanks_in_read (Erase block) is = refl
+blanks_in_read (Blank block off len) is = absurd (cc)
+
+blanks_in_reads : (blocks : Blocks) (events old : List DeviceCallEvent) → IsTrueOfEachCall (IsReadThatKeepsBlocks blocks) events → blank_count_of_history (events ++ old) ≡ blank_count_of_history old
+blanks_in_reads blocks [] old each = refl
+blanks_in_reads blocks (e ∷ events) old each =
+    let here = blanks_in_read e.call each.0.reads in
+    let rest = blanks_in_reads blocks events old each.1 in
+    omega arith
+
 unprogrammed_by_read : (call : DeviceCall) (failed : Bool) (block k : ℕ) (was : Bool) → read_count_of_call call ≡ 1 → is_byte_unprogrammed_after_call call failed block k was ≡ was
 unprogrammed_by_read (Read at off len) failed block k was is = refl
 unprogrammed_by_read (Program at off bytes) failed block k was is = absurd (cc)
 unprogrammed_by_read (Erase at) failed block k was is = absurd (cc)
+unprogrammed_by_read (Blank at off len) failed block k was is = absurd (cc)
 
 unprogrammed_in_reads : (blocks : Blocks) (events old : List DeviceCallEvent) (block k : ℕ) → IsTrueOfEachCall (IsReadThatKeepsBlocks blocks) events → is_byte_unprogrammed (events ++ old) block k ≡ is_byte_unprogrammed old block k
 unprogrammed_in_reads blocks [] old block k each = refl
@@ -133,6 +148,9 @@ program_count_of_history-read_count_of_history {blocks} {old} since = ap program
 
 pub erase_count_of_history-read_count_of_history : {blocks : Blocks} {old new : List DeviceCallEvent} → AreCallsSinceOnlyReads blocks old new → erase_count_of_history new ≡ erase_count_of_history old
 erase_count_of_history-read_count_of_history {blocks} {old} since = ap erase_count_of_history since.extends ∙ erases_in_reads blocks since.events old since.each
+
+pub blank_count_of_history-read_count_of_history : {blocks : Blocks} {old new : List DeviceCallEvent} → AreCallsSinceOnlyReads blocks old new → blank_count_of_history new ≡ blank_count_of_history old
+blank_count_of_history-read_count_of_history {blocks} {old} since = ap blank_count_of_history since.extends ∙ blanks_in_reads blocks since.events old since.each
 
 pub is_byte_unprogrammed-read_count_of_history : {blocks : Blocks} {old new : List DeviceCallEvent} (block k : ℕ) → AreCallsSinceOnlyReads blocks old new → is_byte_unprogrammed new block k ≡ is_byte_unprogrammed old block k
 is_byte_unprogrammed-read_count_of_history {blocks} {old} block k since = ap (λ (h : List DeviceCallEvent). is_byte_unprogrammed h block k) since.extends ∙ unprogrammed_in_reads blocks since.events old block k since.each
@@ -152,6 +170,7 @@ ArePossibleBlocksAfterPowerLossInCall-read e = at_call e.call e.before
     at_call (Read block off len) before disk is left = left
     at_call (Program block off bytes) before disk is left = absurd (cc)
     at_call (Erase block) before disk is left = absurd (cc)
+    at_call (Blank block off len) before disk is left = absurd (cc)
 
 pub AreBlocksLeftByPowerLossInCall-read : (e : DeviceCallEvent) (disk : Blocks) → read_count_of_call e.call ≡ 1 → AreBlocksLeftByPowerLossInCall e disk → disk ≡ e.before
 AreBlocksLeftByPowerLossInCall-read e = at_call e.call e.before
@@ -160,6 +179,7 @@ AreBlocksLeftByPowerLossInCall-read e = at_call e.call e.before
     at_call (Read block off len) before disk is left = left
     at_call (Program block off bytes) before disk is left = absurd (cc)
     at_call (Erase block) before disk is left = absurd (cc)
+    at_call (Blank block off len) before disk is left = absurd (cc)
 
 -- Which bytes are unprogrammed after a call.
 
@@ -177,6 +197,10 @@ is_byte_unprogrammed-program {old} {block = block} {off = off} {bytes = bytes} i
     let still : is_byte_unprogrammed old block k ≡ true = was k (omega arith) below in
     let past : nat_lt k (off + length bytes) ≡ false = grind (arith, nat_tests) in
     ap (λ (h : List DeviceCallEvent). is_byte_unprogrammed h block k) is ∙ grind (arith, nat_tests, still, past)
+
+-- after the device's word these bytes
+pub is_byte_unprogrammed-blank : {old new : List DeviceCallEvent} {block off len : ℕ} {before after : Blocks} → new ≡ device_call_event_with_blocks (Blank block off len) before after false ∷ old → AreBytesUnprogrammed new block off (off + len)
+is_byte_unprogrammed-blank {block = block} is k above below = ap (λ (h : List DeviceCallEvent). is_byte_unprogrammed h block k) is ∙ grind (arith, nat_tests, above, below)
 
 -- What was unprogrammed outside some blocks and still is.
 
@@ -212,6 +236,16 @@ AreBytesStillUnprogrammed-program {old} {new} {programmed} is = record { stays =
         let other : (b == programmed) ≡ false = grind (arith, nat_tests, differs) in
         ap (λ (h : List DeviceCallEvent). is_byte_unprogrammed h b k) is ∙ grind (arith, nat_tests, was, other)
 
+-- the device's word takes nothing back
+kept_or_true : (x was : Bool) → was ≡ true → (if x then true else was) ≡ true
+kept_or_true true was is = refl
+kept_or_true false was is = is
+
+pub AreBytesStillUnprogrammed-blank : {old new : List DeviceCallEvent} (bs : List ℕ) {block off len : ℕ} {before after : Blocks} {failed : Bool} → new ≡ device_call_event_with_blocks (Blank block off len) before after failed ∷ old → AreBytesStillUnprogrammed bs old new
+AreBytesStillUnprogrammed-blank {old} bs {block} {off} {len} {failed = failed} is = record {
+  stays = λ b k apart was. ap (λ (h : List DeviceCallEvent). is_byte_unprogrammed h b k) is ∙ kept_or_true (not failed && (b == block && nat_le off k && nat_lt k (off + len))) (is_byte_unprogrammed old b k) was;
+}
+
 -- where a part of a block is unprogrammed and stays so
 pub AreBytesUnprogrammed-stays : {bs : List ℕ} {old new : List DeviceCallEvent} {low high : ℕ} (block : ℕ) → AreBytesStillUnprogrammed bs old new → All (λ c. c ≢ block) bs → AreBytesUnprogrammed old block low high → AreBytesUnprogrammed new block low high
 AreBytesUnprogrammed-stays block same apart was k above below = same.stays block k apart (was k above below)
@@ -224,6 +258,7 @@ AreBlocksLeftByPowerLossInCall-worst e = at_call e.call e.before
     at_call (Read block off len) before disk left = left
     at_call (Program block off bytes) before disk left = left.0
     at_call (Erase block) before disk left = left.0
+    at_call (Blank block off len) before disk left = left
 
 pub IsTrueAfterAnyPowerLossSince-worst : {P : Blocks → Type 0} {old new : List DeviceCallEvent} → IsTrueAfterAnyPowerLossSince ArePossibleBlocksAfterPowerLossInCall old new P → IsTrueAfterAnyPowerLossSince AreBlocksLeftByPowerLossInCall old new P
 IsTrueAfterAnyPowerLossSince-worst since = IsTrueOfEachCallSince-weaker (λ e worst disk left. worst disk (AreBlocksLeftByPowerLossInCall-worst e disk left)) since

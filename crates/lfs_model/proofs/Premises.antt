@@ -2,7 +2,7 @@
 use Rattle.std.proofs.Common.{◌≡◌, Bool, true, false, List, [], ◌∷◌, ◌++◌, sym, subst, refl}
 use Rattle.std.proofs.lemmas.List.Elements.{All-head}
 use Rattle.lfs_model.specs.Blocks.{Blocks}
-use Rattle.lfs_model.specs.History.{DeviceCall, Read, Program, Erase, DeviceCallEvent, device_call_event_with_blocks, IsTrueOfEachCall, IsTrueOfEachCallSince}
+use Rattle.lfs_model.specs.History.{DeviceCall, Read, Program, Erase, Blank, DeviceCallEvent, device_call_event_with_blocks, IsTrueOfEachCall, IsTrueOfEachCallSince}
 use Rattle.lfs_model.specs.Conformance.{HasOnlyItsEffectIfSuccessful, DoSuccessfulCallsHaveOnlyTheirEffect}
 use Rattle.lfs_model.specs.Stops.{are_blocks_after_stopped_call, leaves_no_new_log_if_successful_erase}
 use Rattle.lfs_model.specs.Premises.{IsHistoryMeetingPowerLossPremises}
@@ -34,6 +34,7 @@ meets_nothing call blocks = record { erases = cleanly call; failed = λ is. stop
     cleanly (Read block off len) = tt
     cleanly (Program block off bytes) = tt
     cleanly (Erase block) = tt
+    cleanly (Blank block off len) = tt
 
 -- a call that failed with all done
 pub meets_whole : {call : DeviceCall} {before after : Blocks} {older later : List DeviceCallEvent} → later ≡ device_call_event_with_blocks call before after false ∷ older → DoSuccessfulCallsHaveOnlyTheirEffect later → IsHistoryMeetingPowerLossPremises later
@@ -46,6 +47,7 @@ meets_whole {call} {before} {after} {older} is conforms all =
     cleanly (Read block off len) = tt
     cleanly (Program block off bytes) = tt
     cleanly (Erase block) = tt
+    cleanly (Blank block off len) = tt
 
 part : (P : DeviceCallEvent → Type 0) (events old : List DeviceCallEvent) → IsTrueOfEachCall P (events ++ old) → IsTrueOfEachCall P events
 part P [] old all = tt

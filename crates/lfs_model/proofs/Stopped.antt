@@ -5,7 +5,7 @@ use Rattle.std.proofs.lemmas.List.{length-set, length-take-le, length-drop, get_
 use Rattle.lfs_model.specs.Blocks.{Blocks, block_bytes_by_number, bytes_after_overwrite_at, programmed, AreBlocksEqualExceptOne}
 use Rattle.lfs_model.specs.Crc.{crc_of, next_bits}
 use Rattle.lfs_model.specs.Log.{log_of_block, chain_of, chain_within, commit_within, entry_at, closes}
-use Rattle.lfs_model.specs.History.{DeviceCall, Read, Program, Erase}
+use Rattle.lfs_model.specs.History.{DeviceCall, Read, Program, Erase, Blank}
 use Rattle.lfs_model.specs.Stops.{are_blocks_after_stopped_call}
 use Rattle.lfs_model.specs.examples.Images.{fresh_commit_of_small_image}
 
@@ -16,6 +16,7 @@ pub stops_before : (call : DeviceCall) (before : Blocks) → are_blocks_after_st
 stops_before (Read block off len) before = refl
 stops_before (Program block off bytes) before = (same_but_nothing block before, inl refl)
 stops_before (Erase block) before = (same_but_nothing block before, inl refl)
+stops_before (Blank block off len) before = refl
 
 length_overwritten : (block : List ℕ) (off : ℕ) (bytes : List ℕ) → off + length bytes ≤ length block → length (bytes_after_overwrite_at block off bytes) ≡ length block
 length_overwritten block off bytes fits =

@@ -3,7 +3,7 @@ use Rattle.std.proofs.Common.{ℕ, ◌≡◌, ◌==◌, ◌⊎◌, inl, inr, Boo
 use Rattle.std.proofs.Math.Logic.{∥∥₁_map, ∥∥₁_elim}
 use Rattle.lfs_model.specs.Blocks.{Blocks, AreBlocksEqualExceptOne, block_bytes_by_number, bytes_after_overwrite_at}
 use Rattle.lfs_model.specs.Log.{LogEntry, BlockLog, log_of_block}
-use Rattle.lfs_model.specs.History.{DeviceCall, Read, Program, Erase, DeviceCallEvent, IsTrueOfEachCall}
+use Rattle.lfs_model.specs.History.{DeviceCall, Read, Program, Erase, Blank, DeviceCallEvent, IsTrueOfEachCall}
 use Rattle.lfs_model.specs.Stops.{MayStoppedEraseLeaveBlock, MayStoppedProgramLeaveBlock, are_blocks_after_stopped_call, LeavesNoNewLogIfSuccessfulErase, leaves_no_new_log_if_successful_erase}
 use Rattle.lfs_model.specs.PowerLoss.{IsLikePowerLossIfCallFailed}
 use Rattle.lfs_model.specs.Premises.{IsHistoryMeetingPowerLossPremises}
@@ -98,12 +98,14 @@ stopped (Program block off bytes) before disk is =
     (same_but block before disk (∥∥₁_map is (λ s. s.0)), from_decided (by_program off bytes (block_bytes_by_number before block) (block_bytes_by_number disk block)) (∥∥₁_map is (λ s. s.1)))
 stopped (Erase block) before disk is =
     (same_but block before disk (∥∥₁_map is (λ s. s.0)), from_decided (by_erase (block_bytes_by_number before block) (block_bytes_by_number disk block)) (∥∥₁_map is (λ s. s.1)))
+stopped (Blank block off len) before disk is = from_decided (same_list (same_list same_number) disk before) is
 
 cleanly : (call : DeviceCall) (failed : Bool) (before after : Blocks) → ∥ leaves_no_new_log_if_successful_erase call failed before after ∥₁ → leaves_no_new_log_if_successful_erase call failed before after
 cleanly (Read block off len) failed before after is = tt
 cleanly (Program block off bytes) failed before after is = tt
 cleanly (Erase block) true before after is = tt
 cleanly (Erase block) false before after is = from_decided (by_erase (block_bytes_by_number before block) (block_bytes_by_number after block)) is
+cleanly (Blank block off len) failed before after is = tt
 
 each : (P : DeviceCallEvent → Type 0) → ((e : DeviceCallEvent) → ∥ P e ∥₁ → P e) → (events : List DeviceCallEvent) → ∥ IsTrueOfEachCall P events ∥₁ → IsTrueOfEachCall P events
 each P one [] is = tt

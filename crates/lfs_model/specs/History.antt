@@ -1,4 +1,5 @@
--- The calls that a device has had, the newest first, and what follows from these.
+-- The calls that a device has had, the newest first, and what follows from these. `Blank` is a device's word that bytes of a block
+-- are unprogrammed.
 use Rattle.std.specs.Prelude.{◌≡◌, ◌≢◌, All, ◌≤◌, ◌<◌, ℕ, ◌+◌, Bool, true, false, not, ◌&&◌, if◌then◌else◌, ◌==◌, nat_le, nat_lt, List, [], ◌∷◌, ◌++◌, length}
 use Rattle.lfs_model.specs.Blocks.{Blocks, AreBlocksEqualExceptOne}
 
@@ -6,6 +7,7 @@ pub data DeviceCall : Type 0 where
   Read : (block off len : ℕ) → DeviceCall
   Program : (block off : ℕ) (bytes : List ℕ) → DeviceCall
   Erase : (block : ℕ) → DeviceCall
+  Blank : (block off len : ℕ) → DeviceCall
 
 -- a call, with the disk before it and after it, and whether it failed
 pub record DeviceCallEvent : Type 0 where
@@ -21,18 +23,28 @@ abbrev pub read_count_of_call : DeviceCall → ℕ
 read_count_of_call (Read block off len) = 1
 read_count_of_call (Program block off bytes) = 0
 read_count_of_call (Erase block) = 0
+read_count_of_call (Blank block off len) = 0
 
 abbrev pub program_count_of_call : DeviceCall → ℕ
 program_count_of_call (Read block off len) = 0
 program_count_of_call (Program block off bytes) = 1
 program_count_of_call (Erase block) = 0
+program_count_of_call (Blank block off len) = 0
 
 abbrev pub erase_count_of_call : DeviceCall → ℕ
 erase_count_of_call (Read block off len) = 0
 erase_count_of_call (Program block off bytes) = 0
 erase_count_of_call (Erase block) = 1
+erase_count_of_call (Blank block off len) = 0
 
--- how many reads there were, how many programs, how many erases, and how many calls failed
+-- a device's word that bytes are blank
+abbrev pub blank_count_of_call : DeviceCall → ℕ
+blank_count_of_call (Read block off len) = 0
+blank_count_of_call (Program block off bytes) = 0
+blank_count_of_call (Erase block) = 0
+blank_count_of_call (Blank block off len) = 1
+
+-- how many reads there were, how many programs, how many erases, how many words on blank bytes, and how many calls failed
 abbrev pub read_count_of_history : List DeviceCallEvent → ℕ
 read_count_of_history [] = 0
 read_count_of_history (e ∷ older) = read_count_of_history older + read_count_of_call e.call
@@ -45,6 +57,10 @@ abbrev pub erase_count_of_history : List DeviceCallEvent → ℕ
 erase_count_of_history [] = 0
 erase_count_of_history (e ∷ older) = erase_count_of_history older + erase_count_of_call e.call
 
+abbrev pub blank_count_of_history : List DeviceCallEvent → ℕ
+blank_count_of_history [] = 0
+blank_count_of_history (e ∷ older) = blank_count_of_history older + blank_count_of_call e.call
+
 abbrev pub fault_count_of_history : List DeviceCallEvent → ℕ
 fault_count_of_history [] = 0
 fault_count_of_history (e ∷ older) = fault_count_of_history older + (if e.failed then 1 else 0)
@@ -54,8 +70,10 @@ abbrev pub is_byte_unprogrammed_after_call : DeviceCall → Bool → ℕ → ℕ
 is_byte_unprogrammed_after_call (Read block off len) failed b k was = was
 is_byte_unprogrammed_after_call (Program block off bytes) failed b k was = was && not (b == block && nat_le off k && nat_lt k (off + length bytes))
 is_byte_unprogrammed_after_call (Erase block) failed b k was = if b == block then not failed else was
+is_byte_unprogrammed_after_call (Blank block off len) failed b k was = if not failed && (b == block && nat_le off k && nat_lt k (off + len)) then true else was
 
--- whether the byte k of block b is unprogrammed since the block's last erase; at first all bytes are programmed
+-- Whether the byte k of block b is unprogrammed since the block's last erase. At first all bytes are programmed, until the device
+-- says otherwise.
 abbrev pub is_byte_unprogrammed : List DeviceCallEvent → ℕ → ℕ → Bool
 is_byte_unprogrammed [] b k = false
 is_byte_unprogrammed (e ∷ older) b k = is_byte_unprogrammed_after_call e.call e.failed b k (is_byte_unprogrammed older b k)
@@ -93,6 +111,7 @@ abbrev pub are_possible_blocks_after_interrupted_call : DeviceCall → Blocks �
 are_possible_blocks_after_interrupted_call (Read block off len) before disk = disk ≡ before
 are_possible_blocks_after_interrupted_call (Program block off bytes) before disk = AreBlocksEqualExceptOne block before disk
 are_possible_blocks_after_interrupted_call (Erase block) before disk = AreBlocksEqualExceptOne block before disk
+are_possible_blocks_after_interrupted_call (Blank block off len) before disk = disk ≡ before
 
 abbrev pub ArePossibleBlocksAfterPowerLossInCall : DeviceCallEvent → Blocks → Type 0
 ArePossibleBlocksAfterPowerLossInCall e disk = are_possible_blocks_after_interrupted_call e.call e.before disk

@@ -2,7 +2,7 @@
 use Rattle.std.specs.Prelude.{ℕ, ◌≡◌, ◌⊎◌, Bool, true, false, List, None}
 use Rattle.lfs_model.specs.Blocks.{Blocks, block_bytes_by_number, bytes_after_overwrite_at, AreBlocksEqualExceptOne}
 use Rattle.lfs_model.specs.Log.{log_of_block}
-use Rattle.lfs_model.specs.History.{DeviceCall, Read, Program, Erase, DeviceCallEvent}
+use Rattle.lfs_model.specs.History.{DeviceCall, Read, Program, Erase, Blank, DeviceCallEvent}
 
 abbrev pub SameLog : List ℕ → List ℕ → Type 0
 SameLog new old = log_of_block new ≡ log_of_block old
@@ -24,6 +24,7 @@ abbrev pub are_blocks_after_stopped_call : DeviceCall → Blocks → Blocks → 
 are_blocks_after_stopped_call (Read block off len) before disk = disk ≡ before
 are_blocks_after_stopped_call (Program block off bytes) before disk = AreBlocksEqualExceptOne block before disk × MayStoppedProgramLeaveBlock off bytes (block_bytes_by_number before block) (block_bytes_by_number disk block)
 are_blocks_after_stopped_call (Erase block) before disk = AreBlocksEqualExceptOne block before disk × MayStoppedEraseLeaveBlock (block_bytes_by_number before block) (block_bytes_by_number disk block)
+are_blocks_after_stopped_call (Blank block off len) before disk = disk ≡ before
 
 abbrev pub AreBlocksLeftByPowerLossInCall : DeviceCallEvent → Blocks → Type 0
 AreBlocksLeftByPowerLossInCall e disk = are_blocks_after_stopped_call e.call e.before disk
@@ -35,6 +36,7 @@ leaves_no_new_log_if_successful_erase (Read block off len) failed before after =
 leaves_no_new_log_if_successful_erase (Program block off bytes) failed before after = Unit {0}
 leaves_no_new_log_if_successful_erase (Erase block) true before after = Unit {0}
 leaves_no_new_log_if_successful_erase (Erase block) false before after = MayStoppedEraseLeaveBlock (block_bytes_by_number before block) (block_bytes_by_number after block)
+leaves_no_new_log_if_successful_erase (Blank block off len) failed before after = Unit {0}
 
 abbrev pub LeavesNoNewLogIfSuccessfulErase : DeviceCallEvent → Type 0
 LeavesNoNewLogIfSuccessfulErase e = leaves_no_new_log_if_successful_erase e.call e.failed e.before e.after

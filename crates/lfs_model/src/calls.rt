@@ -2,13 +2,14 @@
 
 ghost use Rattle.std.specs.Prelude.{◌≡◌, ℕ, true, false, [], ◌∷◌, map};
 ghost use Rattle.lfs_model.specs.Blocks.{Blocks, block_bytes_by_number};
-ghost use Rattle.lfs_model.specs.History.{DeviceCallEvent, Erase, device_call_event_with_blocks, read_count_of_history, program_count_of_history, erase_count_of_history, fault_count_of_history, is_byte_unprogrammed, AreBytesUnprogrammed, AreBytesStillUnprogrammed, IsTrueOfEachCallSince, AreCallsSinceOnlyReads, ArePossibleBlocksAfterPowerLossInCall, IsTrueAfterAnyPowerLossSince};
+ghost use Rattle.lfs_model.specs.History.{DeviceCallEvent, Program, Erase, device_call_event_with_blocks, read_count_of_history, program_count_of_history, erase_count_of_history, blank_count_of_history, fault_count_of_history, is_byte_unprogrammed, AreBytesUnprogrammed, AreBytesStillUnprogrammed, IsTrueOfEachCallSince, AreCallsSinceOnlyReads, ArePossibleBlocksAfterPowerLossInCall, IsTrueAfterAnyPowerLossSince};
 ghost use Rattle.lfs_model.specs.Conformance.{DoSuccessfulCallsHaveOnlyTheirEffect};
-ghost use Rattle.lfs_model.specs.examples.Histories.{example_blocks_after_erase, example_blocks_after_program, history_after_erase, history_after_program, history_after_read, program_event_without_effect, erase_event_of_other_block};
+ghost use Rattle.lfs_model.specs.examples.Histories.{example_blocks_after_erase, example_blocks_after_program, blank_event, failed_blank_event, history_after_erase, history_after_program, history_after_read, program_event_without_effect, erase_event_of_other_block};
 
 /// How many reads, programs, erases and faults there were.
 pub fn history_counts_device_calls()
     ensures each { read_count_of_history history_after_read ∷ program_count_of_history history_after_read ∷ erase_count_of_history history_after_read ∷ fault_count_of_history history_after_read ∷ [] ≡ 1 ∷ 1 ∷ 1 ∷ 1 ∷ [] }
+    ensures blanks { blank_count_of_history history_after_read ∷ blank_count_of_history (blank_event ∷ history_after_read) ∷ [] ≡ 0 ∷ 1 ∷ [] }
     ensures fewer { read_count_of_history history_after_program ∷ fault_count_of_history history_after_program ∷ program_count_of_history history_after_erase ∷ [] ≡ 0 ∷ 0 ∷ 0 ∷ [] }
 {}
 
@@ -21,6 +22,16 @@ pub fn bytes_are_unprogrammed_after_erase()
     ensures not_before { AreBytesUnprogrammed history_after_read 0 1 4 → ⊥ }
     ensures stay { AreBytesStillUnprogrammed (0 ∷ []) history_after_erase history_after_read }
     ensures dont_stay { AreBytesStillUnprogrammed (1 ∷ []) history_after_erase history_after_read → ⊥ }
+{}
+
+/// Bytes that the device says are blank are unprogrammed, until they are programmed.
+pub fn blank_bytes_are_unprogrammed()
+    ensures bytes { map (is_byte_unprogrammed (blank_event ∷ history_after_read) 1) (0 ∷ 1 ∷ 2 ∷ 3 ∷ []) ≡ false ∷ false ∷ true ∷ true ∷ [] }
+    ensures other_block { is_byte_unprogrammed (blank_event ∷ history_after_read) 0 1 ≡ false }
+    ensures failed { is_byte_unprogrammed (failed_blank_event ∷ history_after_read) 1 2 ≡ false }
+    ensures programmed { is_byte_unprogrammed (device_call_event_with_blocks (Program 1 2 (7 ∷ [])) example_blocks_after_program example_blocks_after_program true ∷ blank_event ∷ []) 1 2 ≡ false }
+    ensures conforms { DoSuccessfulCallsHaveOnlyTheirEffect (blank_event ∷ failed_blank_event ∷ []) }
+    ensures stays { AreBytesStillUnprogrammed [] history_after_read (blank_event ∷ history_after_read) }
 {}
 
 /// What all calls since an older history have in common.

@@ -1,5 +1,5 @@
 -- A commit or a split behind reads.
-use Rattle.std.proofs.Common.{ℕ, ◌≡◌, ◌+◌, refl, sym, ap, ap₂, ◌∙◌, subst, List, Some, arith}
+use Rattle.std.proofs.Common.{ℕ, ◌≡◌, ◌+◌, inl, inr, refl, sym, ap, ap₂, ◌∙◌, subst, List, Some, arith}
 use Rattle.lfs_device.specs.declared.device.BlockDevice.{Ghosts}
 use Rattle.lfs_device.specs.declared.error.Error.{Error}
 use Rattle.lfs_device.specs.declared.geometry.Geometry.{Geometry}
@@ -11,10 +11,10 @@ use Rattle.lfs_model.specs.Slots.{IsContentFittingPair}
 use Rattle.lfs_model.specs.WrittenContent.{IsRawContentFittingPair}
 use Rattle.lfs_model.specs.History.{DeviceCallEvent, IsTrueOfEachCallSince, AreCallsSinceOnlyReads}
 use Rattle.lfs_model.specs.Changes.{PairContentChange}
-use Rattle.lfs_model.proofs.Histories.{IsTrueOfEachCallSince-behind, erase_count_of_history-read_count_of_history, program_count_of_history-read_count_of_history}
+use Rattle.lfs_model.proofs.Histories.{IsTrueOfEachCallSince-behind, blank_count_of_history-read_count_of_history, erase_count_of_history-read_count_of_history, program_count_of_history-read_count_of_history}
 use Rattle.lfs_pair.specs.declared.pair.Pair.{Pair}
 use Rattle.lfs_pair.specs.Pair.{pair_address_in_header}
-use Rattle.lfs_pair.specs.Commit.{CommitsChangesToPair, CommitFailsKeepingHeader, RefusesCommit, pair_content_after_changes}
+use Rattle.lfs_pair.specs.Commit.{CanAppendChanges, CommitsChangesToPair, CommitFailsKeepingHeader, IsLogEndKnown, RefusesCommit, pair_content_after_changes}
 use Rattle.lfs_pair.specs.Fresh.{HasErasedOneMoreBlockThanProgrammed}
 use Rattle.lfs_pair.specs.Split.{SplitsPairWithChanges}
 use Rattle.lfs_pair.proofs.Calls.{reads_none, reads_trans}
@@ -22,6 +22,22 @@ use Rattle.lfs_pair.proofs.Changed.{some_same}
 use Rattle.lfs_model.proofs.Completed.{fits_raw}
 use Rattle.lfs_model.specs.LoggedContent.{IsWellFormedRawPairContent}
 use Rattle.lfs_model.specs.Content.{RawPairContent, pair_content_if_slots_complete}
+
+-- what can be appended can be appended behind reads, and the other way round
+
+known_behind : {blocks : Blocks} {before mid : List DeviceCallEvent} (after : List DeviceCallEvent) (pair : Pair) → AreCallsSinceOnlyReads blocks before mid → IsLogEndKnown before after pair → IsLogEndKnown mid after pair
+known_behind after pair reads (inl written) = inl written
+known_behind after pair reads (inr blank) = let same = blank_count_of_history-read_count_of_history reads in inr (omega (arith, same, blank))
+
+known_ahead : {blocks : Blocks} {before mid : List DeviceCallEvent} (after : List DeviceCallEvent) (pair : Pair) → AreCallsSinceOnlyReads blocks before mid → IsLogEndKnown mid after pair → IsLogEndKnown before after pair
+known_ahead after pair reads (inl written) = inl written
+known_ahead after pair reads (inr blank) = let same = blank_count_of_history-read_count_of_history reads in inr (omega (arith, same, blank))
+
+appends_behind : {disk : Disk} {blocks : Blocks} {before mid after : List DeviceCallEvent} {pair : Pair} {changes : List PairContentChange} → AreCallsSinceOnlyReads blocks before mid → CanAppendChanges disk before after pair changes → CanAppendChanges disk mid after pair changes
+appends_behind {after = after} {pair = pair} reads can = record { known = known_behind after pair reads can.known; room = can.room }
+
+appends_ahead : {disk : Disk} {blocks : Blocks} {before mid after : List DeviceCallEvent} {pair : Pair} {changes : List PairContentChange} → AreCallsSinceOnlyReads blocks before mid → CanAppendChanges disk mid after pair changes → CanAppendChanges disk before after pair changes
+appends_ahead {after = after} {pair = pair} reads can = record { known = known_ahead after pair reads can.known; room = can.room }
 
 -- a commit, where its disk is known by another name
 pub commits_behind : {disk old new : Disk} {blocks : Blocks} {before mid history : List DeviceCallEvent} {changes : List PairContentChange} {was pair : Pair} → disk ≡ old → AreCallsSinceOnlyReads blocks before mid
@@ -34,7 +50,7 @@ commits_behind {disk = disk} {new = new} {before = before} {mid = mid} {history 
       logged = c.logged;
       holds = c.holds;
       first = c.first;
-      appended = λ appends. let is = c.appended appends in record {
+      appended = λ appends. let is = c.appended (appends_behind reads appends) in record {
         active = is.active;
         log = is.log;
         others = is.others;
@@ -42,12 +58,13 @@ commits_behind {disk = disk} {new = new} {before = before} {mid = mid} {history 
         programs = is.programs ∙ ap (λ n. n + 1) (program_count_of_history-read_count_of_history reads);
         kept = is.kept;
       };
-      compacted = λ full. let is = c.compacted full in record {
+      compacted = λ full. let is = c.compacted (λ appends. full (appends_ahead reads appends)) in record {
         active = is.active;
         anew = record {
           holds = is.anew.holds;
           erases = is.anew.erases ∙ ap (λ n. n + 1) (erase_count_of_history-read_count_of_history reads);
           programs = is.anew.programs ∙ ap (λ n. n + 1) (program_count_of_history-read_count_of_history reads);
+          blanks = is.anew.blanks ∙ blank_count_of_history-read_count_of_history reads;
         };
         end = is.end;
         kept = is.kept;

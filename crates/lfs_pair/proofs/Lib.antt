@@ -14,5 +14,6 @@ pub mod Anew
 pub mod Stay
 pub mod Parted
 pub mod Calls
+pub mod Asking
 pub mod Behind
 pub mod Erring

@@ -3,12 +3,13 @@ use Rattle.std.specs.Prelude.{ℕ, ◌≡◌, ◌≢◌, ◌⊎◌, ◌+◌, ◌
 use Rattle.std.specs.Option.{option_and_then}
 use Rattle.lfs_device.specs.declared.device.BlockDevice.{Ghosts}
 use Rattle.lfs_device.specs.declared.error.Error.{Error}
+use Rattle.lfs_device.specs.declared.geometry.Geometry.{Geometry}
 use Rattle.lfs_device.specs.declared.error.Error.TheVariants.{Io, NoMemory}
 use Rattle.lfs_device.specs.Calls.{ReadsOnly}
 use Rattle.lfs_device.specs.Shown.{disk_of_geometry_and_blocks}
 use Rattle.lfs_model.specs.Blocks.{Blocks, AreBlocksEqualExceptOne, AreBlocksEqualExceptThese, block_bytes_by_number}
 use Rattle.lfs_model.specs.Disk.{Disk, block_bytes_on_disk, block_count}
-use Rattle.lfs_model.specs.History.{DeviceCallEvent, AreBytesStillUnprogrammed, erase_count_of_history, program_count_of_history}
+use Rattle.lfs_model.specs.History.{DeviceCallEvent, AreBytesUnprogrammed, AreBytesStillUnprogrammed, blank_count_of_history, erase_count_of_history, program_count_of_history}
 use Rattle.lfs_model.specs.Log.{LogEntry, chain_of, log_entries_of_block, revision_of_block}
 use Rattle.lfs_model.specs.LoggedContent.{AreNamedSlots, IsWellFormedRawPairContent}
 use Rattle.lfs_model.specs.Slots.{PairContent, IsContentFittingPair}
@@ -81,9 +82,19 @@ pub record PairHasContent (disk : Disk) (history : List DeviceCallEvent) (at : �
   pub content : raw_content_of_pair_at disk at ≡ Some held
   pub written : pair.is_fetched ≡ false
 
--- the changes can be appended: something was written since the fetch, and the padded commit ends within the block
-pub record CanAppendChanges (disk : Disk) (pair : Pair) (changes : List PairContentChange) : Type 0 where
-  pub written : pair.is_fetched ≡ false
+-- nothing is programmed after the pair's log: it was written to since its fetch, or the device has said so meanwhile
+abbrev pub IsLogEndKnown : List DeviceCallEvent → List DeviceCallEvent → Pair → Type 0
+IsLogEndKnown before after pair = (pair.is_fetched ≡ false) ⊎ (blank_count_of_history before < blank_count_of_history after)
+
+-- The log ends at a page's boundary, and nothing is programmed after it.
+pub record IsLogEndBlank (geometry : Geometry) (before after : List DeviceCallEvent) (pair : Pair) : Type 0 where
+  pub known : IsLogEndKnown before after pair
+  pub whole_pages : pair.end % geometry.page ≡ 0
+  pub unprogrammed : AreBytesUnprogrammed after pair.active pair.end geometry.block_size
+
+-- the changes can be appended: nothing is programmed after the log, and the padded commit ends within the block
+pub record CanAppendChanges (disk : Disk) (before after : List DeviceCallEvent) (pair : Pair) (changes : List PairContentChange) : Type 0 where
+  pub known : IsLogEndKnown before after pair
   pub room : pair.end + page_aligned_commit_end disk.page (encoded_size_of_log_entries (log_entries_of_changes changes)) ≤ disk.block_size
 
 -- The log of a block has one commit more, of these entries. The commit ends on the next page boundary.
@@ -114,13 +125,15 @@ pub record IsPairRewrittenInOtherBlock (page : ℕ) (was : Pair) (c : RawPairCon
 pub record AppendsChanges (old : Disk) (before : List DeviceCallEvent) (was : Pair) (changes : List PairContentChange) (c : RawPairContent) (disk : Disk) (history : List DeviceCallEvent) (pair : Pair) : Type 0 where
   pub holds : PairHasContent disk history (pair_address_in_header was) pair c
   pub first : KeepsFirstEntryOfPairLog old (pair_address_in_header was) (Some c) disk
-  pub appends : CanAppendChanges old was changes
+  pub appends : CanAppendChanges old before history was changes
   pub appended : IsCommitAppended old.page was changes old.blocks disk.blocks before history pair
 
--- the changes can't be appended; the device and the header are as before
-pub record CannotAppendAndLeavesDeviceUnchanged {D : Type 0} (g : Ghosts D) (changes : List PairContentChange) (old new : D) (was now : Pair) : Type 0 where
-  pub no_room : CanAppendChanges (disk_of_geometry_and_blocks (g.geometry old) (g.blocks old)) was changes → ⊥
-  pub device : new ≡ old
+-- the changes can't be appended; the disk, its calls and the header are as before
+pub record CannotAppendAndKeepsDisk {D : Type 0} (g : Ghosts D) (changes : List PairContentChange) (old new : D) (was now : Pair) : Type 0 where
+  pub no_room : CanAppendChanges (disk_of_geometry_and_blocks (g.geometry old) (g.blocks old)) (g.history old) (g.history new) was changes → ⊥
+  pub blocks : g.blocks new ≡ g.blocks old
+  pub geometry : g.geometry new ≡ g.geometry old
+  pub history : g.history new ≡ g.history old
   pub pair : now ≡ was
 
 -- The content was written anew: the pair has it, and its log begins as before.
@@ -138,8 +151,8 @@ pub record CommitsChangesToPair (old : Disk) (before : List DeviceCallEvent) (ch
   pub logged : IsWellFormedRawPairContent new
   pub holds : PairHasContent disk history (pair_address_in_header was) pair new
   pub first : KeepsFirstEntryOfPairLog old (pair_address_in_header was) (Some new) disk
-  pub appended : CanAppendChanges old was changes → IsCommitAppended old.page was changes old.blocks disk.blocks before history pair
-  pub compacted : (CanAppendChanges old was changes → ⊥) → IsPairRewrittenInOtherBlock old.page was new old.blocks disk.blocks before history pair
+  pub appended : CanAppendChanges old before history was changes → IsCommitAppended old.page was changes old.blocks disk.blocks before history pair
+  pub compacted : (CanAppendChanges old before history was changes → ⊥) → IsPairRewrittenInOtherBlock old.page was new old.blocks disk.blocks before history pair
 
 -- A commit that is refused: what the changes make doesn't fit the pair, neither as a log's content nor, where each slot is
 -- complete, as slots. The header is as before, and nothing was written.

@@ -4,7 +4,7 @@ use Rattle.lfs_device.specs.declared.error.Error.{Error}
 use Rattle.lfs_device.specs.declared.error.Error.TheVariants.{Io, NoMemory}
 use Rattle.lfs_model.specs.Blocks.{Blocks, block_bytes_by_number}
 use Rattle.lfs_model.specs.Disk.{Disk, block_bytes_on_disk}
-use Rattle.lfs_model.specs.History.{DeviceCall, Read, Program, Erase, IsTrueOfEachCallSince, DeviceCallEvent, erase_count_of_history, program_count_of_history}
+use Rattle.lfs_model.specs.History.{DeviceCall, Read, Program, Erase, Blank, IsTrueOfEachCallSince, DeviceCallEvent, erase_count_of_history, program_count_of_history}
 use Rattle.lfs_model.specs.LoggedContent.{AreNamedSlots}
 use Rattle.lfs_model.specs.Content.{RawPairContent, has_commit, empty_raw_pair_content}
 use Rattle.lfs_model.specs.Changes.{PairContentChange, raw_pair_content_after_changes}
@@ -27,6 +27,7 @@ EraseLeavesNoLog (Read block off len) failed after = Unit {0}
 EraseLeavesNoLog (Program block off bytes) failed after = Unit {0}
 EraseLeavesNoLog (Erase block) true after = Unit {0}
 EraseLeavesNoLog (Erase block) false after = has_commit (block_bytes_by_number after block) ≡ false
+EraseLeavesNoLog (Blank block off len) failed after = Unit {0}
 
 abbrev pub CallEventLeavesNoLogIfErase : DeviceCallEvent → Type 0
 CallEventLeavesNoLogIfErase e = EraseLeavesNoLog e.call e.failed e.after

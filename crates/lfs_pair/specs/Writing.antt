@@ -1,12 +1,12 @@
 -- What a commit makes of a block, and what a stop during it leaves.
-use Rattle.std.specs.Prelude.{ℕ, ◌≡◌, ◌≤◌, ◌⊎◌, ◌+◌, ◌%◌, ◌++◌, true, List, [], ◌∷◌, take, IfErr, Result, Some, unwrap_or}
+use Rattle.std.specs.Prelude.{ℕ, ◌≡◌, ◌≤◌, ◌⊎◌, ◌+◌, ◌%◌, ◌++◌, Bool, true, List, [], ◌∷◌, take, IfErr, Result, Some, unwrap_or}
 use Rattle.lfs_device.specs.declared.device.BlockDevice.{Ghosts}
 use Rattle.lfs_device.specs.declared.error.Error.{Error}
 use Rattle.lfs_device.specs.declared.error.Error.TheVariants.{Io}
 use Rattle.lfs_device.specs.Calls.{ChangesOnlyThisBlock, ChangesOnlyTheseBlocks, ReportsFaults}
 use Rattle.lfs_model.specs.Blocks.{Blocks, block_bytes_by_number, AreBlocksEqualExceptOne}
 use Rattle.lfs_model.specs.Disk.{Disk, block_bytes_on_disk}
-use Rattle.lfs_model.specs.History.{AreBytesUnprogrammed, DeviceCallEvent, erase_count_of_history, program_count_of_history, read_count_of_history}
+use Rattle.lfs_model.specs.History.{AreBytesUnprogrammed, Blank, DeviceCallEvent, device_call_event_with_blocks, blank_count_of_history, erase_count_of_history, program_count_of_history, read_count_of_history}
 use Rattle.lfs_model.specs.Tag.{abstract_type_of_tag}
 use Rattle.lfs_model.specs.Log.{LogEntry, chain_of, revision_of_block, log_entries_of_block}
 use Rattle.lfs_model.specs.Content.{RawPairContent, has_commit, content_after_log_entries, empty_raw_pair_content}
@@ -52,11 +52,32 @@ pub record HasContentInOneCommit (revision : ℕ) (c : RawPairContent) (block : 
   pub class : abstract_type_of_tag checksum.tag ≡ 5
   pub commits : (chain_of block).commits ≡ (log_entries_of_content c ++ checksum ∷ []) ∷ []
 
+-- one word of the device that bytes are blank, or a question that failed
+pub record SaysBytesAreBlank {D : Type 0} (g : Ghosts D) (old new : D) : Type 0 where
+  pub block : ℕ
+  pub off : ℕ
+  pub len : ℕ
+  pub failed : Bool
+  pub word : g.history new ≡ device_call_event_with_blocks (Blank block off len) (g.blocks old) (g.blocks new) failed ∷ g.history old
+
+-- The device was asked at most whether bytes are blank.
+pub record AsksAboutBlankBytes {D : Type 0} (g : Ghosts D) (old new : D) : Type 0 where
+  pub same : g.blocks new ≡ g.blocks old
+  pub geometry : g.geometry new ≡ g.geometry old
+  pub asked : (g.history new ≡ g.history old) ⊎ SaysBytesAreBlank g old new
+
+-- one program more, and neither an erase nor a word on blank bytes
+pub record ProgramsOnce (before after : List DeviceCallEvent) : Type 0 where
+  pub erases : erase_count_of_history after ≡ erase_count_of_history before
+  pub programs : program_count_of_history after ≡ program_count_of_history before + 1
+  pub blanks : blank_count_of_history after ≡ blank_count_of_history before
+
 -- a block was erased once and programmed once, and has that content
 pub record IsBlockWrittenAnew (revision : ℕ) (c : RawPairContent) (block : List ℕ) (before after : List DeviceCallEvent) : Type 0 where
   pub holds : HasContentInOneCommit revision c block
   pub erases : erase_count_of_history after ≡ erase_count_of_history before + 1
   pub programs : program_count_of_history after ≡ program_count_of_history before + 1
+  pub blanks : blank_count_of_history after ≡ blank_count_of_history before
 
 -- What a stop leaves where a block is erased and a content is written into it: the old log, none, or the content.
 abbrev pub PowerLossLeavesOldLogOrRewrittenContent : ℕ → RawPairContent → List ℕ → List ℕ → Type 0

@@ -9,10 +9,11 @@ ghost use Rattle.lfs_model.specs.Stops.{LeavesNoNewLogIfSuccessfulErase, AreBloc
 ghost use Rattle.lfs_model.specs.WrittenContent.{IsRawContentFittingPair};
 ghost use Rattle.lfs_model.specs.LoggedContent.{AreNamedSlots, IsWellFormedRawPairContent};
 ghost use Rattle.lfs_tag.specs.ContentView.{content_view};
-ghost use Rattle.lfs_pair.specs.Pair.{pair_address_in_header};
+ghost use Rattle.lfs_model.specs.Content.{RawPairContent};
+ghost use Rattle.lfs_pair.specs.Pair.{IsPairOnDiskAsHeaderSays, pair_address_in_header};
 ghost use Rattle.lfs_pair.specs.ChangeView.{changes_view};
-ghost use Rattle.lfs_pair.specs.Commit.{pair_content_after_changes, AppendsChanges, CanCommit, CommitsChangesToPair, CompactsToContent, CommitFailsKeepingHeader, CannotAppendAndLeavesDeviceUnchanged, RefusesCommit, IsPairAddressOnDisk, HeaderSaysActiveBlock, PowerLossLeavesOldOrChangedContent, PowerLossLeavesOldOrNewContent};
-ghost use Rattle.lfs_pair.specs.Writing.{ChangesOnlyBlocksWithinReadLimit, WritesOnlyTheseBlocks};
+ghost use Rattle.lfs_pair.specs.Commit.{pair_content_after_changes, AppendsChanges, CanCommit, CommitsChangesToPair, CompactsToContent, CommitFailsKeepingHeader, CannotAppendAndKeepsDisk, IsLogEndBlank, RefusesCommit, IsPairAddressOnDisk, HeaderSaysActiveBlock, PowerLossLeavesOldOrChangedContent, PowerLossLeavesOldOrNewContent};
+ghost use Rattle.lfs_pair.specs.Writing.{AsksAboutBlankBytes, ChangesOnlyBlocksWithinReadLimit, WritesOnlyTheseBlocks};
 ghost use Rattle.lfs_model.specs.Thread.{blocks_of_pair_address};
 
 use crate::change::Change;
@@ -38,9 +39,9 @@ pub enum Outcome {
 /// loss of power during the call leaves the pair with all of the changes or with none.
 ///
 /// The changes are appended to the active block's log where the padded commit ends within the
-/// block. Else the other block is erased, and all that the pair is to hold is written into it. The
-/// first commit after a [`fetch`](crate::fetch) takes this way, too, since the bytes after the log
-/// aren't known then. The call takes at most two reads.
+/// block. Else the other block is erased, and all that the pair is to hold is written into it.
+/// After a [`fetch`](crate::fetch) the bytes after the log aren't known. So the first commit asks
+/// the device whether they are blank, and appends only then. The call takes at most two reads.
 ///
 /// Returns [`Outcome::Full`] exactly where what the changes make doesn't fit a pair ([`is_content_within_pair_limits`]).
 /// Then nothing is written, and the pair stays as it was.
@@ -114,8 +115,32 @@ pub fn commit_with_block_bytes<'a, 'b: 'a, D: BlockDevice>(
     Ok(Outcome::Done)
 }
 
+// Tells whether the bytes after a pair's log are unprogrammed. Where the pair was fetched and not
+// written to since then, the device is asked.
+fn is_log_end_blank<D: BlockDevice>(dev: &mut D, pair: &Pair) -> Result<bool, Error>
+    requires address { IsPairAddressOnDisk (disk_of_geometry_and_blocks (D.geometry dev.old) (D.blocks dev.old)) (pair_address_in_header pair.now) }
+    requires pair { (held : RawPairContent) × IsPairOnDiskAsHeaderSays (disk_of_geometry_and_blocks (D.geometry dev.old) (D.blocks dev.old)) (D.history dev.old) pair.now held }
+
+    ensures yes { result ≡ Ok true → IsLogEndBlank (D.geometry dev.old) (D.history dev.old) (D.history dev.new) pair.now }
+    ensures no { result ≡ Ok false → (pair.now.is_fetched ≡ true) × (D.history dev.new ≡ D.history dev.old) }
+    ensures asks { AsksAboutBlankBytes D.BlockDevice dev.old dev.new }
+    ensures errors { IfErr result (λ e. e ≡ Error.Io) }
+    ensures faults { ReportsFaults D.BlockDevice dev.old dev.new result }
+{
+    if !pair.is_fetched {
+        return Ok(true);
+    }
+    let geometry = dev.geometry();
+    let end = pair.end as u32;
+    if end % geometry.page != 0 {
+        return Ok(false);
+    }
+    let is_blank = dev.is_unprogrammed(pair.active, end, geometry.block_size - end)?;
+    Ok(is_blank)
+}
+
 // Appends the changes, which make the content, to the log of the active block, if they fit there.
-// Returns whether they do.
+// Returns whether they do, and whether nothing is programmed there.
 fn append_changes_to_log<D: BlockDevice>(
     dev: &mut D,
     pair: &mut Pair,
@@ -130,7 +155,7 @@ fn append_changes_to_log<D: BlockDevice>(
 
     ensures done { result ≡ Ok true → AppendsChanges (disk_of_geometry_and_blocks (D.geometry dev.old) (D.blocks dev.old)) (D.history dev.old) pair.old (changes_view changes.now) (content_view content.now)
         (disk_of_geometry_and_blocks (D.geometry dev.new) (D.blocks dev.new)) (D.history dev.new) pair.new }
-    ensures no_room { result ≡ Ok false → CannotAppendAndLeavesDeviceUnchanged D.BlockDevice (changes_view changes.now) dev.old dev.new pair.old pair.new }
+    ensures no_room { result ≡ Ok false → CannotAppendAndKeepsDisk D.BlockDevice (changes_view changes.now) dev.old dev.new pair.old pair.new }
     ensures buf { length buf.new ≡ length buf.old }
     ensures err_pair { OnErr result (pair.new ≡ pair.old) }
     ensures writes { WritesOnlyTheseBlocks D.BlockDevice 1 (blocks_of_pair_address (pair_address_in_header pair.old)) dev.old dev.new result }
@@ -140,7 +165,11 @@ fn append_changes_to_log<D: BlockDevice>(
     let mut builder = CommitBuilder::new(geometry.page, buf, pair.last, None);
     push_changes(&mut builder, changes);
     let room = geometry.block_size - pair.end as u32;
-    if pair.is_fetched || room < builder.end_of_padded_commit() {
+    if room < builder.end_of_padded_commit() {
+        return Ok(false);
+    }
+    let is_blank = is_log_end_blank(dev, pair)?;
+    if !is_blank {
         return Ok(false);
     }
     let written = program_commit_at(dev, pair.active, pair.end as u32, builder)?;

@@ -4,14 +4,14 @@ ghost use Rattle.std.specs.Prelude.{◌≡◌, ◌<◌, ◌≤◌, ◌+◌, ◌%
 ghost use Rattle.lfs_device.specs.Shown.{disk_of_geometry_and_blocks};
 ghost use Rattle.lfs_device.specs.Calls.{ReadsOnly, ReportsFaults};
 ghost use Rattle.lfs_model.specs.Blocks.{block_bytes_by_number};
-ghost use Rattle.lfs_model.specs.History.{AreBytesUnprogrammed, IsTrueOfEachCallSince, IsTrueAfterAnyPowerLossSince, erase_count_of_history, program_count_of_history, read_count_of_history};
+ghost use Rattle.lfs_model.specs.History.{AreBytesUnprogrammed, IsTrueOfEachCallSince, IsTrueAfterAnyPowerLossSince, read_count_of_history};
 ghost use Rattle.lfs_model.specs.LoggedContent.{AreNamedSlots, IsWellFormedRawPairContent};
 ghost use Rattle.lfs_model.specs.Commit.{encoded_size_of_log_entries, four_bytes_from_offset, page_aligned_commit_end};
 ghost use Rattle.lfs_model.specs.Stops.{LeavesNoNewLogIfSuccessfulErase, AreBlocksLeftByPowerLossInCall};
 ghost use Rattle.lfs_model.specs.WrittenContent.{IsRawContentFittingPair, log_entries_of_content};
 ghost use Rattle.lfs_tag.specs.Builder.{IsOffsetForCommitInBlock, padded_commit_end};
 ghost use Rattle.lfs_tag.specs.ContentView.{content_view};
-ghost use Rattle.lfs_pair.specs.Writing.{BlockGetsCommitAtOffset, IsBlockWrittenAnew, LogEndsOnPageBoundaryBeforeUnprogrammedBytes, PowerLossLeavesOldLogOrCommit, PowerLossLeavesOldLogOrRewrittenContent, DiffersOnlyInBlockAsPropertyAllows, WritesOnlyThisBlock};
+ghost use Rattle.lfs_pair.specs.Writing.{BlockGetsCommitAtOffset, IsBlockWrittenAnew, LogEndsOnPageBoundaryBeforeUnprogrammedBytes, PowerLossLeavesOldLogOrCommit, PowerLossLeavesOldLogOrRewrittenContent, DiffersOnlyInBlockAsPropertyAllows, ProgramsOnce, WritesOnlyThisBlock};
 
 use crate::entries::push_content;
 use lfs_device::{BlockDevice, Error};
@@ -66,8 +66,7 @@ pub(crate) fn program_commit_at<D: BlockDevice>(
     ensures adds { IfOk result (λ written. BlockGetsCommitAtOffset builder.entry at written.end (block_bytes_by_number (D.blocks dev.old) block) (block_bytes_by_number (D.blocks dev.new) block)) }
     ensures written { IfOk result (λ written. LogEndsOnPageBoundaryBeforeUnprogrammedBytes (disk_of_geometry_and_blocks (D.geometry dev.new) (D.blocks dev.new)) (D.history dev.new) block written.end written.last) }
     ensures writes { WritesOnlyThisBlock D.BlockDevice 1 block dev.old dev.new result }
-    ensures erases { erase_count_of_history (D.history dev.new) ≡ erase_count_of_history (D.history dev.old) }
-    ensures programs { OnOk result (program_count_of_history (D.history dev.new) ≡ program_count_of_history (D.history dev.old) + 1) }
+    ensures programs { OnOk result (ProgramsOnce (D.history dev.old) (D.history dev.new)) }
     ensures stops { IsTrueAfterAnyPowerLossSince AreBlocksLeftByPowerLossInCall (D.history dev.old) (D.history dev.new) (DiffersOnlyInBlockAsPropertyAllows block (PowerLossLeavesOldLogOrCommit builder.entry at) (D.blocks dev.old)) }
 {
     let end = at + builder.end_of_padded_commit();

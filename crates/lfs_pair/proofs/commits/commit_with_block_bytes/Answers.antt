@@ -15,6 +15,8 @@ use Rattle.lfs_pair.specs.Pair.{pair_address_in_header}
 use Rattle.lfs_pair.specs.ChangeView.{changes_view}
 use Rattle.lfs_pair.specs.Writing.{ChangesOnlyBlocksWithinReadLimit}
 use Rattle.lfs_pair.specs.Commit.{KeepsFirstEntryOfPairLog, IsPairRewrittenInOtherBlock, PairHasContent, PowerLossLeavesOldOrNewContent}
+use Rattle.lfs_pair.proofs.Asking.{appends_until, kept_disk, kept_unread}
+use Rattle.lfs_pair.proofs.Calls.{reading_trans}
 use Rattle.lfs_pair.proofs.Changed.{ends_here, left_by_change, made_here}
 use Rattle.lfs_pair.proofs.commits.commit_with_block_bytes.Goals as goal
 use Rattle.lfs_model.specs.Thread.{blocks_of_pair_address}
@@ -25,9 +27,9 @@ returns-in_err-compact-clause-stops g c =
     let moved = subst (λ p. IsTrueOfEachCallSince LeavesNoNewLogIfSuccessfulErase (g.D.BlockDevice.history c.append_changes_to_log.new.dev) (g.D.BlockDevice.history c.compact.new.dev)
     → IsTrueAfterAnyPowerLossSince AreBlocksLeftByPowerLossInCall (g.D.BlockDevice.history c.append_changes_to_log.new.dev) (g.D.BlockDevice.history c.compact.new.dev) (PowerLossLeavesOldOrNewContent (disk_of_geometry_and_blocks (g.D.BlockDevice.geometry c.append_changes_to_log.new.dev) (g.D.BlockDevice.blocks c.append_changes_to_log.new.dev)) (pair_address_in_header p) (content_view c.in_ok-content.content)))
     (c.in_ok-append_changes_to_log.ensures.no_room (ap Ok c.if-branch.false)).pair c.in_err-compact.ensures.stops in
-    let stops = subst (λ d. IsTrueOfEachCallSince LeavesNoNewLogIfSuccessfulErase (g.D.BlockDevice.history d) (g.D.BlockDevice.history c.compact.new.dev)
-    → IsTrueAfterAnyPowerLossSince AreBlocksLeftByPowerLossInCall (g.D.BlockDevice.history d) (g.D.BlockDevice.history c.compact.new.dev) (PowerLossLeavesOldOrNewContent (disk_of_geometry_and_blocks (g.D.BlockDevice.geometry d) (g.D.BlockDevice.blocks d)) (pair_address_in_header c.args.pair.now) (content_view c.in_ok-content.content)))
-    (c.in_ok-append_changes_to_log.ensures.no_room (ap Ok c.if-branch.false)).device moved in
+    let stops = kept_disk g.D.BlockDevice (λ k b h. IsTrueOfEachCallSince LeavesNoNewLogIfSuccessfulErase h (g.D.BlockDevice.history c.compact.new.dev)
+    → IsTrueAfterAnyPowerLossSince AreBlocksLeftByPowerLossInCall h (g.D.BlockDevice.history c.compact.new.dev) (PowerLossLeavesOldOrNewContent (disk_of_geometry_and_blocks k b) (pair_address_in_header c.args.pair.now) (content_view c.in_ok-content.content)))
+    (c.in_ok-append_changes_to_log.ensures.no_room (ap Ok c.if-branch.false)) moved in
     let fits : IsRawContentFittingPair (g.D.BlockDevice.geometry c.args.dev.now).block_size (g.D.BlockDevice.geometry c.args.dev.now).page (content_view c.in_ok-content.content) = search rules in
     λ cleanly. IsTrueAfterAnyPowerLossSince-weaker (λ disk left. left_by_change (disk_of_geometry_and_blocks (g.D.BlockDevice.geometry c.args.dev.now) (g.D.BlockDevice.blocks c.args.dev.now)) (pair_address_in_header c.args.pair.now) (changes_view c.args.changes.now) (content_view c.in_ok-content.content) disk made fits c.in_ok-content.ensures.logged left) (stops cleanly)
 
@@ -37,9 +39,9 @@ returns-clause-stops g c =
     let moved = subst (λ p. IsTrueOfEachCallSince LeavesNoNewLogIfSuccessfulErase (g.D.BlockDevice.history c.append_changes_to_log.new.dev) (g.D.BlockDevice.history c.compact.new.dev)
     → IsTrueAfterAnyPowerLossSince AreBlocksLeftByPowerLossInCall (g.D.BlockDevice.history c.append_changes_to_log.new.dev) (g.D.BlockDevice.history c.compact.new.dev) (PowerLossLeavesOldOrNewContent (disk_of_geometry_and_blocks (g.D.BlockDevice.geometry c.append_changes_to_log.new.dev) (g.D.BlockDevice.blocks c.append_changes_to_log.new.dev)) (pair_address_in_header p) (content_view c.in_ok-content.content)))
     (c.in_ok-append_changes_to_log.ensures.no_room (ap Ok c.if-branch.false)).pair c.in_ok-compact.ensures.stops in
-    let stops = subst (λ d. IsTrueOfEachCallSince LeavesNoNewLogIfSuccessfulErase (g.D.BlockDevice.history d) (g.D.BlockDevice.history c.compact.new.dev)
-    → IsTrueAfterAnyPowerLossSince AreBlocksLeftByPowerLossInCall (g.D.BlockDevice.history d) (g.D.BlockDevice.history c.compact.new.dev) (PowerLossLeavesOldOrNewContent (disk_of_geometry_and_blocks (g.D.BlockDevice.geometry d) (g.D.BlockDevice.blocks d)) (pair_address_in_header c.args.pair.now) (content_view c.in_ok-content.content)))
-    (c.in_ok-append_changes_to_log.ensures.no_room (ap Ok c.if-branch.false)).device moved in
+    let stops = kept_disk g.D.BlockDevice (λ k b h. IsTrueOfEachCallSince LeavesNoNewLogIfSuccessfulErase h (g.D.BlockDevice.history c.compact.new.dev)
+    → IsTrueAfterAnyPowerLossSince AreBlocksLeftByPowerLossInCall h (g.D.BlockDevice.history c.compact.new.dev) (PowerLossLeavesOldOrNewContent (disk_of_geometry_and_blocks k b) (pair_address_in_header c.args.pair.now) (content_view c.in_ok-content.content)))
+    (c.in_ok-append_changes_to_log.ensures.no_room (ap Ok c.if-branch.false)) moved in
     let fits : IsRawContentFittingPair (g.D.BlockDevice.geometry c.args.dev.now).block_size (g.D.BlockDevice.geometry c.args.dev.now).page (content_view c.in_ok-content.content) =
     subst (λ (k : Geometry). IsRawContentFittingPair k.block_size k.page (content_view c.in_ok-content.content)) c.geometry-geometry.ensures
     (c.is_content_within_pair_limits.ensures.0 (search rules)) in
@@ -83,12 +85,12 @@ returns-clause-done g c done =
     (c.in_ok-append_changes_to_log.ensures.no_room (ap Ok c.if-branch.false)).pair c.in_ok-compact.ensures.done.holds in
     let moved = subst (λ p. KeepsFirstEntryOfPairLog (disk_of_geometry_and_blocks (g.D.BlockDevice.geometry c.append_changes_to_log.new.dev) (g.D.BlockDevice.blocks c.append_changes_to_log.new.dev)) (pair_address_in_header p) (Some (content_view c.in_ok-content.content)) (disk_of_geometry_and_blocks (g.D.BlockDevice.geometry c.compact.new.dev) (g.D.BlockDevice.blocks c.compact.new.dev)))
     (c.in_ok-append_changes_to_log.ensures.no_room (ap Ok c.if-branch.false)).pair c.in_ok-compact.ensures.done.first in
-    let first = subst (λ d. KeepsFirstEntryOfPairLog (disk_of_geometry_and_blocks (g.D.BlockDevice.geometry d) (g.D.BlockDevice.blocks d)) (pair_address_in_header c.args.pair.now) (Some (content_view c.in_ok-content.content)) (disk_of_geometry_and_blocks (g.D.BlockDevice.geometry c.compact.new.dev) (g.D.BlockDevice.blocks c.compact.new.dev)))
-    (c.in_ok-append_changes_to_log.ensures.no_room (ap Ok c.if-branch.false)).device moved in
+    let first = kept_disk g.D.BlockDevice (λ k b h. KeepsFirstEntryOfPairLog (disk_of_geometry_and_blocks k b) (pair_address_in_header c.args.pair.now) (Some (content_view c.in_ok-content.content)) (disk_of_geometry_and_blocks (g.D.BlockDevice.geometry c.compact.new.dev) (g.D.BlockDevice.blocks c.compact.new.dev)))
+    (c.in_ok-append_changes_to_log.ensures.no_room (ap Ok c.if-branch.false)) moved in
     let anew = subst (λ p. IsPairRewrittenInOtherBlock (g.D.BlockDevice.geometry c.append_changes_to_log.new.dev).page p (content_view c.in_ok-content.content) (g.D.BlockDevice.blocks c.append_changes_to_log.new.dev) (g.D.BlockDevice.blocks c.compact.new.dev)
     (g.D.BlockDevice.history c.append_changes_to_log.new.dev) (g.D.BlockDevice.history c.compact.new.dev) c.compact.new.pair) (c.in_ok-append_changes_to_log.ensures.no_room (ap Ok c.if-branch.false)).pair c.in_ok-compact.ensures.done.compacted in
-    let back = subst (λ d. IsPairRewrittenInOtherBlock (g.D.BlockDevice.geometry d).page c.args.pair.now (content_view c.in_ok-content.content) (g.D.BlockDevice.blocks d) (g.D.BlockDevice.blocks c.compact.new.dev)
-    (g.D.BlockDevice.history d) (g.D.BlockDevice.history c.compact.new.dev) c.compact.new.pair) (c.in_ok-append_changes_to_log.ensures.no_room (ap Ok c.if-branch.false)).device anew in
+    let back = kept_disk g.D.BlockDevice (λ k b h. IsPairRewrittenInOtherBlock k.page c.args.pair.now (content_view c.in_ok-content.content) b (g.D.BlockDevice.blocks c.compact.new.dev)
+    h (g.D.BlockDevice.history c.compact.new.dev) c.compact.new.pair) (c.in_ok-append_changes_to_log.ensures.no_room (ap Ok c.if-branch.false)) anew in
     record {
       new = content_view c.in_ok-content.content;
       made = made;
@@ -96,19 +98,19 @@ returns-clause-done g c done =
       logged = c.in_ok-content.ensures.logged;
       holds = holds;
       first = first;
-      appended = λ appends. absurd ((c.in_ok-append_changes_to_log.ensures.no_room (ap Ok c.if-branch.false)).no_room appends);
+      appended = λ appends. absurd ((c.in_ok-append_changes_to_log.ensures.no_room (ap Ok c.if-branch.false)).no_room (appends_until (c.in_ok-append_changes_to_log.ensures.no_room (ap Ok c.if-branch.false)).history back.anew.blanks appends));
       compacted = λ full. back;
     }
 
 pub returns-clause-device : goal.returns-clause-device
 returns-clause-device g c =
     let moved = subst (λ p. ChangesOnlyBlocksWithinReadLimit g.D.BlockDevice 1 (blocks_of_pair_address (pair_address_in_header p)) c.append_changes_to_log.new.dev c.compact.new.dev) (c.in_ok-append_changes_to_log.ensures.no_room (ap Ok c.if-branch.false)).pair (record { only = c.in_ok-compact.ensures.writes.device; few = c.in_ok-compact.ensures.writes.few }) in
-    subst (λ d. ChangesOnlyBlocksWithinReadLimit g.D.BlockDevice 1 (blocks_of_pair_address (pair_address_in_header c.args.pair.now)) d c.compact.new.dev) (c.in_ok-append_changes_to_log.ensures.no_room (ap Ok c.if-branch.false)).device moved
+    reading_trans (kept_unread g.D.BlockDevice (blocks_of_pair_address (pair_address_in_header c.args.pair.now)) (c.in_ok-append_changes_to_log.ensures.no_room (ap Ok c.if-branch.false))) moved
 
 pub returns-in_err-compact-clause-device : goal.returns-in_err-compact-clause-device
 returns-in_err-compact-clause-device g c =
     let moved = subst (λ p. ChangesOnlyBlocksWithinReadLimit g.D.BlockDevice 1 (blocks_of_pair_address (pair_address_in_header p)) c.append_changes_to_log.new.dev c.compact.new.dev) (c.in_ok-append_changes_to_log.ensures.no_room (ap Ok c.if-branch.false)).pair (record { only = c.in_err-compact.ensures.writes.device; few = c.in_err-compact.ensures.writes.few }) in
-    subst (λ d. ChangesOnlyBlocksWithinReadLimit g.D.BlockDevice 1 (blocks_of_pair_address (pair_address_in_header c.args.pair.now)) d c.compact.new.dev) (c.in_ok-append_changes_to_log.ensures.no_room (ap Ok c.if-branch.false)).device moved
+    reading_trans (kept_unread g.D.BlockDevice (blocks_of_pair_address (pair_address_in_header c.args.pair.now)) (c.in_ok-append_changes_to_log.ensures.no_room (ap Ok c.if-branch.false))) moved
 
 pub returns-then-not-is_content_within_pair_limits-clause-full : goal.returns-then-not-is_content_within_pair_limits-clause-full
 returns-then-not-is_content_within_pair_limits-clause-full g c is =
@@ -134,11 +136,11 @@ pub returns-in_err-compact-clause-faults : goal.returns-in_err-compact-clause-fa
 returns-in_err-compact-clause-faults g c =
     let p = err_from_is_err_and c.from_residual-in_err-compact.result c.from_residual-in_err-compact.ensures.1 in
     reports_io p.1 p.2 c.in_err-compact.ensures.writes.errors
-    (subst (λ d. fault_count_of_history (g.D.BlockDevice.history d) < fault_count_of_history (g.D.BlockDevice.history c.compact.new.dev)) (c.in_ok-append_changes_to_log.ensures.no_room (ap Ok c.if-branch.false)).device (c.in_err-compact.ensures.writes.faults.fault (ap Err c.in_err-compact.ensures.writes.errors)))
+    (kept_disk g.D.BlockDevice (λ k b h. fault_count_of_history h < fault_count_of_history (g.D.BlockDevice.history c.compact.new.dev)) (c.in_ok-append_changes_to_log.ensures.no_room (ap Ok c.if-branch.false)) (c.in_err-compact.ensures.writes.faults.fault (ap Err c.in_err-compact.ensures.writes.errors)))
 
 pub returns-clause-faults : goal.returns-clause-faults
 returns-clause-faults g c =
-    reports_ok (subst (λ d. fault_count_of_history (g.D.BlockDevice.history c.compact.new.dev) ≡ fault_count_of_history (g.D.BlockDevice.history d)) (c.in_ok-append_changes_to_log.ensures.no_room (ap Ok c.if-branch.false)).device (c.in_ok-compact.ensures.writes.faults.no_fault (λ gives. absurd (cc))))
+    reports_ok (kept_disk g.D.BlockDevice (λ k b h. fault_count_of_history (g.D.BlockDevice.history c.compact.new.dev) ≡ fault_count_of_history h) (c.in_ok-append_changes_to_log.ensures.no_room (ap Ok c.if-branch.false)) (c.in_ok-compact.ensures.writes.faults.no_fault (λ gives. absurd (cc))))
 
 pub read_content_and_apply_changes-requires-clause-ends : goal.read_content_and_apply_changes-requires-clause-ends
 read_content_and_apply_changes-requires-clause-ends g c = ends_here _ _ c.args.pair.now c.requires.can.held c.args.block.now c.requires.can.is_pair c.requires.block

@@ -3,19 +3,16 @@ use Rattle.std.specs.Prelude.{min, take}
 use Rattle.lfs_device.specs.declared.geometry.Geometry.{Geometry}
 use Rattle.lfs_model.specs.Blocks.{block_bytes_by_number, bytes_after_overwrite_at, programmed}
 use Rattle.lfs_model.specs.Geometry.{IsValidGeometry}
-use Rattle.lfs_model.specs.History.{AreBytesUnprogrammed, erase_count_of_history, program_count_of_history, read_count_of_history}
+use Rattle.lfs_model.specs.History.{AreBytesUnprogrammed, blank_count_of_history, erase_count_of_history, program_count_of_history, read_count_of_history}
 use Rattle.lfs_tag.specs.Builder.{padded_commit_end}
 use Rattle.lfs_pair.specs.Writing.{LogGetsCommit}
-use Rattle.lfs_model.proofs.Histories.{goes_on, IsTrueAfterAnyPowerLossSince-read_count_of_history, AreBlocksLeftByPowerLossInCall-read, AreBytesUnprogrammed-read_count_of_history, AreBytesUnprogrammed-part, is_byte_unprogrammed-program, erase_count_of_history-read_count_of_history, program_count_of_history-read_count_of_history}
+use Rattle.lfs_model.proofs.Histories.{goes_on, IsTrueAfterAnyPowerLossSince-read_count_of_history, AreBlocksLeftByPowerLossInCall-read, AreBytesUnprogrammed-read_count_of_history, AreBytesUnprogrammed-part, is_byte_unprogrammed-program, blank_count_of_history-read_count_of_history, erase_count_of_history-read_count_of_history, program_count_of_history-read_count_of_history}
 use Rattle.lfs_model.proofs.Overwrites.{AreBlocksEqualExceptOne-refl, block_bytes_by_number-programmed, take-overwritten}
 use Rattle.lfs_pair.proofs.Committed.{gets_commit, goes_into, left_in_block}
 use Rattle.lfs_pair.proofs.Calls.{block_by_program, block_by_reads, block_trans}
 use Rattle.lfs_pair.proofs.programs.program_commit_at.Goals as goal
 
 -- before the program
-
-pub returns-in_err-next-clause-erases : goal.returns-in_err-next-clause-erases
-returns-in_err-next-clause-erases g c = erase_count_of_history-read_count_of_history c.read_four_block_bytes_at_offset.ensures.device.reads
 
 pub returns-in_err-next-clause-stops : goal.returns-in_err-next-clause-stops
 returns-in_err-next-clause-stops g c = IsTrueAfterAnyPowerLossSince-read_count_of_history AreBlocksLeftByPowerLossInCall-read c.read_four_block_bytes_at_offset.ensures.device.reads (AreBlocksEqualExceptOne-refl _ _, inl refl)
@@ -33,12 +30,6 @@ whole_end at padded result size page count is ends valid = omega (arith, valid.n
 
 at_least : (at padded long end : ℕ) → long ≡ padded → end ≡ at + padded → at + long ≤ end
 at_least at padded long end same is = omega arith
-
-pub returns-in_err-prog-clause-erases : goal.returns-in_err-prog-clause-erases
-returns-in_err-prog-clause-erases g c =
-    let here = ap erase_count_of_history c.prog.ensures.history in
-    let before = erase_count_of_history-read_count_of_history c.read_four_block_bytes_at_offset.ensures.device.reads in
-    omega arith
 
 pub returns-in_err-prog-clause-stops : goal.returns-in_err-prog-clause-stops
 returns-in_err-prog-clause-stops g c =
@@ -76,12 +67,6 @@ returns-clause-written g c =
           (is_byte_unprogrammed-program {low = c.args.at} c.prog.ensures.history old (omega arith) (at_least _ _ _ _ c.in_ok-pages.ensures.size end));
     }
 
-pub returns-clause-erases : goal.returns-clause-erases
-returns-clause-erases g c =
-    let here = ap erase_count_of_history c.prog.ensures.history in
-    let before = erase_count_of_history-read_count_of_history c.read_four_block_bytes_at_offset.ensures.device.reads in
-    omega arith
-
 pub returns-clause-stops : goal.returns-clause-stops
 returns-clause-stops g c =
     let end : c.args.at + c.end_of_padded_commit.result ≡ c.args.at + padded_commit_end c.args.builder = whole_end _ _ _ _ _ _ c.end_of_padded_commit.ensures c.requires.ends (g.D.BlockDevice.geometry c.args.dev.now).valid in
@@ -110,6 +95,9 @@ returns-clause-writes g c = record {
 
 pub returns-clause-programs : goal.returns-clause-programs
 returns-clause-programs g c =
-    let here = ap program_count_of_history c.prog.ensures.history in
-    let before = program_count_of_history-read_count_of_history c.read_four_block_bytes_at_offset.ensures.device.reads in
-    omega arith
+    let reads = c.read_four_block_bytes_at_offset.ensures.device.reads in
+    record {
+      erases = let here = ap erase_count_of_history c.prog.ensures.history in let before = erase_count_of_history-read_count_of_history reads in omega arith;
+      programs = let here = ap program_count_of_history c.prog.ensures.history in let before = program_count_of_history-read_count_of_history reads in omega arith;
+      blanks = let here = ap blank_count_of_history c.prog.ensures.history in let before = blank_count_of_history-read_count_of_history reads in omega arith;
+    }

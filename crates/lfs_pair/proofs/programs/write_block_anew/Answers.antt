@@ -32,7 +32,7 @@ returns-clause-anew g c =
     let holds = anew_holds (block_bytes_by_number (g.D.BlockDevice.blocks c.program_commit_at.new.dev) c.args.block)
     (is_anew (content_view c.args.content.now) c.push_content.ensures c.new-builder.ensures c.requires.buf (ap (λ (k : Geometry). k.page) c.geometry-page.ensures) c.from_bits-before.ensures)
     (fits_sound c.requires.logged c.requires.names c.requires.fits) c.in_ok-written.ensures.adds.commit in
-    record { holds = holds; erases = search rules; programs = search rules }
+    record { holds = holds; erases = search rules; programs = search rules; blanks = search rules }
 
 pub returns-clause-stops : goal.returns-clause-stops
 returns-clause-stops g c =

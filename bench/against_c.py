@@ -108,7 +108,8 @@ def show_row(options, room, row, blocks, count):
 
 def show_wear(options, room, row, blocks, count):
     print(f"{row}, {count} operations, {blocks} blocks")
-    cases = [("ours", [options.program, "row", row, blocks, count])]
+    ours = [options.program, "row", row, blocks, count]
+    cases = [("ours", ours), ("ours, blank checks", [*ours, "blanks"])]
     cases += [(f"C, cache {cache}, block_cycles {cycles}", [f"{room}/bench", row, blocks, count, cache, cycles]) for cache, cycles in WEAR_CASES]
     for name, words in cases:
         told = output(*words).stdout

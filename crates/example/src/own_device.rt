@@ -106,6 +106,19 @@ impl BlockDevice for Chip {
         self.trace = trace;
         Ok(())
     }
+
+    // The chip's own check: bytes are blank where each is 0xff.
+    fn is_unprogrammed(&mut self, block: u32, off: u32, len: u32) -> Result<bool, Error> {
+        let start = self.position(block, off);
+        if self.bytes[start..start + len as usize]
+            .iter()
+            .any(|byte| *byte != 0xff)
+        {
+            return Ok(false);
+        }
+        self.trace = Trace::with_history_chosen_by_proof(self, &(block, off, len));
+        Ok(true)
+    }
 }
 
 // How many blocks are used on a chip with a directory.

@@ -11,9 +11,12 @@ use std::time::Instant;
 
 const BLOCK: u32 = 4096;
 
-// Makes an empty file system on a device in memory.
-fn formatted_session(alloc: Global, blocks: u32) -> Result<Measured, Error> {
-    let device = RamDevice::blank(alloc, Geometry::new(BLOCK, 256, blocks)?)?;
+// Makes an empty file system on a device in memory, which may say which bytes are blank.
+fn formatted_session(alloc: Global, blocks: u32, checks_blanks: bool) -> Result<Measured, Error> {
+    let mut device = RamDevice::blank(alloc, Geometry::new(BLOCK, 256, blocks)?)?;
+    if checks_blanks {
+        device = device.with_blank_checks();
+    }
     let erase_counts = Vec::from_elem(alloc, 0u32, blocks as usize).map_err(no_memory_error)?;
     format(
         alloc,
@@ -160,8 +163,14 @@ fn measure_benchmark_row(
 /// Performs a row on a device of so many blocks of 4,096 bytes, with so many operations. Prints the
 /// row, its reads, bytes read, programs, bytes programmed, erases and nanoseconds. Of a row about
 /// wear it also prints how often each block was erased.
-pub fn run_benchmark_row(rt: &HostRuntime, row: &str, blocks: u32, count: u32) -> io::Result<()> {
-    let mut session = match formatted_session(rt.alloc(), blocks) {
+pub fn run_benchmark_row(
+    rt: &HostRuntime,
+    row: &str,
+    blocks: u32,
+    count: u32,
+    checks_blanks: bool,
+) -> io::Result<()> {
+    let mut session = match formatted_session(rt.alloc(), blocks, checks_blanks) {
         Ok(session) => session,
         Err(error) => return println!(rt; "{error:?}"),
     };

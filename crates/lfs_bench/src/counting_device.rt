@@ -148,4 +148,8 @@ impl<D: BlockDevice> BlockDevice for CountingDevice<D> {
         }
         self.inner.erase(block)
     }
+
+    fn is_unprogrammed(&mut self, block: u32, off: u32, len: u32) -> Result<bool, Error> {
+        self.inner.is_unprogrammed(block, off, len)
+    }
 }

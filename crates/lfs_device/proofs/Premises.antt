@@ -2,7 +2,7 @@
 use Rattle.std.proofs.Common.{◌≡◌, ℕ, Bool, true, false, cond, length, Option, Some, None, List, [], ◌∷◌, inl, inr, refl, sym, subst, ◌∙◌}
 use Rattle.std.proofs.Math.Logic.{∥∥₁_map}
 use Rattle.lfs_model.specs.Blocks.{Blocks, block_bytes_by_number}
-use Rattle.lfs_model.specs.History.{DeviceCall, Read, Program, Erase, DeviceCallEvent, device_call_event_with_blocks}
+use Rattle.lfs_model.specs.History.{DeviceCall, Read, Program, Erase, Blank, DeviceCallEvent, device_call_event_with_blocks}
 use Rattle.lfs_model.specs.Conformance.{DoSuccessfulCallsHaveOnlyTheirEffect}
 use Rattle.lfs_model.specs.Premises.{IsHistoryMeetingPowerLossPremises}
 use Rattle.lfs_model.specs.Stops.{MayStoppedEraseLeaveBlock}
@@ -32,6 +32,9 @@ meets_read block off len before after = record { erases = tt; failed = λ is. ab
 
 pub meets_program : (block off : ℕ) (bytes : List ℕ) (before after : Blocks) → Meets (Program block off bytes) false before after
 meets_program block off bytes before after = record { erases = tt; failed = λ is. absurd (cc) }
+
+pub meets_blank : (block off len : ℕ) (before after : Blocks) → Meets (Blank block off len) false before after
+meets_blank block off len before after = record { erases = tt; failed = λ is. absurd (cc) }
 
 left_by_erased : (erased : Erased) (block : List ℕ) → ErasedFillIsByte erased → MayStoppedEraseLeaveBlock block (block_bytes_after_erase erased block)
 left_by_erased (Fill byte) block small = inr (no_log-repeated (length block) byte small)

@@ -1,7 +1,7 @@
-ghost use Rattle.std.specs.Prelude.{◌≡◌, ◌≤◌, ◌<◌, ◌+◌, ◌*◌, ◌%◌, [], ◌∷◌, false, length, replicate, slice_range, IsOk, IfOk, OnErr, MatchResult};
+ghost use Rattle.std.specs.Prelude.{◌≡◌, ◌≤◌, ◌<◌, ◌+◌, ◌*◌, ◌%◌, [], ◌∷◌, false, true, length, replicate, slice_range, IsOk, IfOk, OnErr, MatchResult};
 ghost use Rattle.lfs_model.specs.Blocks.{AreBlocksEqualExceptOne, block_bytes_by_number, cut, bytes_after_overwrite_at, programmed};
 ghost use Rattle.lfs_model.specs.History.{device_call_event_with_blocks, fault_count_of_history, AreBytesUnprogrammed, AreBlocksLeftByNewestCall};
-ghost use Rattle.lfs_model.specs.History.DeviceCall.{Read, Program, Erase};
+ghost use Rattle.lfs_model.specs.History.DeviceCall.{Read, Program, Erase, Blank};
 ghost use Rattle.lfs_model.specs.Conformance.{DoSuccessfulCallsHaveOnlyTheirEffect};
 ghost use Rattle.lfs_model.specs.Premises.{IsHistoryMeetingPowerLossPremises};
 ghost use Rattle.lfs_device.specs.Bytes.{AreAllNumbersBytes};
@@ -26,6 +26,8 @@ pub struct RamDevice {
     geometry: Geometry,
     bytes: Vec<u8>,
     erased: Erased,
+    // Whether the device says that bytes are blank.
+    checks_blanks: bool,
     trace: Trace,
     ghost are_bytes: { AreAllNumbersBytes bytes.items },
     ghost size: { length bytes.items ≡ geometry.block_size * geometry.block_count },
@@ -55,6 +57,7 @@ impl RamDevice {
             geometry,
             bytes,
             erased: Erased::Fill(0xff),
+            checks_blanks: false,
             trace: Trace::with_history_chosen_by_proof(&geometry, &()),
         })
     }
@@ -76,6 +79,7 @@ impl RamDevice {
             geometry,
             bytes,
             erased: Erased::Fill(0xff),
+            checks_blanks: false,
             trace: Trace::with_history_chosen_by_proof(&geometry, &()),
         })
     }
@@ -91,12 +95,38 @@ impl RamDevice {
             geometry,
             bytes,
             erased: _,
+            checks_blanks,
             trace,
         } = self;
         RamDevice {
             geometry,
             bytes,
             erased,
+            checks_blanks,
+            trace,
+        }
+    }
+
+    /// Returns the same device, which says from now on that bytes are blank where each of them is
+    /// 0xff. Otherwise it never says so.
+    pub fn with_blank_checks(self) -> RamDevice
+        ensures geometry { geometry_of_ram_device result ≡ geometry_of_ram_device self }
+        ensures bytes { ram_bytes result ≡ ram_bytes self }
+        ensures erased { erase_effect_of_ram result ≡ erase_effect_of_ram self }
+        ensures history { history_of_ram_device result ≡ history_of_ram_device self }
+    {
+        let RamDevice {
+            geometry,
+            bytes,
+            erased,
+            checks_blanks: _,
+            trace,
+        } = self;
+        RamDevice {
+            geometry,
+            bytes,
+            erased,
+            checks_blanks: true,
             trace,
         }
     }
@@ -230,4 +260,27 @@ impl BlockDevice for RamDevice {
         self.trace = trace;
         Ok(())
     }
+
+    fn is_unprogrammed(&mut self, block: u32, off: u32, len: u32) -> Result<bool, Error>
+        requires in_device { block < (geometry_of_ram_device self.old).block_count }
+        requires in_block { off + len ≤ (geometry_of_ram_device self.old).block_size }
+        ensures ok { IsOk result }
+        ensures same { ram_blocks self.new ≡ ram_blocks self.old }
+        ensures geometry { geometry_of_ram_device self.new ≡ geometry_of_ram_device self.old }
+        ensures erased { erase_effect_of_ram self.new ≡ erase_effect_of_ram self.old }
+        ensures yes { result ≡ Ok true → history_of_ram_device self.new ≡ device_call_event_with_blocks (Blank block off len) (ram_blocks self.old) (ram_blocks self.new) false ∷ history_of_ram_device self.old }
+        ensures no { result ≡ Ok false → history_of_ram_device self.new ≡ history_of_ram_device self.old }
+    {
+        let start = self.byte_index_of_block_offset(block, off);
+        if !self.checks_blanks || !are_all_erased(&self.bytes[start..start + len as usize]) {
+            return Ok(false);
+        }
+        self.trace = Trace::with_history_chosen_by_proof(self, &(block, off, len));
+        Ok(true)
+    }
+}
+
+// Whether each byte is 0xff, as flash is after an erase.
+fn are_all_erased(bytes: &[u8]) -> bool {
+    bytes.iter().all(|byte| *byte == 0xff)
 }

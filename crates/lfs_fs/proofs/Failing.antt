@@ -5,7 +5,7 @@ use Rattle.lfs_device.specs.declared.error.Error.{Error}
 use Rattle.lfs_device.specs.declared.error.Error.TheVariants.{Io, NoMemory}
 use Rattle.lfs_model.specs.Blocks.{Blocks}
 use Rattle.lfs_model.specs.Disk.{SameGeometry}
-use Rattle.lfs_model.specs.History.{DeviceCallEvent, DeviceCall, Read, Program, Erase, IsTrueOfEachCall, IsReadThatKeepsBlocks, read_count_of_call, program_count_of_call, erase_count_of_call, fault_count_of_history}
+use Rattle.lfs_model.specs.History.{DeviceCallEvent, DeviceCall, Read, Program, Erase, Blank, IsTrueOfEachCall, IsReadThatKeepsBlocks, read_count_of_call, program_count_of_call, erase_count_of_call, fault_count_of_history}
 use Rattle.lfs_model.specs.Operations.{Operation}
 use Rattle.lfs_model.specs.Session.{OpenFilesByNumber, Session}
 use Rattle.lfs_model.specs.State.{SessionHealth, HasFailed, Healthy, is_remount_operation}
@@ -19,6 +19,7 @@ none_written : (call : DeviceCall) → read_count_of_call call ≡ 1 → (progra
 none_written (Read block off len) e = (refl, refl)
 none_written (Program block off bytes) e = absurd (cc)
 none_written (Erase block) e = absurd (cc)
+none_written (Blank block off len) e = absurd (cc)
 
 pub reads_write_nothing : (blocks : Blocks) (events : List DeviceCallEvent) → IsTrueOfEachCall (IsReadThatKeepsBlocks blocks) events → AreCallsWithoutWrites events
 reads_write_nothing blocks [] h = (refl, refl)

@@ -84,4 +84,12 @@ impl<D: BlockDevice> BlockDevice for DeviceWithCountedFaults<D> {
         }
         outcome
     }
+
+    fn is_unprogrammed(&mut self, block: u32, off: u32, len: u32) -> Result<bool, Error> {
+        let outcome = self.inner.is_unprogrammed(block, off, len);
+        if outcome.is_err() {
+            self.failed = self.failed.saturating_add(1);
+        }
+        outcome
+    }
 }

@@ -54,18 +54,16 @@ fn take_log_by_known_end_repeatedly(block: &[u8], rounds: u32) -> u64 {
     sum
 }
 
-fn find_names_repeatedly(alloc: Global, log: &Log<'_>, rounds: u32) -> u64 {
+fn find_names_repeatedly(log: &Log<'_>, rounds: u32) -> u64 {
     let mut sum = 0u64;
     for round in 0..rounds {
-        if let Ok(found) = find(
-            alloc,
+        let found = find(
             log,
             NameOrder::ShorterFirst,
             &file_name_of_number(round),
             None,
-        ) {
-            sum = sum.wrapping_add(u64::from(id_of_lookup(found)));
-        }
+        );
+        sum = sum.wrapping_add(u64::from(id_of_lookup(found)));
     }
     sum
 }
@@ -87,14 +85,8 @@ pub fn benchmark_log_lookups(rt: &HostRuntime, rounds: u32) -> io::Result<()> {
     let mut block = [0xffu8; BLOCK];
     fill_block_with_log(&mut block);
     let log = Log::read(&block);
-    let last = find(
-        rt.alloc(),
-        &log,
-        NameOrder::ShorterFirst,
-        &file_name_of_number(0),
-        None,
-    )?;
-    let none = find(rt.alloc(), &log, NameOrder::ShorterFirst, b"\0", None)?;
+    let last = find(&log, NameOrder::ShorterFirst, &file_name_of_number(0), None);
+    let none = find(&log, NameOrder::ShorterFirst, b"\0", None);
     println!(rt; "{} {}", id_of_lookup(last), id_of_lookup(none))?;
     let start = Instant::now(rt)?;
     let read = read_log_repeatedly(&block, rounds);
@@ -103,7 +95,7 @@ pub fn benchmark_log_lookups(rt: &HostRuntime, rounds: u32) -> io::Result<()> {
     let known = take_log_by_known_end_repeatedly(&block, rounds);
     let knowing = start.elapsed(rt)?;
     let start = Instant::now(rt)?;
-    let found = find_names_repeatedly(rt.alloc(), &log, rounds);
+    let found = find_names_repeatedly(&log, rounds);
     let finding = start.elapsed(rt)?;
     let start = Instant::now(rt)?;
     let contents = read_log_content_repeatedly(rt.alloc(), &log, rounds);

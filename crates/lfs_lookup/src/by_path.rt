@@ -53,7 +53,7 @@ pub fn lookup_result_at_path<D: BlockDevice>(
     let names = path.names(alloc)?;
     let state = thread.state();
     let moved = spot_of_moved_slot(thread, &state);
-    look_up_with_moved_slot_hidden(alloc, thread, root, &names, moved)
+    look_up_with_moved_slot_hidden(thread, root, &names, moved)
 }
 
 // Returns how many bytes a file has.

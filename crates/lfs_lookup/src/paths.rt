@@ -24,7 +24,6 @@ use lfs_device::{BlockDevice, Error};
 use lfs_tag::MoveState;
 use lfs_tag::kinds::DELETE;
 use lfs_thread::{Thread, pair_number_at_address};
-use std::alloc::Global;
 
 // What a path leads to, where a directory is wanted.
 #[derive(Clone, Copy, Debug, PartialEq, Eq, Drop)]
@@ -111,7 +110,6 @@ pub(crate) fn spot_of_moved_slot<D: BlockDevice>(
 
 // Returns the directory of that name in a directory, where a slot may count as deleted.
 fn find_subdirectory_by_name<D: BlockDevice>(
-    alloc: Global,
     thread: &mut Thread<D>,
     first: usize,
     name: &[u8],
@@ -126,7 +124,7 @@ fn find_subdirectory_by_name<D: BlockDevice>(
     ensures loads { ReadsNothingAndKeepsPairsWhereAllCached (hard_tail_joined_pairs (drop first thread.old.kept.pairs)) thread.old thread.new result }
     ensures reading { OnlyReadsThreadAndReportsErrors thread.old thread.new result }
 {
-    match find_name_with_slot_hidden(alloc, thread, first, name, moved)? {
+    match find_name_with_slot_hidden(thread, first, name, moved)? {
         Some((_, FileOrDirectory::Directory(at))) => {
             let next = pair_number_at_address(thread, at).unwrap();
             Ok(Parent::Directory(next))
@@ -142,7 +140,6 @@ fn find_subdirectory_by_name<D: BlockDevice>(
 //
 // Errors are those of `find_name`.
 pub(crate) fn find_directory_that_names_lead_to<D: BlockDevice>(
-    alloc: Global,
     thread: &mut Thread<D>,
     root: usize,
     path: &[&[u8]],
@@ -159,7 +156,7 @@ pub(crate) fn find_directory_that_names_lead_to<D: BlockDevice>(
 {
     let mut first = root;
     for name in path {
-        first = match find_subdirectory_by_name(alloc, thread, first, name, moved)? {
+        first = match find_subdirectory_by_name(thread, first, name, moved)? {
             Parent::Directory(next) => next,
             Parent::File => return Ok(Parent::File),
             Parent::Nothing => return Ok(Parent::Nothing),
@@ -170,7 +167,6 @@ pub(crate) fn find_directory_that_names_lead_to<D: BlockDevice>(
 
 // Returns the entry of a name in a directory.
 fn look_up_in_directory<D: BlockDevice>(
-    alloc: Global,
     thread: &mut Thread<D>,
     parent: usize,
     name: &[u8],
@@ -185,7 +181,7 @@ fn look_up_in_directory<D: BlockDevice>(
     ensures works { thread.new.failed ≡ false }
     ensures errors { IoMeantFaultNoMemoryWroteNothing thread.old.kept thread.new.kept result }
 {
-    match find_name(alloc, thread, parent, name)? {
+    match find_name(thread, parent, name)? {
         NamePositionInDirectory::Found(slot, FileOrDirectory::Directory(at)) => {
             let first = pair_number_at_address(thread, at).unwrap();
             Ok(PathLookup::Directory {
@@ -212,7 +208,6 @@ fn look_up_in_directory<D: BlockDevice>(
 /// Errors: `Io` where a read failed. `NoMemory` where memory for a block isn't granted. The thread
 /// works after either.
 pub fn look_up<D: BlockDevice>(
-    alloc: Global,
     thread: &mut Thread<D>,
     root: usize,
     path: &[&[u8]],
@@ -230,8 +225,8 @@ pub fn look_up<D: BlockDevice>(
     let Some((name, above)) = path.split_last() else {
         return Ok(PathLookup::Root);
     };
-    match find_directory_that_names_lead_to(alloc, thread, root, above, None)? {
-        Parent::Directory(parent) => look_up_in_directory(alloc, thread, parent, name),
+    match find_directory_that_names_lead_to(thread, root, above, None)? {
+        Parent::Directory(parent) => look_up_in_directory(thread, parent, name),
         Parent::File => Ok(PathLookup::ParentIsFile),
         Parent::Nothing => Ok(PathLookup::ParentIsMissing),
     }
@@ -239,7 +234,6 @@ pub fn look_up<D: BlockDevice>(
 
 // Returns the entry of a name in a directory, where a slot may count as deleted.
 fn look_up_name_with_slot_hidden<D: BlockDevice>(
-    alloc: Global,
     thread: &mut Thread<D>,
     parent: usize,
     name: &[u8],
@@ -255,7 +249,7 @@ fn look_up_name_with_slot_hidden<D: BlockDevice>(
     ensures loads { ReadsNothingAndKeepsPairsWhereAllCached (hard_tail_joined_pairs (drop parent thread.old.kept.pairs)) thread.old thread.new result }
     ensures reading { OnlyReadsThreadAndReportsErrors thread.old thread.new result }
 {
-    match find_name_with_slot_hidden(alloc, thread, parent, name, moved)? {
+    match find_name_with_slot_hidden(thread, parent, name, moved)? {
         Some((slot, FileOrDirectory::Directory(at))) => {
             let first = pair_number_at_address(thread, at).unwrap();
             Ok(VisiblePathLookup::Directory { slot, first })
@@ -274,7 +268,6 @@ fn look_up_name_with_slot_hidden<D: BlockDevice>(
 //
 // Errors are those of `find_name`.
 pub(crate) fn look_up_with_moved_slot_hidden<D: BlockDevice>(
-    alloc: Global,
     thread: &mut Thread<D>,
     root: usize,
     path: &[&[u8]],
@@ -293,10 +286,8 @@ pub(crate) fn look_up_with_moved_slot_hidden<D: BlockDevice>(
     let Some((name, above)) = path.split_last() else {
         return Ok(VisiblePathLookup::Root);
     };
-    match find_directory_that_names_lead_to(alloc, thread, root, above, moved)? {
-        Parent::Directory(parent) => look_up_name_with_slot_hidden(
-            alloc, thread, parent, name, moved,
-        ),
+    match find_directory_that_names_lead_to(thread, root, above, moved)? {
+        Parent::Directory(parent) => look_up_name_with_slot_hidden(thread, parent, name, moved),
         Parent::File => Ok(VisiblePathLookup::ParentIsFile),
         Parent::Nothing => Ok(VisiblePathLookup::ParentIsMissing),
     }

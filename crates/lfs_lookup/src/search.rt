@@ -16,7 +16,6 @@ use crate::entry::{FileOrDirectory, entry_of_struct};
 use lfs_device::{BlockDevice, Error, NameOrder};
 use lfs_tag::{Log, Lookup, Steps, find, find_slot_struct};
 use lfs_thread::Thread;
-use std::alloc::{AllocError, Global};
 
 /// A slot, or the place of one: a pair's number in the thread and an id in the pair.
 #[derive(Clone, Copy, Debug, PartialEq, Eq, Drop)]
@@ -43,28 +42,25 @@ enum NamePositionInPair {
 
 // Returns where a name is among the slots of a log, where one slot may be passed over.
 fn find_name_in_log(
-    alloc: Global,
     log: &Log<'_>,
     order: NameOrder,
     name: &[u8],
     skip: Option<u16>,
-) -> Result<NamePositionInPair, AllocError>
+) -> NamePositionInPair
     requires { HasLogWhoseSlotsHaveNameAndStruct log.now }
-    ensures { (content : PairContent) → IsLogBlockOfContent log.now content → IfOk result (SearchFindsInPair order skip content.slots name.now) }
+    ensures { (content : PairContent) → IsLogBlockOfContent log.now content → SearchFindsInPair order skip content.slots name.now result }
 {
-    let found = find(alloc, log, order, name, skip)?;
-    match found {
+    match find(log, order, name, skip) {
         Lookup::Found(id) => {
             let structure = find_slot_struct(log, id, &mut Steps::new()).unwrap();
-            Ok(NamePositionInPair::Found(id, entry_of_struct(&structure)))
+            NamePositionInPair::Found(id, entry_of_struct(&structure))
         }
-        Lookup::Place(id) => Ok(NamePositionInPair::Place(id)),
+        Lookup::Place(id) => NamePositionInPair::Place(id),
     }
 }
 
 // Returns where a name is in one pair, where one slot may be passed over.
 fn find_name_in_pair<D: BlockDevice>(
-    alloc: Global,
     thread: &mut Thread<D>,
     pair: usize,
     name: &[u8],
@@ -81,8 +77,7 @@ fn find_name_in_pair<D: BlockDevice>(
     thread.load_pair(pair)?;
     let order = thread.geometry().order;
     let log = thread.lend(pair).unwrap();
-    let found = find_name_in_log(alloc, &log, order, name, skip)?;
-    Ok(found)
+    Ok(find_name_in_log(&log, order, name, skip))
 }
 
 // Returns the number behind the last pair of the directory that begins with the pair of number
@@ -130,7 +125,6 @@ fn middle_pair_number<D: BlockDevice>(thread: &Thread<D>, low: usize, high: usiz
 // Errors: `Io` where a read failed. `NoMemory` where memory for a block isn't granted. The thread
 // works after either.
 pub(crate) fn find_name<D: BlockDevice>(
-    alloc: Global,
     thread: &mut Thread<D>,
     first: usize,
     name: &[u8],
@@ -156,7 +150,7 @@ pub(crate) fn find_name<D: BlockDevice>(
             low = pair + 1;
             continue;
         }
-        let id = match find_name_in_pair(alloc, thread, pair, name, None)? {
+        let id = match find_name_in_pair(thread, pair, name, None)? {
             NamePositionInPair::Found(id, entry) => return Ok(NamePositionInDirectory::Found(
                 SlotPosition { pair, id },
                 entry,
@@ -181,7 +175,6 @@ pub(crate) fn find_name<D: BlockDevice>(
 // Finds the entry of a name pair by pair, where the slot `moved` counts as deleted. The other
 // clauses are those of `find_name_with_slot_hidden`.
 fn find_name_along_hard_tails<D: BlockDevice>(
-    alloc: Global,
     thread: &mut Thread<D>,
     first: usize,
     name: &[u8],
@@ -198,7 +191,7 @@ fn find_name_along_hard_tails<D: BlockDevice>(
     let mut pair = first;
     loop {
         let skip = id_to_skip_in_pair(moved, pair);
-        match find_name_in_pair(alloc, thread, pair, name, skip)? {
+        match find_name_in_pair(thread, pair, name, skip)? {
             NamePositionInPair::Found(id, entry) => return Ok(Some((
                 SlotPosition { pair, id },
                 entry,
@@ -225,7 +218,6 @@ fn find_name_along_hard_tails<D: BlockDevice>(
 /// Errors: `Io` where a read failed. `NoMemory` where memory for a block isn't granted. The thread
 /// works after either.
 pub fn find_name_with_slot_hidden<D: BlockDevice>(
-    alloc: Global,
     thread: &mut Thread<D>,
     first: usize,
     name: &[u8],
@@ -242,8 +234,8 @@ pub fn find_name_with_slot_hidden<D: BlockDevice>(
     ensures reading { OnlyReadsThreadAndReportsErrors thread.old thread.new result }
 {
     match moved {
-        Some(_) => find_name_along_hard_tails(alloc, thread, first, name, moved),
-        None => match find_name(alloc, thread, first, name)? {
+        Some(_) => find_name_along_hard_tails(thread, first, name, moved),
+        None => match find_name(thread, first, name)? {
             NamePositionInDirectory::Found(spot, entry) => Ok(Some((spot, entry))),
             NamePositionInDirectory::Place(_) => Ok(None),
         },

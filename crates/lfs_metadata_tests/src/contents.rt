@@ -1,11 +1,14 @@
 // What a log comes to, and what look-ups find in it.
 
 use crate::blocks::{BAD_DELETE, SHIFTING, block_of_commits};
+use lfs_device::Error;
 use lfs_device::NameOrder::{LongerFirst, ShorterFirst};
+use lfs_tag::kinds::{CREATE, DELETE, FILE_NAME};
 use lfs_tag::{
-    Content, ContentError, Log, Lookup, MoveState, NameOrStruct, Steps, Summary, find,
-    find_slot_name, find_slot_struct, get,
+    CommitBuilder, Content, ContentError, Log, Lookup, MoveState, NameOrStruct, Steps, Summary,
+    Tag, find, find_slot_name, find_slot_struct, get,
 };
+use std::alloc::Global;
 use std::test::Fail;
 
 fn type_and_bytes<'a>(part: Option<NameOrStruct<'a>>) -> Option<(u16, &'a [u8])> {
@@ -97,7 +100,75 @@ fn log_entries_are_looked_up(rt: HostRuntime) -> Result<(), Fail> {
         (LongerFirst, b"littlefs", None, Lookup::Place(2)),
         (LongerFirst, b"bb", None, Lookup::Place(1)),
     ] {
-        assert_eq!(rt; find(rt.alloc(), &log, order, name, skip)?, place);
+        assert_eq!(rt; find(&log, order, name, skip), place);
+    }
+    Ok(())
+}
+
+// A block of 64 KiB with so many files, each created before the others. Their names count down from
+// four bytes of 0xff. Of the first of them so many are deleted again.
+fn block_with_falling_names(alloc: Global, files: u32, deleted: u32) -> Result<Vec<u8>, Error> {
+    let mut block = Vec::from_elem(alloc, 0xff, 65536)?;
+    let first = Tag::from_bits(0xffff_ffff);
+    let mut builder = CommitBuilder::new(512, &mut block, first, Some(1));
+    for number in 0..files {
+        builder.push(Tag::new(CREATE, 0, 0), b"");
+        let name = u32::MAX.wrapping_sub(number).to_be_bytes();
+        builder.push(Tag::new(FILE_NAME, 0, 4), &name);
+    }
+    for _ in 0..deleted {
+        builder.push(Tag::new(DELETE, 0, 0), b"");
+    }
+    builder.finish(Some([0xff; 4]))?;
+    Ok(block)
+}
+
+// As many slots as a search has room for.
+#[test]
+fn names_are_found_among_many(rt: HostRuntime) -> Result<(), Fail> {
+    let block = block_with_falling_names(rt.alloc(), 1024, 0)?;
+    let log = Log::read(&block);
+    for (order, name, skip, place) in [
+        (
+            ShorterFirst,
+            [0xff; 4].as_slice(),
+            None,
+            Lookup::Found(1023),
+        ),
+        (ShorterFirst, &[0xff; 4], Some(1023), Lookup::Place(1024)),
+        (
+            ShorterFirst,
+            &[0xff, 0xff, 0xff, 0x7f],
+            None,
+            Lookup::Found(895),
+        ),
+        (ShorterFirst, &[0xff, 0xff, 0xff], None, Lookup::Place(768)),
+        (ShorterFirst, b"\0", None, Lookup::Place(0)),
+        (
+            LongerFirst,
+            &[0xff, 0xff, 0xff, 0x7f, 0],
+            None,
+            Lookup::Place(895),
+        ),
+        (LongerFirst, &[0xff; 5], None, Lookup::Place(1023)),
+    ] {
+        assert_eq!(rt; find(&log, order, name, skip), place);
+    }
+    Ok(())
+}
+
+// One slot more, also where it is deleted again.
+#[test]
+fn names_are_found_without_room(rt: HostRuntime) -> Result<(), Fail> {
+    for (deleted, name, skip, place) in [
+        (0, [0xff; 4].as_slice(), None, Lookup::Found(1024)),
+        (0, &[0xff; 4], Some(1024), Lookup::Place(1025)),
+        (0, b"\0", None, Lookup::Place(0)),
+        (30, &[0xff; 4], None, Lookup::Found(994)),
+    ] {
+        let block = block_with_falling_names(rt.alloc(), 1025, deleted)?;
+        let log = Log::read(&block);
+        assert_eq!(rt; find(&log, ShorterFirst, name, skip), place);
     }
     Ok(())
 }

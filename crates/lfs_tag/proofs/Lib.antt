@@ -8,6 +8,7 @@ pub mod Held
 pub mod Searches
 pub mod Summaries
 pub mod Ranks
+pub mod Counts
 pub mod Compared
 pub mod BuilderWrites
 pub mod BuilderEntries

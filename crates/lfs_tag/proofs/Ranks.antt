@@ -1,6 +1,6 @@
 -- The ranks after a log's entries are those of its slots, and the first wanted one is the answer.
-use Rattle.std.proofs.Common.{◌≡◌, ℕ, zero, suc, ◌+◌, ◌-◌, ◌<◌, ◌≤◌, ◌^◌, Bool, true, false, ◌&&◌, not, cond, eqb, ltb, leb, List, [], ◌∷◌, ◌++◌, length, map, replicate, set, get_or, Option, Some, None, refl, sym, ap, subst, ◌∙◌, arith, inl, inr}
-use Rattle.std.specs.Option.{option_and_then, option_map, option_map_or}
+use Rattle.std.proofs.Common.{◌≡◌, ℕ, zero, suc, ◌+◌, ◌-◌, ◌<◌, ◌≤◌, ◌^◌, Bool, true, false, ◌&&◌, not, cond, eqb, ltb, leb, List, [], ◌∷◌, ◌++◌, length, map, drop, replicate, set, get_or, drop-cons, Option, Some, None, refl, sym, ap, subst, ◌∙◌, arith, inl, inr}
+use Rattle.std.specs.Option.{option_and_then, option_map_or}
 use Rattle.std.specs.declared.cmp.Ordering.{Ordering}
 use Rattle.std.specs.declared.cmp.Ordering.TheVariants.{Less, Equal, Greater}
 use Rattle.std.proofs.lemmas.Bool.{cases_lt}
@@ -15,35 +15,36 @@ use Rattle.lfs_model.specs.Names.{Name, name_cmp, same_name, is_equal_ordering, 
 use Rattle.lfs_model.specs.Content.{RawSlot, RawPairContent, empty_slot, slot_of_id, raw_slots_with_function_applied_at_id, slots_padded_to_id, type_and_bytes_of_entry, attributes_after_entry, content_after_log_entry, content_after_log_entries, empty_raw_pair_content}
 use Rattle.lfs_model.specs.EntryTypes.{create_tag_type, superblock_name_type}
 use Rattle.lfs_model.specs.Lookup.{name_of_slot_unless_superblock, is_name_at_id_passing_test_unless_skipped, is_name_after, IsLeastIdOfName, IsIdForNewName}
-use Rattle.lfs_tag.specs.Find.{comparison_of_sought_name_with_slot, comparison_of_sought_name_with_entry, sought_name_comparisons_padded_to_id, sought_name_comparisons_after_entry, sought_name_comparisons_after_entries, is_comparison_same_or_greater_as_wanted, is_skipped_id, is_unskipped_slot_comparing_as_wanted, first_unskipped_slot_comparing_as_wanted}
+use Rattle.lfs_tag.specs.declared.lookup.NameComparison.{NameComparison}
+use Rattle.lfs_tag.specs.declared.lookup.NameComparison.TheVariants as slot
+use Rattle.lfs_tag.specs.Find.{comparison_of_ordering, comparison_of_sought_name_with_slot, comparison_of_sought_name_with_entry, sought_name_comparisons_padded_to_id, sought_name_comparisons_after_entry, sought_name_comparisons_after_entries, is_comparison_same_or_greater_as_wanted, is_skipped_id, is_unskipped_slot_comparing_as_wanted, first_unskipped_slot_comparing_as_wanted}
+use Rattle.lfs_tag.specs.declared.lookup.Lookup.TheVariants.{Found, Place}
+use Rattle.lfs_tag.specs.FindView.{IsLookupOfName, lookup_of_comparisons}
 use Rattle.lfs_tag.proofs.Effects.{Effect, rests, names, creates, deletes, structures, attributes, effect}
 use Rattle.lfs_tag.proofs.Places.{map-insert, map-remove}
 use Rattle.lfs_tag.proofs.Runs.{all_run, run_count, back}
 
-abbrev Rank : Type 0
-Rank = Option Ordering
-
 -- ---- one entry
 
-empty_ranks : (order : NameOrder) (name : Name) (n : ℕ) → map (comparison_of_sought_name_with_slot order name) (replicate n empty_slot) ≡ replicate n None
+empty_ranks : (order : NameOrder) (name : Name) (n : ℕ) → map (comparison_of_sought_name_with_slot order name) (replicate n empty_slot) ≡ replicate n slot.NoneOrLess
 empty_ranks order name zero = refl
-empty_ranks order name (suc n) = ap (λ rs. None ∷ rs) (empty_ranks order name n)
+empty_ranks order name (suc n) = ap (λ rs. slot.NoneOrLess ∷ rs) (empty_ranks order name n)
 
 up_to_ranks : (order : NameOrder) (name : Name) (slots : List RawSlot) (i : ℕ) → map (comparison_of_sought_name_with_slot order name) (slots_padded_to_id slots i) ≡ sought_name_comparisons_padded_to_id (map (comparison_of_sought_name_with_slot order name) slots) i
 up_to_ranks order name slots i =
     map-append (comparison_of_sought_name_with_slot order name) slots (replicate (i + 1 - length slots) empty_slot)
-    ∙ ap (λ rs. map (comparison_of_sought_name_with_slot order name) slots ++ rs) (empty_ranks order name (i + 1 - length slots) ∙ ap (λ n. replicate (i + 1 - n) None) (sym (length-map slots (comparison_of_sought_name_with_slot order name))))
+    ∙ ap (λ rs. map (comparison_of_sought_name_with_slot order name) slots ++ rs) (empty_ranks order name (i + 1 - length slots) ∙ ap (λ n. replicate (i + 1 - n) slot.NoneOrLess) (sym (length-map slots (comparison_of_sought_name_with_slot order name))))
 
 -- a change that leaves a slot's name leaves its rank
 same_ranks : (order : NameOrder) (name : Name) (f : RawSlot → RawSlot) → ((r : RawSlot) → (f r).name ≡ r.name) → (slots : List RawSlot) (i : ℕ) → map (comparison_of_sought_name_with_slot order name) (raw_slots_with_function_applied_at_id f slots i) ≡ map (comparison_of_sought_name_with_slot order name) slots
 same_ranks order name f same [] i = refl
-same_ranks order name f same (s ∷ slots) zero = ap (λ r. r ∷ map (comparison_of_sought_name_with_slot order name) slots) (ap (λ n. option_map (name_cmp order name) (option_and_then (λ (p : ℕ × List ℕ). cond (eqb p.0 superblock_name_type) None (Some p.1)) n)) (same s))
+same_ranks order name f same (s ∷ slots) zero = ap (λ r. r ∷ map (comparison_of_sought_name_with_slot order name) slots) (ap (λ n. option_map_or (λ other. comparison_of_ordering (name_cmp order name other)) (option_and_then (λ (p : ℕ × List ℕ). cond (eqb p.0 superblock_name_type) None (Some p.1)) n) slot.NoneOrLess) (same s))
 same_ranks order name f same (s ∷ slots) (suc i) = ap (λ rs. comparison_of_sought_name_with_slot order name s ∷ rs) (same_ranks order name f same slots i)
 
 named_rank : (order : NameOrder) (name : Name) (e : LogEntry) (r : RawSlot) → comparison_of_sought_name_with_slot order name (record r { name = type_and_bytes_of_entry e }) ≡ comparison_of_sought_name_with_entry order name e
 named_rank order name e r = by_test (eqb (type_of_tag e.tag) superblock_name_type)
   where
-    by_test : (b : Bool) → option_map (name_cmp order name) (cond b None (Some e.bytes)) ≡ cond b None (Some (name_cmp order name e.bytes))
+    by_test : (b : Bool) → option_map_or (λ other. comparison_of_ordering (name_cmp order name other)) (cond b None (Some e.bytes)) slot.NoneOrLess ≡ cond b slot.NoneOrLess (comparison_of_ordering (name_cmp order name e.bytes))
     by_test true = refl
     by_test false = refl
 
@@ -106,13 +107,13 @@ few_entries block small =
 
 -- ---- the first wanted one
 
-record FirstFrom (same : Bool) (skip : Option ℕ) (at : ℕ) (ranks : List Rank) (id : ℕ) : Type 0 where
+record FirstFrom (same : Bool) (skip : Option ℕ) (at : ℕ) (ranks : List NameComparison) (id : ℕ) : Type 0 where
   above : at ≤ id
   within : id ≤ at + length ranks
-  here : (k : ℕ) → id ≡ at + k → k < length ranks → is_unskipped_slot_comparing_as_wanted same skip (at + k) (get_or ranks k None) ≡ true
-  before : (k : ℕ) → at + k < id → is_unskipped_slot_comparing_as_wanted same skip (at + k) (get_or ranks k None) ≡ false
+  here : (k : ℕ) → id ≡ at + k → k < length ranks → is_unskipped_slot_comparing_as_wanted same skip (at + k) (get_or ranks k slot.NoneOrLess) ≡ true
+  before : (k : ℕ) → at + k < id → is_unskipped_slot_comparing_as_wanted same skip (at + k) (get_or ranks k slot.NoneOrLess) ≡ false
 
-first_at : (same : Bool) (skip : Option ℕ) (at : ℕ) (ranks : List Rank) → FirstFrom same skip at ranks (first_unskipped_slot_comparing_as_wanted same skip at ranks)
+first_at : (same : Bool) (skip : Option ℕ) (at : ℕ) (ranks : List NameComparison) → FirstFrom same skip at ranks (first_unskipped_slot_comparing_as_wanted same skip at ranks)
 first_at same skip at [] = record {
   above = omega arith;
   within = omega arith;
@@ -135,53 +136,53 @@ first_at same skip at (r ∷ ranks) = by_test (is_unskipped_slot_comparing_as_wa
       before = earlier;
     }
       where
-        shifted : (k : ℕ) (b : Bool) → is_unskipped_slot_comparing_as_wanted same skip (at + 1 + k) (get_or ranks k None) ≡ b → is_unskipped_slot_comparing_as_wanted same skip (at + suc k) (get_or ranks k None) ≡ b
-        shifted k b h = subst (λ n. is_unskipped_slot_comparing_as_wanted same skip n (get_or ranks k None) ≡ b) (omega arith) h
+        shifted : (k : ℕ) (b : Bool) → is_unskipped_slot_comparing_as_wanted same skip (at + 1 + k) (get_or ranks k slot.NoneOrLess) ≡ b → is_unskipped_slot_comparing_as_wanted same skip (at + suc k) (get_or ranks k slot.NoneOrLess) ≡ b
+        shifted k b h = subst (λ n. is_unskipped_slot_comparing_as_wanted same skip n (get_or ranks k slot.NoneOrLess) ≡ b) (omega arith) h
 
-        there : (k : ℕ) → first_unskipped_slot_comparing_as_wanted same skip (at + 1) ranks ≡ at + k → k < length (r ∷ ranks) → is_unskipped_slot_comparing_as_wanted same skip (at + k) (get_or (r ∷ ranks) k None) ≡ true
+        there : (k : ℕ) → first_unskipped_slot_comparing_as_wanted same skip (at + 1) ranks ≡ at + k → k < length (r ∷ ranks) → is_unskipped_slot_comparing_as_wanted same skip (at + k) (get_or (r ∷ ranks) k slot.NoneOrLess) ≡ true
         there zero h lt = absurd (omega (arith, rest.above))
         there (suc k) h lt = shifted k true (rest.here k (omega arith) (omega arith))
 
-        earlier : (k : ℕ) → at + k < first_unskipped_slot_comparing_as_wanted same skip (at + 1) ranks → is_unskipped_slot_comparing_as_wanted same skip (at + k) (get_or (r ∷ ranks) k None) ≡ false
+        earlier : (k : ℕ) → at + k < first_unskipped_slot_comparing_as_wanted same skip (at + 1) ranks → is_unskipped_slot_comparing_as_wanted same skip (at + k) (get_or (r ∷ ranks) k slot.NoneOrLess) ≡ false
         earlier zero lt = subst (λ n. is_unskipped_slot_comparing_as_wanted same skip n r ≡ false) (omega arith) is
         earlier (suc k) lt = shifted k false (rest.before k (omega arith))
 
 -- the same of a whole list
-from_zero : (same : Bool) (skip : Option ℕ) (ranks : List Rank) (k : ℕ) (b : Bool) → is_unskipped_slot_comparing_as_wanted same skip (0 + k) (get_or ranks k None) ≡ b → is_unskipped_slot_comparing_as_wanted same skip k (get_or ranks k None) ≡ b
-from_zero same skip ranks k b h = subst (λ n. is_unskipped_slot_comparing_as_wanted same skip n (get_or ranks k None) ≡ b) (omega arith) h
+from_zero : (same : Bool) (skip : Option ℕ) (ranks : List NameComparison) (k : ℕ) (b : Bool) → is_unskipped_slot_comparing_as_wanted same skip (0 + k) (get_or ranks k slot.NoneOrLess) ≡ b → is_unskipped_slot_comparing_as_wanted same skip k (get_or ranks k slot.NoneOrLess) ≡ b
+from_zero same skip ranks k b h = subst (λ n. is_unskipped_slot_comparing_as_wanted same skip n (get_or ranks k slot.NoneOrLess) ≡ b) (omega arith) h
 
 -- ---- the answer
 
-rank_at : (order : NameOrder) (name : Name) (slots : List RawSlot) (k : ℕ) → get_or (map (comparison_of_sought_name_with_slot order name) slots) k None ≡ comparison_of_sought_name_with_slot order name (slot_of_id slots k)
+pub rank_at : (order : NameOrder) (name : Name) (slots : List RawSlot) (k : ℕ) → get_or (map (comparison_of_sought_name_with_slot order name) slots) k slot.NoneOrLess ≡ comparison_of_sought_name_with_slot order name (slot_of_id slots k)
 rank_at order name [] k = refl
 rank_at order name (s ∷ slots) zero = refl
 rank_at order name (s ∷ slots) (suc k) = rank_at order name slots k
 
-same_wanted : (order : NameOrder) (name : Name) (o : Option Name) → option_map_or (is_comparison_same_or_greater_as_wanted true) (option_map (name_cmp order name) o) false ≡ option_map_or (same_name name) o false
+same_wanted : (order : NameOrder) (name : Name) (o : Option Name) → is_comparison_same_or_greater_as_wanted true (option_map_or (λ other. comparison_of_ordering (name_cmp order name other)) o slot.NoneOrLess) ≡ option_map_or (same_name name) o false
 same_wanted order name None = refl
 same_wanted order name (Some other) = by_order (name_cmp order name other) ∙ same_by order name other
   where
-    by_order : (o : Ordering) → is_comparison_same_or_greater_as_wanted true o ≡ is_equal_ordering o
+    by_order : (o : Ordering) → is_comparison_same_or_greater_as_wanted true (comparison_of_ordering o) ≡ is_equal_ordering o
     by_order Less = refl
     by_order Equal = refl
     by_order Greater = refl
 
-behind_wanted : (order : NameOrder) (name : Name) (o : Option Name) → option_map_or (is_comparison_same_or_greater_as_wanted false) (option_map (name_cmp order name) o) false ≡ option_map_or (is_name_after order name) o false
+behind_wanted : (order : NameOrder) (name : Name) (o : Option Name) → is_comparison_same_or_greater_as_wanted false (option_map_or (λ other. comparison_of_ordering (name_cmp order name other)) o slot.NoneOrLess) ≡ option_map_or (is_name_after order name) o false
 behind_wanted order name None = refl
 behind_wanted order name (Some other) = by_order (name_cmp order name other)
   where
-    by_order : (o : Ordering) → is_comparison_same_or_greater_as_wanted false o ≡ is_less_ordering o
+    by_order : (o : Ordering) → is_comparison_same_or_greater_as_wanted false (comparison_of_ordering o) ≡ is_less_ordering o
     by_order Less = refl
     by_order Equal = refl
     by_order Greater = refl
 
-same_named : (order : NameOrder) (name : Name) (skip : Option ℕ) (slots : List RawSlot) (k : ℕ) → is_name_at_id_passing_test_unless_skipped (same_name name) skip slots k ≡ is_unskipped_slot_comparing_as_wanted true skip k (get_or (map (comparison_of_sought_name_with_slot order name) slots) k None)
-same_named order name skip slots k = ap (λ b. b && not (is_skipped_id skip k)) (sym (ap (λ r. option_map_or (is_comparison_same_or_greater_as_wanted true) r false) (rank_at order name slots k) ∙ same_wanted order name (name_of_slot_unless_superblock (slot_of_id slots k))))
+same_named : (order : NameOrder) (name : Name) (skip : Option ℕ) (slots : List RawSlot) (k : ℕ) → is_name_at_id_passing_test_unless_skipped (same_name name) skip slots k ≡ is_unskipped_slot_comparing_as_wanted true skip k (get_or (map (comparison_of_sought_name_with_slot order name) slots) k slot.NoneOrLess)
+same_named order name skip slots k = ap (λ b. b && not (is_skipped_id skip k)) (sym (ap (is_comparison_same_or_greater_as_wanted true) (rank_at order name slots k) ∙ same_wanted order name (name_of_slot_unless_superblock (slot_of_id slots k))))
 
-behind_named : (order : NameOrder) (name : Name) (skip : Option ℕ) (slots : List RawSlot) (k : ℕ) → is_name_at_id_passing_test_unless_skipped (is_name_after order name) skip slots k ≡ is_unskipped_slot_comparing_as_wanted false skip k (get_or (map (comparison_of_sought_name_with_slot order name) slots) k None)
-behind_named order name skip slots k = ap (λ b. b && not (is_skipped_id skip k)) (sym (ap (λ r. option_map_or (is_comparison_same_or_greater_as_wanted false) r false) (rank_at order name slots k) ∙ behind_wanted order name (name_of_slot_unless_superblock (slot_of_id slots k))))
+behind_named : (order : NameOrder) (name : Name) (skip : Option ℕ) (slots : List RawSlot) (k : ℕ) → is_name_at_id_passing_test_unless_skipped (is_name_after order name) skip slots k ≡ is_unskipped_slot_comparing_as_wanted false skip k (get_or (map (comparison_of_sought_name_with_slot order name) slots) k slot.NoneOrLess)
+behind_named order name skip slots k = ap (λ b. b && not (is_skipped_id skip k)) (sym (ap (is_comparison_same_or_greater_as_wanted false) (rank_at order name slots k) ∙ behind_wanted order name (name_of_slot_unless_superblock (slot_of_id slots k))))
 
-pub found_is : (order : NameOrder) (name : Name) (skip : Option ℕ) (slots : List RawSlot) (id : ℕ) → id ≡ first_unskipped_slot_comparing_as_wanted true skip 0 (map (comparison_of_sought_name_with_slot order name) slots) → id < length slots → IsLeastIdOfName name skip slots id
+found_is : (order : NameOrder) (name : Name) (skip : Option ℕ) (slots : List RawSlot) (id : ℕ) → id ≡ first_unskipped_slot_comparing_as_wanted true skip 0 (map (comparison_of_sought_name_with_slot order name) slots) → id < length slots → IsLeastIdOfName name skip slots id
 found_is order name skip slots id is lt =
     let first = subst (FirstFrom true skip 0 (map (comparison_of_sought_name_with_slot order name) slots)) (sym is) (first_at true skip 0 (map (comparison_of_sought_name_with_slot order name) slots)) in
     let len = length-map slots (comparison_of_sought_name_with_slot order name) in
@@ -190,7 +191,7 @@ found_is order name skip slots id is lt =
       least = λ k below. same_named order name skip slots k ∙ from_zero true skip (map (comparison_of_sought_name_with_slot order name) slots) k false (first.before k (omega arith));
     }
 
-pub place_is : (order : NameOrder) (name : Name) (skip : Option ℕ) (slots : List RawSlot) (id : ℕ) → length slots ≤ first_unskipped_slot_comparing_as_wanted true skip 0 (map (comparison_of_sought_name_with_slot order name) slots) → id ≡ first_unskipped_slot_comparing_as_wanted false skip 0 (map (comparison_of_sought_name_with_slot order name) slots) → IsIdForNewName order name skip slots id
+place_is : (order : NameOrder) (name : Name) (skip : Option ℕ) (slots : List RawSlot) (id : ℕ) → length slots ≤ first_unskipped_slot_comparing_as_wanted true skip 0 (map (comparison_of_sought_name_with_slot order name) slots) → id ≡ first_unskipped_slot_comparing_as_wanted false skip 0 (map (comparison_of_sought_name_with_slot order name) slots) → IsIdForNewName order name skip slots id
 place_is order name skip slots id past is =
     let none = first_at true skip 0 (map (comparison_of_sought_name_with_slot order name) slots) in
     let first = subst (FirstFrom false skip 0 (map (comparison_of_sought_name_with_slot order name) slots)) (sym is) (first_at false skip 0 (map (comparison_of_sought_name_with_slot order name) slots)) in
@@ -204,3 +205,38 @@ place_is order name skip slots id past is =
       greater = λ lt. behind_named order name skip slots id ∙ from_zero false skip (map (comparison_of_sought_name_with_slot order name) slots) id true (first.here id (omega arith) (omega (arith, len)));
       within = omega (arith, first.within, len);
     }
+
+pub lookup_is : (order : NameOrder) (name : Name) (skip : Option ℕ) (slots : List RawSlot) → IsLookupOfName order name skip slots (lookup_of_comparisons skip (map (comparison_of_sought_name_with_slot order name) slots))
+lookup_is order name skip slots = by_test (ltb found (length ranks)) refl
+  where
+    ranks : List NameComparison
+    ranks = map (comparison_of_sought_name_with_slot order name) slots
+
+    found : ℕ
+    found = first_unskipped_slot_comparing_as_wanted true skip 0 ranks
+
+    by_test : (b : Bool) → ltb found (length ranks) ≡ b → IsLookupOfName order name skip slots (cond b (Found found) (Place (first_unskipped_slot_comparing_as_wanted false skip 0 ranks)))
+    by_test true is = let lt : found < length ranks = grind (arith, nat_tests) in found_is order name skip slots found refl (omega (arith, length-map slots (comparison_of_sought_name_with_slot order name)))
+    by_test false is = let le : length ranks ≤ found = grind (arith, nat_tests) in place_is order name skip slots (first_unskipped_slot_comparing_as_wanted false skip 0 ranks) (omega (arith, length-map slots (comparison_of_sought_name_with_slot order name))) refl
+
+-- ---- one slot after the other
+
+slots_from : (order : NameOrder) (name : Name) (slots : List RawSlot) (id : ℕ) → id < length slots → drop id (map (comparison_of_sought_name_with_slot order name) slots) ≡ comparison_of_sought_name_with_slot order name (slot_of_id slots id) ∷ drop (id + 1) (map (comparison_of_sought_name_with_slot order name) slots)
+slots_from order name slots id lt =
+    let ranks = map (comparison_of_sought_name_with_slot order name) slots in
+    let len = length-map slots (comparison_of_sought_name_with_slot order name) in
+    let inside : id < length ranks = omega (arith, len) in
+    let one : id + 1 ≡ suc id = omega arith in
+    drop-cons ranks id slot.NoneOrLess inside ∙ rw one (ap (λ r. r ∷ drop (suc id) ranks) (rank_at order name slots id))
+
+pub first_here : (order : NameOrder) (name : Name) (same : Bool) (skip : Option ℕ) (slots : List RawSlot) (id : ℕ) (rank : NameComparison) → id < length slots → rank ≡ comparison_of_sought_name_with_slot order name (slot_of_id slots id) → is_unskipped_slot_comparing_as_wanted same skip id rank ≡ true
+    → id ≡ first_unskipped_slot_comparing_as_wanted same skip id (drop id (map (comparison_of_sought_name_with_slot order name) slots))
+first_here order name same skip slots id rank lt is wanted =
+    let there = subst (λ r. is_unskipped_slot_comparing_as_wanted same skip id r ≡ true) is wanted in
+    rw (slots_from order name slots id lt, there) refl
+
+pub first_later : (order : NameOrder) (name : Name) (same : Bool) (skip : Option ℕ) (slots : List RawSlot) (id : ℕ) (rank : NameComparison) → id < length slots → rank ≡ comparison_of_sought_name_with_slot order name (slot_of_id slots id) → is_unskipped_slot_comparing_as_wanted same skip id rank ≡ false
+    → first_unskipped_slot_comparing_as_wanted same skip (id + 1) (drop (id + 1) (map (comparison_of_sought_name_with_slot order name) slots)) ≡ first_unskipped_slot_comparing_as_wanted same skip id (drop id (map (comparison_of_sought_name_with_slot order name) slots))
+first_later order name same skip slots id rank lt is other =
+    let there = subst (λ r. is_unskipped_slot_comparing_as_wanted same skip id r ≡ false) is other in
+    rw (slots_from order name slots id lt, there) refl

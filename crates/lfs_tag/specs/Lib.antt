@@ -11,6 +11,7 @@ pub mod Search
 pub mod VerdictView
 pub mod Find
 pub mod FindView
+pub mod SlotCount
 pub mod Builder
 pub mod BuilderKeeps
 pub mod BuilderView

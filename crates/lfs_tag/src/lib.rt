@@ -17,6 +17,7 @@ mod names;
 mod pushed_commit;
 mod revision;
 mod search;
+mod slot_count;
 mod slot_kind;
 mod steps;
 mod structure;

@@ -1,19 +1,23 @@
 // The slot of a name, or the place where it belongs.
 
-ghost use Rattle.std.specs.Prelude.{◌≡◌, ℕ, ◌+◌, ◌≤◌, ◌<◌, ◌^◌, [], length, max, slice_set, vec_len, IfOk, OnOk, Some, None};
+ghost use Rattle.std.specs.Prelude.{◌≡◌, ℕ, ◌+◌, ◌≤◌, ◌<◌, ◌^◌, [], length, map, max, slice_set, IsTrue, Some, None};
 ghost use Rattle.std.specs.List.{insert, remove};
+ghost use Rattle.arrayvec.specs.ArrayVec.{array_vec_len};
 ghost use Rattle.lfs_model.specs.Log.{log_entries_of_block};
-ghost use Rattle.lfs_model.specs.Content.{RawPairContent, content_after_log_entries, empty_raw_pair_content};
-ghost use Rattle.lfs_tag.specs.Find.{comparison_of_sought_name_with_entry, sought_name_comparisons_padded_to_id, sought_name_comparisons_after_splice, sought_name_comparisons_after_entry, sought_name_comparisons_after_entries, is_comparison_same_or_greater_as_wanted, is_skipped_id, is_unskipped_slot_comparing_as_wanted, first_unskipped_slot_comparing_as_wanted};
-ghost use Rattle.lfs_tag.specs.FindView.{IsLookupOfName};
+ghost use Rattle.lfs_model.specs.Content.{RawPairContent, content_after_log_entries, empty_raw_pair_content, slot_of_id};
+ghost use Rattle.lfs_tag.specs.Find.{comparison_of_ordering, comparison_of_sought_name_with_entry, comparison_of_sought_name_with_slot, sought_name_comparisons_padded_to_id, sought_name_comparisons_after_splice, sought_name_comparisons_after_entry, sought_name_comparisons_after_entries, is_comparison_same_or_greater_as_wanted, is_skipped_id, is_unskipped_slot_comparing_as_wanted, first_unskipped_slot_comparing_as_wanted};
+ghost use Rattle.lfs_tag.specs.FindView.{IsLookupOfName, lookup_of_comparisons};
 ghost use Rattle.lfs_tag.specs.LogEntryView.{log_entry_view};
 
 use crate::entry::Entry;
 use crate::kinds::{CREATE, NAME_CLASS, SPLICE_CLASS, SUPERBLOCK_NAME};
 use crate::log::Log;
 use crate::names::name_cmp;
+use crate::search::find_slot_name;
+use crate::slot_count::slot_count;
+use crate::steps::Steps;
+use arrayvec::ArrayVec;
 use lfs_device::NameOrder;
-use std::alloc::{AllocError, Global};
 use std::cmp::Ordering;
 
 /// Where a name is among a log's slots.
@@ -27,150 +31,212 @@ pub enum Lookup {
 
 const BLOCK_MAX: usize = 65536;
 
-// For how many slots there is room before the first entry is taken, so that most searches ask for memory
-// once.
-const SLOTS_AT_FIRST: usize = 64;
+// For so many slots a search has room. A log that never has more is read once.
+const ROOM: usize = 1024;
 
-// The order of the wanted name and each slot's own name; `None` where the slot has no name, or the
-// superblock's.
-type Ranks = Vec<Option<Ordering>>;
+// How a slot's own name compares with the wanted one.
+#[derive(Clone, Copy, Default, Drop)]
+enum NameComparison {
+    // The slot has no name, the superblock's, or a lesser one.
+    #[default]
+    NoneOrLess,
+    Same,
+    Greater,
+}
+
+type Ranks = ArrayVec<NameComparison, ROOM>;
 
 /// Finds where a name is among a log's slots, or where it belongs. It belongs before the first slot
 /// with a name that is greater in that order. A superblock's slot and the slot `skip` are passed
 /// over, though they keep their ids.
 ///
-/// The result counts where the log isn't malformed and its block has at most 65,536 bytes. The
-/// log's entries are taken once, and each name is compared once. The call takes a byte of memory
-/// for each slot that the log ever has, and for 64 at least.
-///
-/// Errors: `AllocError` where that memory isn't granted.
-pub fn find(
-    alloc: Global,
-    log: &Log<'_>,
-    order: NameOrder,
-    name: &[u8],
-    skip: Option<u16>,
-) -> Result<Lookup, AllocError>
-    ensures { (c : RawPairContent) → content_after_log_entries empty_raw_pair_content (log_entries_of_block log.now) ≡ Some c → length log.now ≤ 2 ^ 16 → IfOk result (IsLookupOfName order name.now skip c.slots) }
+/// The result counts where the log isn't malformed and its block has at most 65,536 bytes. No memory
+/// is taken. The log's entries are taken once, and each name is compared once, where there are never
+/// more than 1,024 slots. A log that ever has more is searched back for each slot.
+pub fn find(log: &Log<'_>, order: NameOrder, name: &[u8], skip: Option<u16>) -> Lookup
+    ensures { (c : RawPairContent) → content_after_log_entries empty_raw_pair_content (log_entries_of_block log.now) ≡ Some c → length log.now ≤ 2 ^ 16 → IsLookupOfName order name.now skip c.slots result }
 {
     if BLOCK_MAX < log.block().len() {
-        return Ok(Lookup::Place(0));
+        return Lookup::Place(0);
     }
-    let mut ranks = Vec::with_capacity(alloc, SLOTS_AT_FIRST)?;
-    sought_name_comparisons_of_slots(&mut ranks, log, order, name)?;
-    let found = first_slot_whose_name_compares_as_wanted(&ranks, true, skip);
-    if found < ranks.len() {
-        Ok(Lookup::Found(found as u16))
+    let mut ranks = Ranks::new();
+    if sought_name_comparisons_of_slots(&mut ranks, log, order, name) {
+        find_in_ranks(&ranks, skip)
     } else {
-        Ok(Lookup::Place(first_slot_whose_name_compares_as_wanted(&ranks, false, skip) as u16))
+        find_by_ids(log, order, name, skip)
     }
 }
 
-// Returns the ranks of a log's slots.
+// Returns where the wanted name is, or belongs, by the ranks of all slots.
+fn find_in_ranks(ranks: &[NameComparison], skip: Option<u16>) -> Lookup
+    requires { length ranks.now < 2 ^ 16 }
+    ensures { result ≡ lookup_of_comparisons skip ranks.now }
+{
+    let found = first_slot_whose_name_compares_as_wanted(ranks, true, skip);
+    if found < ranks.len() {
+        Lookup::Found(found as u16)
+    } else {
+        Lookup::Place(first_slot_whose_name_compares_as_wanted(ranks, false, skip) as u16)
+    }
+}
+
+// Returns the same of a log with any number of slots. Its entries are searched for each slot's name.
+fn find_by_ids(log: &Log<'_>, order: NameOrder, name: &[u8], skip: Option<u16>) -> Lookup
+    requires { length log.now ≤ 2 ^ 16 }
+    ensures { (c : RawPairContent) → content_after_log_entries empty_raw_pair_content (log_entries_of_block log.now) ≡ Some c → result ≡ lookup_of_comparisons skip (map (comparison_of_sought_name_with_slot order name.now) c.slots) }
+{
+    let count = slot_count(log);
+    let found = first_wanted_id(log, order, name, true, skip, count);
+    if found < count {
+        Lookup::Found(found as u16)
+    } else {
+        Lookup::Place(first_wanted_id(log, order, name, false, skip, count) as u16)
+    }
+}
+
+// Returns the first of so many slots whose name is the wanted one, or a greater one. Returns their
+// number where there is none.
+fn first_wanted_id(
+    log: &Log<'_>,
+    order: NameOrder,
+    name: &[u8],
+    same: bool,
+    skip: Option<u16>,
+    count: usize,
+) -> usize
+    requires { count < 2 ^ 16 }
+    ensures first { (c : RawPairContent) → content_after_log_entries empty_raw_pair_content (log_entries_of_block log.now) ≡ Some c → count ≡ length c.slots → result ≡ first_unskipped_slot_comparing_as_wanted same skip 0 (map (comparison_of_sought_name_with_slot order name.now) c.slots) }
+    ensures within { result ≤ count }
+{
+    for id in 0..count {
+        let rank = rank_of_slot(log, order, name, id as u16);
+        if is_unskipped_slot_named_as_wanted(same, skip, id, rank) {
+            return id;
+        }
+    }
+    count
+}
+
+// Returns how a slot's name compares with the wanted one.
+fn rank_of_slot(log: &Log<'_>, order: NameOrder, name: &[u8], id: u16) -> NameComparison
+    ensures { (c : RawPairContent) → content_after_log_entries empty_raw_pair_content (log_entries_of_block log.now) ≡ Some c → result ≡ comparison_of_sought_name_with_slot order name.now (slot_of_id c.slots id) }
+{
+    match find_slot_name(log, id, &mut Steps::new()) {
+        Some(part) if part.kind != SUPERBLOCK_NAME => comparison_by_ordering(name_cmp(
+            order, name, part.bytes,
+        )),
+        _ => NameComparison::NoneOrLess,
+    }
+}
+
+// Notes the ranks of a log's slots. Returns false where there is no room for them.
 #[tactic(auto, using(crate::proofs::Ranks::few_entries))]
 fn sought_name_comparisons_of_slots(
     ranks: &mut Ranks,
     log: &Log<'_>,
     order: NameOrder,
     name: &[u8],
-) -> Result<(), AllocError>
-    requires none { ranks.old.items ≡ [] }
-    requires small { length log.now ≤ 2 ^ 16 }
-    ensures ranks { OnOk result (ranks.new.items ≡ sought_name_comparisons_after_entries order name.now [] (log_entries_of_block log.now)) }
-    ensures few { OnOk result (vec_len ranks.new < 17408) }
+) -> bool
+    requires { ranks.old.items ≡ [] }
+    ensures { IsTrue result → ranks.new.items ≡ sought_name_comparisons_after_entries order name.now [] (log_entries_of_block log.now) }
 {
     for entry in log.entries() {
-        apply_entry_to_sought_name_comparisons(ranks, order, name, &entry)?;
+        if !apply_entry_to_sought_name_comparisons(ranks, order, name, &entry) {
+            return false;
+        }
     }
-    Ok(())
+    true
 }
 
-// Applies an entry to the ranks.
+// Applies an entry to the ranks. Returns false where there is no room for another slot.
 fn apply_entry_to_sought_name_comparisons(
     ranks: &mut Ranks,
     order: NameOrder,
     name: &[u8],
     entry: &Entry<'_>,
-) -> Result<(), AllocError>
-    ensures ranks { OnOk result (ranks.new.items ≡ sought_name_comparisons_after_entry order name.now ranks.old.items (log_entry_view entry.now)) }
-    ensures room { OnOk result (vec_len ranks.new ≤ max (vec_len ranks.old) 1024 + 1) }
+) -> bool
+    ensures { IsTrue result → ranks.new.items ≡ sought_name_comparisons_after_entry order name.now ranks.old.items (log_entry_view entry.now) }
 {
     let class = entry.tag.class();
     if class == NAME_CLASS {
         let rank = compare_sought_name_with_entry(order, name, entry);
-        put_sought_name_comparison(ranks, usize::from(entry.tag.id()), rank)?;
+        put_sought_name_comparison(ranks, usize::from(entry.tag.id()), rank);
+        true
     } else if class == SPLICE_CLASS {
-        apply_splice_to_sought_name_comparisons(ranks, entry)?;
+        apply_splice_to_sought_name_comparisons(ranks, entry)
+    } else {
+        true
     }
-    Ok(())
 }
 
-// Returns the order of the wanted name and the name that an entry gives a slot.
+// Returns how the name that an entry gives a slot compares with the wanted one.
 fn compare_sought_name_with_entry(
     order: NameOrder,
     name: &[u8],
     entry: &Entry<'_>,
-) -> Option<Ordering>
+) -> NameComparison
     ensures { result ≡ comparison_of_sought_name_with_entry order name.now (log_entry_view entry.now) }
 {
     if entry.tag.kind() == SUPERBLOCK_NAME {
-        None
+        NameComparison::NoneOrLess
     } else {
-        Some(name_cmp(order, name, entry.bytes))
+        comparison_by_ordering(name_cmp(order, name, entry.bytes))
+    }
+}
+
+// Returns how a slot's name compares, by the order of the wanted name and that one.
+fn comparison_by_ordering(ordering: Ordering) -> NameComparison
+    ensures { result ≡ comparison_of_ordering ordering }
+{
+    match ordering {
+        Ordering::Less => NameComparison::Greater,
+        Ordering::Equal => NameComparison::Same,
+        Ordering::Greater => NameComparison::NoneOrLess,
     }
 }
 
 // Ranks a slot, which may be past the end.
-fn put_sought_name_comparison(
-    ranks: &mut Ranks,
-    id: usize,
-    rank: Option<Ordering>,
-) -> Result<(), AllocError>
+fn put_sought_name_comparison(ranks: &mut Ranks, id: usize, rank: NameComparison)
     requires { id < 1024 }
-    ensures ranks { OnOk result (ranks.new.items ≡ slice_set (sought_name_comparisons_padded_to_id ranks.old.items id) id rank) }
-    ensures room { OnOk result (vec_len ranks.new ≤ max (vec_len ranks.old) 1024) }
+    ensures { ranks.new.items ≡ slice_set (sought_name_comparisons_padded_to_id ranks.old.items id) id rank }
 {
-    pad_sought_name_comparisons_to_id(ranks, id)?;
+    pad_sought_name_comparisons_to_id(ranks, id);
     ranks[id] = rank;
-    Ok(())
 }
 
 // Adds slots without a name up to an id.
-fn pad_sought_name_comparisons_to_id(ranks: &mut Ranks, id: usize) -> Result<(), AllocError>
+fn pad_sought_name_comparisons_to_id(ranks: &mut Ranks, id: usize)
     requires { id < 1024 }
-    ensures ranks { OnOk result (ranks.new.items ≡ sought_name_comparisons_padded_to_id ranks.old.items id) }
-    ensures long { OnOk result (id < vec_len ranks.new) }
-    ensures room { OnOk result (vec_len ranks.new ≤ max (vec_len ranks.old) 1024) }
+    ensures ranks { ranks.new.items ≡ sought_name_comparisons_padded_to_id ranks.old.items id }
+    ensures long { id < array_vec_len ranks.new }
 {
-    if ranks.len() <= id {
-        ranks.resize(id + 1, None)?;
+    while ranks.len() <= id {
+        ranks.push(NameComparison::NoneOrLess);
     }
-    Ok(())
 }
 
-// Applies a create or a delete.
-fn apply_splice_to_sought_name_comparisons(
-    ranks: &mut Ranks,
-    entry: &Entry<'_>,
-) -> Result<(), AllocError>
-    ensures ranks { OnOk result (ranks.new.items ≡ sought_name_comparisons_after_splice ranks.old.items (log_entry_view entry.now)) }
-    ensures room { OnOk result (vec_len ranks.new ≤ vec_len ranks.old + 1) }
+// Applies a create or a delete. Returns false where there is no room for another slot.
+fn apply_splice_to_sought_name_comparisons(ranks: &mut Ranks, entry: &Entry<'_>) -> bool
+    ensures { IsTrue result → ranks.new.items ≡ sought_name_comparisons_after_splice ranks.old.items (log_entry_view entry.now) }
 {
     let id = usize::from(entry.tag.id());
     if entry.tag.kind() == CREATE {
+        if ranks.is_full() {
+            return false;
+        }
         if id <= ranks.len() {
-            ranks.insert(id, None)?;
+            ranks.insert(id, NameComparison::NoneOrLess);
         }
     } else if id < ranks.len() {
         ranks.remove(id);
     }
-    Ok(())
+    true
 }
 
 // Returns the first slot whose name is the wanted one, or a greater one. Returns the number of
 // slots where there is none.
 fn first_slot_whose_name_compares_as_wanted(
-    ranks: &[Option<Ordering>],
+    ranks: &[NameComparison],
     same: bool,
     skip: Option<u16>,
 ) -> usize
@@ -189,23 +255,20 @@ fn is_unskipped_slot_named_as_wanted(
     same: bool,
     skip: Option<u16>,
     id: usize,
-    rank: Option<Ordering>,
+    rank: NameComparison,
 ) -> bool
     ensures { result ≡ is_unskipped_slot_comparing_as_wanted same skip id rank }
 {
-    match rank {
-        Some(rank) => is_sought_name_comparison_as_wanted(same, rank) && !is_id_to_skip(skip, id),
-        None => false,
-    }
+    is_sought_name_comparison_as_wanted(same, rank) && !is_id_to_skip(skip, id)
 }
 
-fn is_sought_name_comparison_as_wanted(same: bool, rank: Ordering) -> bool
+fn is_sought_name_comparison_as_wanted(same: bool, rank: NameComparison) -> bool
     ensures { result ≡ is_comparison_same_or_greater_as_wanted same rank }
 {
     match rank {
-        Ordering::Less => !same,
-        Ordering::Equal => same,
-        Ordering::Greater => false,
+        NameComparison::NoneOrLess => false,
+        NameComparison::Same => same,
+        NameComparison::Greater => !same,
     }
 }
 

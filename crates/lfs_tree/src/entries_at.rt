@@ -67,7 +67,7 @@ pub(crate) fn find_at_path<'a, D: BlockDevice>(
     ensures reading { OnlyReadsThreadAndReportsErrors thread.old thread.new result }
 {
     let names = path.names(alloc)?;
-    let found = look_up(alloc, thread, root, &names)?;
+    let found = look_up(thread, root, &names)?;
     Ok(FoundAtPath {
         found,
         name: last_name_or_empty(&names),

@@ -11,7 +11,7 @@ pub unwrap-structure-requires : goal.unwrap-structure-requires
 unwrap-structure-requires c =
     let (content, is) = c.requires in
     let sound = logged c.args.log.now is.raw is.bytes is.log in
-    let s = stands_in c.args.order content c.args.name.now c.args.skip is.raw sound is.complete c.in-Found.id (subst (IsLookupOfName c.args.order c.args.name.now c.args.skip is.raw.slots) c.in-Found.is (c.in_ok-found.ensures is.raw is.log is.short)) in
+    let s = stands_in c.args.order content c.args.name.now c.args.skip is.raw sound is.complete c.in-Found.id (subst (IsLookupOfName c.args.order c.args.name.now c.args.skip is.raw.slots) c.in-Found.is (c.find.ensures is.raw is.log is.short)) in
     let r = read_there c.args.order content c.args.name.now c.args.skip is.raw sound is.complete c.in-Found.id s in
     some_part c.find_slot_struct.result _ r.part (c.find_slot_struct.ensures.held is.raw is.log) r.is
 
@@ -19,26 +19,26 @@ pub entry_of_struct-requires : goal.entry_of_struct-requires
 entry_of_struct-requires c =
     let (content, is) = c.requires in
     let sound = logged c.args.log.now is.raw is.bytes is.log in
-    let s = stands_in c.args.order content c.args.name.now c.args.skip is.raw sound is.complete c.in-Found.id (subst (IsLookupOfName c.args.order c.args.name.now c.args.skip is.raw.slots) c.in-Found.is (c.in_ok-found.ensures is.raw is.log is.short)) in
+    let s = stands_in c.args.order content c.args.name.now c.args.skip is.raw sound is.complete c.in-Found.id (subst (IsLookupOfName c.args.order c.args.name.now c.args.skip is.raw.slots) c.in-Found.is (c.find.ensures is.raw is.log is.short)) in
     let r = read_there c.args.order content c.args.name.now c.args.skip is.raw sound is.complete c.in-Found.id s in
     subst (IsNameOrStructTheFormatAllows 2) (sym (part_is c.find_slot_struct.result c.unwrap-structure.result _ r.part c.unwrap-structure.ensures (c.find_slot_struct.ensures.held is.raw is.log) r.is)) r.is_part
 
 pub returns-in-Found : goal.returns-in-Found
 returns-in-Found c content is =
     let sound = logged c.args.log.now is.raw is.bytes is.log in
-    let s = stands_in c.args.order content c.args.name.now c.args.skip is.raw sound is.complete c.in-Found.id (subst (IsLookupOfName c.args.order c.args.name.now c.args.skip is.raw.slots) c.in-Found.is (c.in_ok-found.ensures is.raw is.log is.short)) in
+    let s = stands_in c.args.order content c.args.name.now c.args.skip is.raw sound is.complete c.in-Found.id (subst (IsLookupOfName c.args.order c.args.name.now c.args.skip is.raw.slots) c.in-Found.is (c.find.ensures is.raw is.log is.short)) in
     let r = read_there c.args.order content c.args.name.now c.args.skip is.raw sound is.complete c.in-Found.id s in
     let same = part_is c.find_slot_struct.result c.unwrap-structure.result _ r.part c.unwrap-structure.ensures (c.find_slot_struct.ensures.held is.raw is.log) r.is in
     record {
       stands = s;
       shows = subst (IsEntryOfStruct c.entry_of_struct.result) (ap (λ (p : ℕ × List ℕ). struct_of_type_and_bytes p.0 p.1) same ∙ sym r.struct) c.entry_of_struct.ensures;
-      kept = kept_in c.args.order content c.args.name.now c.args.skip is.raw sound is.complete c.in-Found.id (subst (IsLookupOfName c.args.order c.args.name.now c.args.skip is.raw.slots) c.in-Found.is (c.in_ok-found.ensures is.raw is.log is.short));
+      kept = kept_in c.args.order content c.args.name.now c.args.skip is.raw sound is.complete c.in-Found.id (subst (IsLookupOfName c.args.order c.args.name.now c.args.skip is.raw.slots) c.in-Found.is (c.find.ensures is.raw is.log is.short));
     }
 
 pub returns-in-Place : goal.returns-in-Place
 returns-in-Place c content is =
     let sound = logged c.args.log.now is.raw is.bytes is.log in
-    let place = subst (IsLookupOfName c.args.order c.args.name.now c.args.skip is.raw.slots) c.in-Place.is (c.in_ok-found.ensures is.raw is.log is.short) in
+    let place = subst (IsLookupOfName c.args.order c.args.name.now c.args.skip is.raw.slots) c.in-Place.is (c.find.ensures is.raw is.log is.short) in
     record {
       absent = absent_in c.args.order content c.args.name.now c.args.skip is.raw sound is.complete c.in-Place.id place;
       place = belongs_in c.args.order content c.args.name.now c.args.skip is.raw sound is.complete c.in-Place.id place;

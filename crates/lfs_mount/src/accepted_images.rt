@@ -18,7 +18,7 @@ ghost use Rattle.lfs_mount.specs.Members.{AreDirectoryHeadersOfThread, IsThreadR
 ghost use Rattle.lfs_mount.specs.Orders.{includes_name_order};
 ghost use Rattle.lfs_mount.specs.ReadImage.{IsAcceptedInNameOrders};
 ghost use Rattle.lfs_mount.specs.Reads.{check_read_count, mount_read_count, pair_read_count};
-ghost use Rattle.lfs_mount.specs.Start.{allocation_seed};
+ghost use Rattle.lfs_mount.specs.Start.{allocation_seed, image_number, mixed_number};
 
 use crate::check::check_slots_and_mark_lists_of_thread;
 use crate::members::{first_pair_addresses_of_all_directories, make_directory_pairs_from_headers};
@@ -108,14 +108,21 @@ fn check_image<D: BlockDevice>(
 
 // A number made of the image: how many blocks are used, and the pairs' revisions, which rise with
 // each mount that writes.
-fn allocation_seed_of_image(map: &BlockMap, pairs: &[Pair]) -> u32
-    ensures { result ≡ allocation_seed map.now pairs.now }
+fn image_number(map: &BlockMap, pairs: &[Pair]) -> u32
+    ensures { result ≡ image_number map.now pairs.now }
 {
     let mut number = map.used_count();
     for pair in pairs {
         number = number.wrapping_add(pair.revision);
     }
     number
+}
+
+// The number mixed: numbers in equal steps, as those of mounts, come to blocks that lie apart.
+fn mixed_number(number: u32) -> u32
+    ensures { result ≡ mixed_number number }
+{
+    number.wrapping_mul(0x9e37_79b1) >> 16
 }
 
 // Lets the map hand out blocks from another one on after each mount, so that wear spreads, and
@@ -125,8 +132,8 @@ fn start_allocation_elsewhere(map: &mut BlockMap, pairs: &[Pair]) -> Option<u32>
     ensures none { IfNone result ((block : ℕ) → ¬ (IsBlockFree map.old block)) }
     ensures same { map.new ≡ map.old }
 {
-    let number = allocation_seed_of_image(map, pairs);
-    map.set_search_start_to_first_free_from(number)
+    let seed = mixed_number(image_number(map, pairs));
+    map.set_search_start_to_first_free_from(seed)
 }
 
 // The pairs from an index on.

@@ -4,8 +4,8 @@ use Rattle.std.proofs.lemmas.List.{take_all}
 use Rattle.std.proofs.lemmas.List.Sums.{sum_by_more}
 use Rattle.lfs_model.specs.BlockSets.{used_count}
 use Rattle.lfs_thread.specs.Kept.{PairHeader}
-use Rattle.lfs_mount.specs.Start.{allocation_seed}
-use Rattle.lfs_mount.proofs.accepted_images.allocation_seed_of_image.Goals as goal
+use Rattle.lfs_mount.specs.Start.{image_number}
+use Rattle.lfs_mount.proofs.accepted_images.image_number.Goals as goal
 
 one_more : (number sum revision : ℕ) → number ≡ sum % 2 ^ 32 → (number + revision) % 2 ^ 32 ≡ (sum + revision) % 2 ^ 32
 one_more number sum revision is = omega arith
@@ -23,4 +23,4 @@ loop-pair-preserved c =
     ∙ ap (λ n. n % 2 ^ 32) (let sum : used_count c.args.map.now + before + c.pair-item.result.revision ≡ used_count c.args.map.now + sum_by (λ (h : PairHeader). h.revision) (take (i + 1) c.args.pairs.now) = omega (arith, more, here) in sum)
 
 pub returns : goal.returns
-returns c = c.loop-pair.invariant ∙ ap (allocation_seed c.args.map.now) (take_all c.loop-pair.pair-index c.args.pairs.now c.loop-pair-test.false)
+returns c = c.loop-pair.invariant ∙ ap (image_number c.args.map.now) (take_all c.loop-pair.pair-index c.args.pairs.now c.loop-pair-test.false)

@@ -7,5 +7,6 @@ pub mod Fields
 pub mod Filled
 pub mod Finished
 pub mod Growing
+pub mod Known
 pub mod Right
 pub mod Way

@@ -5,6 +5,7 @@
 mod block;
 mod extender;
 mod front;
+mod known;
 mod read;
 mod rest;
 mod size;
@@ -13,6 +14,7 @@ mod way;
 
 pub use extender::Extender;
 pub use front::list_head_for_first_bytes;
+pub use known::KnownBlocks;
 pub use read::{head_of_list_before_block, read_at};
 pub use rest::RestLocation;
 pub use size::{blocks_for, place};

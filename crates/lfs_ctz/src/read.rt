@@ -5,7 +5,7 @@ ghost use Rattle.lfs_model.specs.History.{read_count_of_history};
 ghost use Rattle.lfs_ctz.specs.Calls.{OnlyReadsAndReportsIoOrCorrupt};
 ghost use Rattle.lfs_model.specs.SkipLists.{AreListBlocks, IsSkipList, IsPlaceOfByteInList, list_blocks_from_head, list_block_count_for_size, bytes_of_skip_list, pointer_count_of_list_block, word_at_offset};
 
-use crate::{blocks_for, place};
+use crate::known::KnownBlocks;
 use byteorder::{ByteOrder, LittleEndian};
 use lfs_device::{BlockDevice, Error};
 
@@ -60,7 +60,7 @@ pub(crate) fn find_block_at_index<D: BlockDevice>(
 
 // Returns the block that pointer 0 of a block names. Returns `Corrupt` where there is no such
 // block.
-fn read_block_before<D: BlockDevice>(dev: &mut D, block: u32) -> Result<u32, Error>
+pub(crate) fn read_block_before<D: BlockDevice>(dev: &mut D, block: u32) -> Result<u32, Error>
     requires { block < (D.geometry dev.old).block_count }
     ensures word { IfOk result (λ word. word ≡ word_at_offset (block_bytes_by_number (D.blocks dev.old) block) 0) }
     ensures in_range { IfOk result (λ b. b < (D.geometry dev.old).block_count) }
@@ -160,22 +160,5 @@ pub fn read_at<D: BlockDevice>(
         → IsPlaceOfByteInList (D.geometry dev.old).block_size (pos + min (length buf.old) (size - pos) - 1) last end
         → OnOk result (read_count_of_history (D.history dev.new) ≤ read_count_of_history (D.history dev.old) + 2 * m + 2 * (last - first) + 1) }
 {
-    let block_size = dev.geometry().block_size;
-    if pos >= size || buf.is_empty() {
-        return Ok(0);
-    }
-    let len = buf.len().min((size - pos) as usize);
-    let mut left = len as u32;
-    let (index, _) = place(block_size, pos + left - 1);
-    let mut block = find_block_at_index(dev, head, blocks_for(block_size, size) - 1, index)?;
-    'blocks: loop {
-        let (index, off) = place(block_size, pos + left - 1);
-        let part = left.min(off + 1 - 4 * pointer_count_at_index(index));
-        left -= part;
-        read_block_bytes_into_buffer_range(dev, block, off + 1 - part, buf, left as usize, part)?;
-        if left == 0 {
-            return Ok(len);
-        }
-        block = read_block_before(dev, block)?;
-    }
+    KnownBlocks::new().read_at(dev, head, size, pos, buf)
 }

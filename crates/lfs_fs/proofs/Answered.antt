@@ -40,6 +40,7 @@ use Rattle.lfs_fs.specs.SessionView.{SessionView, IsSessionReadyForCalls, AreOpt
 use Rattle.lfs_fs.proofs.Failing.{reads_write_nothing, nothing_written, failed_system, healthy_system, asking_fails, broken_fails, memory_fails}
 use Rattle.lfs_fs.proofs.Calls.{still_called}
 use Rattle.lfs_fs.proofs.OpenReaders.{none_read, read_carried}
+use Rattle.lfs_fs.proofs.ReadersKnow.{known_carried}
 
 -- the tree, further on by some calls
 later : TreeState → List DeviceCallEvent → CachedBlocks → TreeState
@@ -257,6 +258,7 @@ ready_later old new files h asked =
       idle = h.idle;
       written = written_later old new.history new.cache (writers_among files) h.written;
       read = h.read;
+      known = h.known;
     }
 
 pub asked_ready : (old new : TreeState) (files : RuntimeOpenFilesByNumber) → (old.failed ≡ false → IsSessionReadyForCalls old files) → WasTreeOnlyRead old new → new.failed ≡ false → IsSessionReadyForCalls new files
@@ -445,6 +447,7 @@ carried_ready old new files op off ready e keeps carried = record {
   idle = λ h. let k = few_flying [] new.map (λ b h. absurd (never b (carried.flight.none_comes b h))) in omega (arith, k);
   written = written_still old new (writers_among files) e carried.writable carried.recovered.gstate keeps ready.written;
   read = read_carried old new op (paths_of_writers files) (readers_among files) carried (none_read op off (readers_among files)) ready.read;
+  known = known_carried old new op (paths_of_writers files) (readers_among files) carried (none_read op off (readers_among files)) ready.read ready.known;
 }
   where
     never : (b : ℕ) → IsBlockInFlight old.map b → ⊥

@@ -27,6 +27,7 @@ use Rattle.lfs_fs.specs.declared.files.Writer.{Writer}
 use Rattle.lfs_fs.proofs.OpenFiles.{held_is, held_one}
 use Rattle.lfs_fs.proofs.Calls.{still_called}
 use Rattle.lfs_fs.proofs.OpenReaders.{read_carried}
+use Rattle.lfs_fs.proofs.ReadersKnow.{known_carried}
 
 -- ---- room
 
@@ -117,6 +118,7 @@ module _ (over : (old new : TreeState) (op : Operation) (path : Path) (c : Write
       idle = λ h. let k = few_flying [] new.map (λ b f. absurd (never h b (carried.flight.none_comes b f))) in omega (arith, k);
       written = still_all (writers_among files) ready.one ready.written spares.apart keeps (by_size spares.room);
       read = read_carried old new op (paths_of_writers files) (readers_among files) carried spares.unread ready.read;
+      known = known_carried old new op (paths_of_writers files) (readers_among files) carried spares.unread ready.read ready.known;
     };
     same = same_files files ready.written spares.apart keeps;
   }

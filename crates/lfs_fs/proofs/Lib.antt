@@ -5,6 +5,7 @@ pub mod EntryPaths
 pub mod Late
 pub mod Checked
 pub mod OpenReaders
+pub mod ReadersKnow
 pub mod OpenFiles
 pub mod SamePaths
 pub mod EntryChecks

@@ -23,14 +23,16 @@ use Rattle.lfs_model.specs.Operations.{path_of_bytes}
 use Rattle.lfs_model.specs.Disk.{block_count}
 use Rattle.lfs_model.specs.Session.{lacks_free_blocks}
 use Rattle.lfs_tree.specs.TreeState.{TreeState, WasTreeOnlyRead, disk_summary_of_tree}
-use Rattle.lfs_fs.specs.FileView.{RuntimeOpenFilesByNumber, prepended_if_some, open_files_selected_by, unsaved_or_tree_bytes_of_writer, open_file_at, open_file_view, open_files_view, lowest_free_number_of_runtime_files, has_unsaved_writer, is_open_at_matching_path, is_unsaved_writer, blocks_reserved_by_writers, blocks_reserved_by_writer, blocks_reserved_for_size, open_file_with_position, open_files_with_entry_at_number, reader_of_open_file_or_none, reader_view, readers_among, is_unsaved_nonsequential, writer_of_open_file_or_none, writer_view, writers_among, paths_of_writers}
-use Rattle.lfs_fs.specs.SessionView.{IsReaderOfCurrentContentsWithoutWriter, IsSessionReadyForCalls, AreOptionalUnsavedContentsOfWriter, IsWriterOverWritableImage}
+use Rattle.lfs_ctz.specs.declared.known.KnownBlocks.{KnownBlocks}
+use Rattle.lfs_fs.specs.FileView.{RuntimeOpenFilesByNumber, prepended_if_some, open_files_selected_by, unsaved_or_tree_bytes_of_writer, open_file_at, open_file_view, open_files_view, lowest_free_number_of_runtime_files, has_unsaved_writer, is_open_at_matching_path, is_unsaved_writer, blocks_reserved_by_writers, blocks_reserved_by_writer, blocks_reserved_for_size, open_file_with_known, open_file_with_position, open_files_with_entry_at_number, reader_of_open_file_or_none, reader_view, readers_among, is_unsaved_nonsequential, writer_of_open_file_or_none, writer_view, writers_among, paths_of_writers}
+use Rattle.lfs_fs.specs.SessionView.{HasKnownListBlocks, IsReaderOfCurrentContentsWithoutWriter, IsSessionReadyForCalls, AreOptionalUnsavedContentsOfWriter, IsWriterOverWritableImage}
 use Rattle.lfs_fs.specs.declared.files.OpenFile.{OpenFile}
 use Rattle.lfs_fs.specs.declared.files.OpenFile.TheVariants as file
 use Rattle.lfs_fs.specs.declared.files.Reader.{Reader}
 use Rattle.lfs_fs.specs.declared.files.Writer.{Writer}
 use Rattle.lfs_fs.specs.declared.files.UnsavedContents.{UnsavedContents}
 use Rattle.lfs_fs.proofs.OpenReaders.{any_path, read_closed, read_moved, read_put}
+use Rattle.lfs_fs.proofs.ReadersKnow.{known_closed, known_moved, known_put}
 
 -- ---- one file
 
@@ -306,9 +308,9 @@ few_set kind fs gs fd limit entry is lt few less =
     let k = count_set kind fs fd entry lt in
     subst (λ xs. length (open_files_selected_by kind xs) ≤ limit) (sym is) (omega (arith, k, few, less))
 
-pub less_moved : {A : Type 0} (kind : Option OpenFile → Option A) (position : ℕ) (o : Option OpenFile) → ((f : OpenFile) → one_of (kind (Some (open_file_with_position position f))) ≡ one_of (kind (Some f))) → one_of (kind (option_map (open_file_with_position position) o)) ≤ one_of (kind o)
-less_moved kind position None same = omega arith
-less_moved kind position (Some f) same = let k = same f in omega (arith, k)
+pub less_changed : {A : Type 0} (kind : Option OpenFile → Option A) (change : OpenFile → OpenFile) (o : Option OpenFile) → ((f : OpenFile) → one_of (kind (Some (change f))) ≡ one_of (kind (Some f))) → one_of (kind (option_map change o)) ≤ one_of (kind o)
+less_changed kind change None same = omega arith
+less_changed kind change (Some f) same = let k = same f in omega (arith, k)
 
 pub reader_moved : (position : ℕ) (f : OpenFile) → one_of (reader_of_open_file_or_none (Some (open_file_with_position position f))) ≡ one_of (reader_of_open_file_or_none (Some f))
 reader_moved position (file.Reading r) = refl
@@ -317,6 +319,14 @@ reader_moved position (file.Writing w) = refl
 pub writer_moved : (position : ℕ) (f : OpenFile) → one_of (writer_of_open_file_or_none (Some (open_file_with_position position f))) ≡ one_of (writer_of_open_file_or_none (Some f))
 writer_moved position (file.Reading r) = refl
 writer_moved position (file.Writing w) = refl
+
+pub reader_noted : (known : KnownBlocks) (f : OpenFile) → one_of (reader_of_open_file_or_none (Some (open_file_with_known known f))) ≡ one_of (reader_of_open_file_or_none (Some f))
+reader_noted known (file.Reading r) = refl
+reader_noted known (file.Writing w) = refl
+
+pub writer_noted : (known : KnownBlocks) (f : OpenFile) → one_of (writer_of_open_file_or_none (Some (open_file_with_known known f))) ≡ one_of (writer_of_open_file_or_none (Some f))
+writer_noted known (file.Reading r) = refl
+writer_noted known (file.Writing w) = refl
 
 pub inside_is : (fs : RuntimeOpenFilesByNumber) (fd : ℕ) → is_some (open_file_at fs fd) ≡ true → fd < length fs
 inside_is fs fd e = ltb-true fd (length fs) (inside fs fd e)
@@ -398,6 +408,7 @@ ready_moved t fs fd position h = record {
   idle = λ e. h.idle (sym (unsaved_moved fs fd position) ∙ e);
   written = written_moved t fs fd position h.written;
   read = read_moved t.pairs fs fd position h.read;
+  known = known_moved t.disk fs fd position h.known;
 }
 
 pub ready_closed : (t : TreeState) (fs : RuntimeOpenFilesByNumber) (fd : ℕ) → is_saved (open_file_at fs fd) ≡ true → IsSessionReadyForCalls t fs → IsSessionReadyForCalls t (set fs fd None)
@@ -408,16 +419,18 @@ ready_closed t fs fd e h = record {
   idle = λ k. h.idle (sym (unsaved_closed fs fd e) ∙ k);
   written = written_closed t fs fd h.written;
   read = read_closed t.pairs fs fd h.read;
+  known = known_closed t.disk fs fd h.known;
 }
 
-pub ready_put : (t : TreeState) (fs : RuntimeOpenFilesByNumber) (r : Reader) → IsReaderOfCurrentContentsWithoutWriter t.pairs (paths_of_writers fs) r → IsSessionReadyForCalls t fs → IsSessionReadyForCalls t (open_files_with_entry_at_number fs (lowest_free_number_of_runtime_files fs) (Some (file.Reading r)))
-ready_put t fs r k h = record {
+pub ready_put : (t : TreeState) (fs : RuntimeOpenFilesByNumber) (r : Reader) → IsReaderOfCurrentContentsWithoutWriter t.pairs (paths_of_writers fs) r → HasKnownListBlocks t.disk r → IsSessionReadyForCalls t fs → IsSessionReadyForCalls t (open_files_with_entry_at_number fs (lowest_free_number_of_runtime_files fs) (Some (file.Reading r)))
+ready_put t fs r k known h = record {
   sound = h.sound;
   called = h.called;
   one = subst (λ ws. length ws ≤ 1) (sym (writers_put fs r)) h.one;
   idle = λ e. h.idle (sym (ap (list_any (λ w. is_some w.unsaved)) (writers_put fs r)) ∙ e);
   written = subst (AllByRecursion (IsWriterOverWritableImage t)) (sym (writers_put fs r)) h.written;
   read = read_put t.pairs fs (lowest_free_number_of_runtime_files fs) r (ap (map (λ w. w.path)) (writers_put fs r)) k h.read;
+  known = known_put t.disk fs (lowest_free_number_of_runtime_files fs) r known h.known;
 }
 
 pub few_left : (t : TreeState) (fs : RuntimeOpenFilesByNumber) → nat_le 16 (length (readers_of_open_files (open_files_view t fs))) ≡ false → length (readers_among fs) < 16

@@ -168,7 +168,7 @@ pub none_read : (op : Operation) → ((p : Path) → removes_or_moves_path_or_an
 none_read op h [] = tt
 none_read op h (r ∷ rs) = (h r.path, none_read op h rs)
 
-other_way : (p q : Path) → same_path p q ≡ false → same_path q p ≡ false
+pub other_way : (p q : Path) → same_path p q ≡ false → same_path q p ≡ false
 other_way p q e = go (same_path q p) refl
   where
     go : (b : Bool) → same_path q p ≡ b → b ≡ false

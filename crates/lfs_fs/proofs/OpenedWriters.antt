@@ -28,7 +28,7 @@ use Rattle.lfs_lookup.specs.Refusals.{refusal_of_error}
 use Rattle.lfs_tree.specs.TreeState.{WasTreeOnlyRead, IsFailedTree, IsOperationAppliedToTree, IsIoWithFaultOrNoMemory, IsSoundTreeState, TreeState, disk_summary_of_tree, tree_view}
 use Rattle.lfs_fs.specs.WriterChanges.{CanOpenWriter, IsOpenedWriterSeenAs}
 use Rattle.lfs_fs.specs.FileView.{RuntimeOpenFilesByNumber, open_file_at, open_files_view, lowest_free_number_of_runtime_files, has_unsaved_writer, open_files_with_entry_at_number, readers_among, writer_of_open_file_or_none, writer_view, writers_among}
-use Rattle.lfs_fs.specs.SessionView.{IsSessionStepOrFailure, AreReadersOfCurrentContentsWithoutWriter, SessionView, IsSessionReadyForCalls, IsWriterOverWritableImage, session_view_of_tree_and_files, session_view_of_tree_and_files_view, system_state_of_session_view, refusal_by_checks, session_of_session_view}
+use Rattle.lfs_fs.specs.SessionView.{IsSessionStepOrFailure, AreReadersOfCurrentContentsWithoutWriter, HasKnownListBlocks, SessionView, IsSessionReadyForCalls, IsWriterOverWritableImage, session_view_of_tree_and_files, session_view_of_tree_and_files_view, system_state_of_session_view, refusal_by_checks, session_of_session_view}
 use Rattle.lfs_fs.specs.Replies.{reply_from_result}
 use Rattle.lfs_fs.specs.OpenFilesStay.{KeepsFilesOfWriters}
 use Rattle.lfs_fs.specs.declared.files.OpenFile.{OpenFile}
@@ -42,6 +42,7 @@ use Rattle.lfs_fs.proofs.WriterOpens.{writes_anew}
 use Rattle.lfs_fs.proofs.WriterSteps.{there_arranged}
 use Rattle.lfs_fs.proofs.FilesBeside.{no_reader_at}
 use Rattle.lfs_fs.proofs.OpenReaders.{read_opened}
+use Rattle.lfs_fs.proofs.ReadersKnow.{known_opened}
 
 -- ---- what no check refuses
 
@@ -241,14 +242,15 @@ room_made fs gs n none number is =
 
 -- ---- the session once the writer is open
 
-ready_with : (t : TreeState) (fs gs : RuntimeOpenFilesByNumber) (w : Writer) → writers_among fs ≡ [] → writers_among gs ≡ w ∷ [] → IsSessionReadyForCalls t fs → IsWriterOverWritableImage t w → AreReadersOfCurrentContentsWithoutWriter t.pairs gs → IsSessionReadyForCalls t gs
-ready_with t fs gs w none alone h written read = record {
+ready_with : (t : TreeState) (fs gs : RuntimeOpenFilesByNumber) (w : Writer) → writers_among fs ≡ [] → writers_among gs ≡ w ∷ [] → IsSessionReadyForCalls t fs → IsWriterOverWritableImage t w → AreReadersOfCurrentContentsWithoutWriter t.pairs gs → AllByRecursion (HasKnownListBlocks t.disk) (readers_among gs) → IsSessionReadyForCalls t gs
+ready_with t fs gs w none alone h written read known = record {
   sound = h.sound;
   called = h.called;
   one = subst (λ ws. length ws ≤ 1) (sym alone) (omega arith);
   idle = λ e. h.idle (ap (list_any (λ w. is_some w.unsaved)) none);
   written = subst (AllByRecursion (IsWriterOverWritableImage t)) (sym alone) (written, tt);
   read = read;
+  known = known;
 }
 
 keeps_none : (t s : TreeState) (fs : RuntimeOpenFilesByNumber) → writers_among fs ≡ [] → KeepsFilesOfWriters t s (writers_among fs)
@@ -348,6 +350,7 @@ writer_ready t new fs gs bytes flags w opened none alone is =
     let path : path_of_bytes_or_root bytes ≡ w.path = sym (ap (λ (x : session.FileWriter). x.path) opened.begun.seen) in
     ready_with new fs gs w none (ap (λ xs. writers_among xs) is ∙ alone) opened.ready opened.begun.written
     (subst (AreReadersOfCurrentContentsWithoutWriter new.pairs) (sym is) (read_opened new.pairs fs (lowest_free_number_of_runtime_files fs) w (ap (map (λ x. x.path)) alone) (subst (λ p. AllByRecursion (λ r. same_path p r.path ≡ false) (readers_among fs)) path opened.unread) opened.ready.read))
+    (subst (λ xs. AllByRecursion (HasKnownListBlocks new.disk) (readers_among xs)) (sym is) (known_opened new.disk fs (lowest_free_number_of_runtime_files fs) w opened.ready.known))
 
 pub writer_opened : (t new : TreeState) (fs gs : RuntimeOpenFilesByNumber) (now : SessionView) (bytes : List ℕ) (flags : FlagsOfOpen) (w : Writer) (n : ℕ) → session_view_of_tree_and_files t fs ≡ now → IsOpenedBy t fs bytes flags new w → flags.write ≡ true → writers_among fs ≡ [] →
     n ≡ lowest_free_number_of_runtime_files fs → gs ≡ open_files_with_entry_at_number fs (lowest_free_number_of_runtime_files fs) (Some (file.Writing w)) → IsSessionStepOrFailure now (ops.Open bytes flags) (Ok (ops.Opened n)) (session_view_of_tree_and_files new gs)

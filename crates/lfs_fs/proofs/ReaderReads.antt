@@ -1,5 +1,5 @@
 -- What an open reader gives.
-use Rattle.std.proofs.Common.{ℕ, ◌≡◌, ◌+◌, true, false, List, length, take, drop, Option, Some, None, is_none, Result, Ok, Err, refl, sym, ap, ap₂, subst, ◌∙◌}
+use Rattle.std.proofs.Common.{ℕ, ◌≡◌, ◌+◌, ◌-◌, min, true, false, List, length, take, drop, Option, Some, None, is_none, Result, Ok, Err, refl, sym, ap, ap₂, subst, ◌∙◌}
 use Rattle.std.specs.Option.{option_map}
 use Rattle.lfs_model.specs.TreeEdits.{file_bytes_of_node, is_file}
 use Rattle.lfs_model.specs.Operations as ops
@@ -7,8 +7,20 @@ use Rattle.lfs_model.specs.Operations.{Operation, Reply}
 use Rattle.lfs_model.specs.Session.{OpenFilesByNumber, OpenFile, FileReader, Reading, Writing, open_file_with_number, open_files_with_file_at_number, reader_of_open_file, refuse_if}
 use Rattle.lfs_model.specs.Effects.{open_file_at_position, read_effect, file_size_of_node}
 use Rattle.lfs_model.specs.Tree.{Node, FileNode, DirectoryNode}
+use Rattle.std.proofs.lemmas.Option.{same_Some}
+use Rattle.lfs_ctz.specs.Known.{ReadsKnownList}
+use Rattle.lfs_ctz.specs.declared.known.KnownBlocks.{KnownBlocks}
+use Rattle.lfs_lookup.specs.FileContents.{IsInlineBytesOrSkipListOfFileAtPath, struct_of_file_contents}
+use Rattle.lfs_model.specs.History.{read_count_of_history}
+use Rattle.lfs_model.specs.Keeping.{struct_of_path}
+use Rattle.lfs_model.specs.SkipLists.{IsPlaceOfByteInList}
+use Rattle.lfs_model.specs.Slots.{Ctz, Inline, Struct}
+use Rattle.lfs_fs.specs.FileView.{RuntimeOpenFilesByNumber, open_file_at, open_files_view, reader_of_open_file_or_none, reader_view}
+use Rattle.lfs_fs.specs.ReaderReads.{TakesFewDeviceReads}
+use Rattle.lfs_fs.specs.declared.files.Reader.{Reader}
+use Rattle.lfs_fs.proofs.OpenFiles.{some_reader}
 use Rattle.lfs_tree.specs.TreeState.{TreeState, IsSoundTreeState, tree_view, WasTreeOnlyRead}
-use Rattle.lfs_fs.specs.SessionView.{SessionView, session_view_of_tree_and_files_view, session_of_session_view, refusal_by_checks, IsSessionStepOrFailure}
+use Rattle.lfs_fs.specs.SessionView.{SessionView, session_view_of_tree_and_files, session_view_of_tree_and_files_view, session_of_session_view, refusal_by_checks, IsSessionStepOrFailure}
 use Rattle.lfs_device.specs.declared.error.Error.{Error}
 use Rattle.lfs_lookup.specs.Refusals.{refusal_of_error}
 use Rattle.lfs_tree.specs.TreeState.{IsTreeFailedByRead, IsIoWithFaultOrNoMemory}
@@ -67,3 +79,24 @@ read_fails old now op reply e tree r same works broken error is =
     subst (λ z. IsSessionStepOrFailure z op (reply_from_result reply r) (session_view_of_tree_and_files_view tree old.files)) same
     (subst (λ z. IsSessionStepOrFailure old op (reply_from_result reply z) (session_view_of_tree_and_files_view tree old.files)) (sym is)
     (error_answers old op e (session_view_of_tree_and_files_view tree old.files) (ops.Refused (refusal_of_error e)) error.errors (asking_fails e old op tree old.files (sym works) broken error)))
+
+-- ---- how often it reads
+
+-- no oftener than its known blocks say
+pub few_reads : (t new : TreeState) (fs : RuntimeOpenFilesByNumber) (files : OpenFilesByNumber) (fd count : ℕ) (r : Reader) (known later : KnownBlocks) → Some r ≡ reader_of_open_file_or_none (open_file_at fs fd) → IsInlineBytesOrSkipListOfFileAtPath t.pairs r.path r.contents
+    → ((own : List ℕ) → struct_of_file_contents r.contents ≡ Inline own → new.history ≡ t.history)
+    → ((head size : ℕ) → struct_of_file_contents r.contents ≡ Ctz head size → ReadsKnownList t.disk.block_size size r.position count known later t.history new.history)
+    → TakesFewDeviceReads (session_view_of_tree_and_files t fs) fd count (session_view_of_tree_and_files_view new files)
+few_reads t new fs files fd count r known later there kept none few = record {
+  inline = λ q own at is. ap read_count_of_history (none own (stored q (Inline own) at is));
+  list = λ q head size m first last off end at is le from to.
+      let e = same q at in
+      (few head size (stored q (Ctz head size) at is) first last off end (subst (λ (z : FileReader). IsPlaceOfByteInList t.disk.block_size z.position first off) (sym e) from)
+      (subst (λ (z : FileReader). IsPlaceOfByteInList t.disk.block_size (z.position + min count (size - z.position) - 1) last end) (sym e) to)).few m le;
+}
+  where
+    same : (q : FileReader) → reader_of_open_file (open_file_with_number (open_files_view t fs) fd) ≡ Some q → reader_view r ≡ q
+    same q at = same_Some (reader_view r) q (some_reader t fs fd r there ∙ at)
+
+    stored : (q : FileReader) (s : Struct) → reader_of_open_file (open_file_with_number (open_files_view t fs) fd) ≡ Some q → struct_of_path t.pairs q.path ≡ Some s → struct_of_file_contents r.contents ≡ s
+    stored q s at is = same_Some (struct_of_file_contents r.contents) s (sym kept.struct ∙ ap (λ (z : FileReader). struct_of_path t.pairs z.path) (same q at) ∙ is)

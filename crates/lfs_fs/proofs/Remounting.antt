@@ -137,6 +137,7 @@ fresh_ready before new files none sound formatted calls =
       idle = λ e. in_flight_block_count-AreExactlyTheInFlightBlocks new.map [] none_twice formatted.in_flight;
       written = tt;
       read = tt;
+      known = tt;
     })
 
 pub remount_ready : (old new : TreeState) (files : RuntimeOpenFilesByNumber) (r : Result (Unit {0}) Error) → files ≡ [] → OnOk r (IsMountedTree old.disk old.history new) → OnErr r (IsTreeFailedByRead old new) → new.failed ≡ false → IsSessionReadyForCalls new files

@@ -22,8 +22,8 @@ use Rattle.lfs_tree.specs.OpenContents.{StoresBytesKeepingOtherFilesAtPath}
 use Rattle.lfs_lookup.specs.Refusals.{refusal_of_error}
 use Rattle.lfs_tree.specs.TreeState.{TreeState, IsFailedTree, IsIoWithFaultOrNoMemory, IsSoundTreeState, disk_summary_of_tree, tree_view}
 use Rattle.lfs_fs.specs.WriterChanges.{CanSaveWriter, IsSavedWriterSeenAs}
-use Rattle.lfs_fs.specs.FileView.{RuntimeOpenFilesByNumber, unsaved_or_tree_bytes_of_writer, open_file_at, open_file_view, open_files_view, is_unsaved_writer, writer_view, writers_among}
-use Rattle.lfs_fs.specs.SessionView.{IsSessionStepOrFailure, AreReadersOfCurrentContentsWithoutWriter, SessionView, IsSessionReadyForCalls, IsWriterOverWritableImage, session_view_of_tree_and_files, session_view_of_tree_and_files_view, system_state_of_session_view, refusal_by_checks, session_of_session_view}
+use Rattle.lfs_fs.specs.FileView.{RuntimeOpenFilesByNumber, unsaved_or_tree_bytes_of_writer, open_file_at, open_file_view, open_files_view, is_unsaved_writer, readers_among, writer_view, writers_among}
+use Rattle.lfs_fs.specs.SessionView.{IsSessionStepOrFailure, AreReadersOfCurrentContentsWithoutWriter, HasKnownListBlocks, IsReaderOfCurrentContentsWithoutWriter, SessionView, IsSessionReadyForCalls, IsWriterOverWritableImage, session_view_of_tree_and_files, session_view_of_tree_and_files_view, system_state_of_session_view, refusal_by_checks, session_of_session_view}
 use Rattle.lfs_fs.specs.Replies.{reply_from_result}
 use Rattle.lfs_fs.specs.OpenFilesStay.{KeepsFilesOfWriters}
 use Rattle.lfs_fs.specs.declared.files.OpenFile.{OpenFile}
@@ -35,6 +35,7 @@ use Rattle.lfs_fs.proofs.OpenFiles.{IsOnly, file_is, inside, inside_is, is_saved
 use Rattle.lfs_fs.proofs.Remounting.{no_tree_change, not_dirty}
 use Rattle.lfs_fs.proofs.Calls.{still_called}
 use Rattle.lfs_fs.proofs.OpenReaders.{read_saved}
+use Rattle.lfs_fs.proofs.ReadersKnow.{known_closed, known_stored, known_written}
 use Rattle.lfs_fs.proofs.WriterPaths.{sync_path}
 
 -- ---- the writer that has changes
@@ -172,6 +173,8 @@ sync_ready t new fs mid gs fd w v bytes ready e is stored saved left back =
       read = subst (AreReadersOfCurrentContentsWithoutWriter new.pairs) (sym put)
           (read_saved t.disk t.pairs new.pairs fs fd (Some (file.Writing v)) w.path (v.path ∷ []) refl (ap (map (λ x. x.path)) o.writers) (ap (map (λ x. x.path)) (o.with_other v)) stored.others
           (λ p off. ap (λ b. b || false) (ap (same_path p) path ∙ off)) was.read);
+      known = subst (λ xs. AllByRecursion (HasKnownListBlocks new.disk) (readers_among xs)) (sym put) (known_written new.disk fs fd v
+          (known_stored t new w.path (readers_among fs) stored.others stored.lists (subst (λ written. AllByRecursion (IsReaderOfCurrentContentsWithoutWriter t.pairs written) (readers_among fs)) (ap (map (λ x. x.path)) o.writers) was.read) was.known));
     }
 
 -- put where it is
@@ -235,6 +238,8 @@ close_ready t new fs gs fd w bytes ready e is stored left =
       written = subst (AllByRecursion (IsWriterOverWritableImage new)) (sym are) tt;
       read = subst (AreReadersOfCurrentContentsWithoutWriter new.pairs) (sym left)
           (read_saved t.disk t.pairs new.pairs fs fd None w.path [] refl (ap (map (λ x. x.path)) o.writers) (ap (map (λ x. x.path)) o.without) stored.others (λ p off. refl) was.read);
+      known = subst (λ xs. AllByRecursion (HasKnownListBlocks new.disk) (readers_among xs)) (sym left) (known_closed new.disk fs fd
+          (known_stored t new w.path (readers_among fs) stored.others stored.lists (subst (λ written. AllByRecursion (IsReaderOfCurrentContentsWithoutWriter t.pairs written) (readers_among fs)) (ap (map (λ x. x.path)) o.writers) was.read) was.known));
     }
 
 -- ---- a call fails

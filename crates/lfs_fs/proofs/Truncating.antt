@@ -22,7 +22,7 @@ use Rattle.lfs_model.proofs.StepsMade.{filled_step}
 use Rattle.lfs_tree.specs.OpenContents.{WritesOnlyUnusedBlocks}
 use Rattle.lfs_tree.specs.TreeState.{TreeState, disk_summary_of_tree, tree_view}
 use Rattle.lfs_fs.specs.WriterChanges.{CanTruncateByWriter, IsChangedWriterSeenAs}
-use Rattle.lfs_fs.specs.FileView.{RuntimeOpenFilesByNumber, unsaved_or_tree_bytes_of_writer, open_file_at, open_file_view, open_files_view, reader_view, writer_of_open_file_or_none, writer_view, writers_among}
+use Rattle.lfs_fs.specs.FileView.{RuntimeOpenFilesByNumber, unsaved_or_tree_bytes_of_writer, open_file_at, open_file_view, open_files_view, paths_of_writers, reader_view, readers_among, writer_of_open_file_or_none, writer_view, writers_among}
 use Rattle.lfs_fs.specs.SessionView.{IsSessionStepOrFailure, SessionView, IsSessionReadyForCalls, IsWriterOverWritableImage, session_view_of_tree_and_files, system_state_of_session_view, refusal_by_checks, session_of_session_view}
 use Rattle.lfs_fs.specs.declared.files.OpenFile.{OpenFile}
 use Rattle.lfs_fs.specs.declared.files.OpenFile.TheVariants as file
@@ -34,6 +34,7 @@ use Rattle.lfs_fs.proofs.OpenFiles.{IsOnly, inside_is, only, set_is}
 use Rattle.lfs_fs.proofs.WriterChecks.{the_writer, written_at}
 use Rattle.lfs_fs.proofs.Calls.{still_called}
 use Rattle.lfs_fs.proofs.OpenReaders.{read_rewritten}
+use Rattle.lfs_fs.proofs.ReadersKnow.{known_beside, known_written}
 
 -- ---- what no check refuses
 
@@ -181,6 +182,7 @@ ready_with t new fs fd w v is alone made b named was = record {
   idle = λ saved. absurd (let k = sym saved ∙ ap (list_any (λ u. is_some u.unsaved)) (alone.with_other v) ∙ ap (λ c. c || false) made.changed in cc);
   written = subst (AllByRecursion (IsWriterOverWritableImage new)) (sym (alone.with_other v)) (made.written, tt);
   read = read_rewritten t.pairs new.pairs fs fd w v alone.writers (alone.with_other v) (ap (λ (x : session.FileWriter). x.path) made.seen ∙ named) b.pairs was.read;
+  known = known_written new.disk fs fd v (known_beside t new (paths_of_writers fs) (readers_among fs) b.pairs b.lists was.read was.known);
 }
 
 -- nothing is open under a number that was let go

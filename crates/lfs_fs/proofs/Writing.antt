@@ -148,6 +148,7 @@ beside_later old mid new asked b =
       shows = k.shows;
       around = k.around;
       stay = k.stay;
+      lists = k.lists;
       geometry = k.geometry;
       calls = k.calls ++ asked.reads.events;
       called = k.called ∙ ap (λ z. k.calls ++ z) asked.reads.extends ∙ sym (append_assoc k.calls asked.reads.events old.history);

@@ -6,6 +6,7 @@ use Rattle.lfs_model.specs.declared.limits.Profile.{Profile}
 use Rattle.lfs_model.specs.TreeEdits.{file_bytes_of_node}
 use Rattle.lfs_model.specs.Session as session
 use Rattle.lfs_model.specs.Session.{skip_list_block_count_unless_inline}
+use Rattle.lfs_ctz.specs.declared.known.KnownBlocks.{KnownBlocks}
 use Rattle.lfs_model.specs.Disk.{Disk}
 use Rattle.lfs_model.specs.Tree.{Path, Tree}
 use Rattle.lfs_tree.specs.TreeState.{TreeState, tree_view}
@@ -108,6 +109,10 @@ open_files_with_entry_at_number files fd entry = if nat_lt fd (length files) the
 abbrev pub open_file_with_position : ℕ → OpenFile → OpenFile
 open_file_with_position position (file.Reading r) = file.Reading (record r { position = position })
 open_file_with_position position (file.Writing w) = file.Writing (record w { position = position })
+
+abbrev pub open_file_with_known : KnownBlocks → OpenFile → OpenFile
+open_file_with_known known (file.Reading r) = file.Reading (record r { known = known })
+open_file_with_known known (file.Writing w) = file.Writing w
 
 -- how many blocks are held for contents of so many bytes that were changed
 abbrev pub blocks_reserved_for_size : Profile → ℕ → Bool → ℕ → ℕ

@@ -3,6 +3,7 @@ pub mod SessionView
 pub mod FileView
 pub mod FlagsView
 pub mod EntryPaths
+pub mod ReaderReads
 pub mod Replacements
 pub mod RenamePaths
 pub mod WriterChanges

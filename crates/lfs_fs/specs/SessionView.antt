@@ -30,7 +30,9 @@ use Rattle.lfs_model.specs.TreeEdits.{is_file, same_path}
 use Rattle.lfs_model.specs.Run.{SystemState, IsTreeOfDiskOrNone, IsSessionStep}
 use Rattle.lfs_model.specs.Failure.{IsSessionFailureInOperation}
 use Rattle.lfs_model.specs.Performed.{IsRunEndedByError}
-use Rattle.lfs_lookup.specs.FileContents.{IsInlineBytesOrSkipListOfFileAtPath}
+use Rattle.lfs_ctz.specs.Known.{AreKnownListBlocks}
+use Rattle.lfs_model.specs.Shown.{skip_list_blocks_of_struct}
+use Rattle.lfs_lookup.specs.FileContents.{IsInlineBytesOrSkipListOfFileAtPath, struct_of_file_contents}
 use Rattle.lfs_lookup.specs.Refusals.{is_refusal, refusal_of_error}
 use Rattle.lfs_lookup.specs.declared.file_contents.FileContents.{FileContents}
 use Rattle.lfs_tree.specs.TreeState.{TreeState, kept_thread_of_tree_state, tree_view, disk_summary_of_tree, IsSoundTreeState, WasTreeOnlyRead, IsTreeFailedByRead, IsIoWithFaultOrNoMemory}
@@ -75,6 +77,10 @@ pub record IsReaderOfCurrentContentsWithoutWriter (ps : List Pair) (written : Li
 abbrev pub AreReadersOfCurrentContentsWithoutWriter : List Pair → RuntimeOpenFilesByNumber → Type 0
 AreReadersOfCurrentContentsWithoutWriter ps files = AllByRecursion (IsReaderOfCurrentContentsWithoutWriter ps (paths_of_writers files)) (readers_among files)
 
+-- The blocks that a reader knows are its list's.
+abbrev pub HasKnownListBlocks : Disk → Reader → Type 0
+HasKnownListBlocks disk r = AreKnownListBlocks (skip_list_blocks_of_struct disk (struct_of_file_contents r.contents)) r.known
+
 -- What a session keeps of a tree that works: the tree is the disk's, whose device has had a call. Blocks are in flight only where
 -- a writer has changes.
 pub record IsSessionReadyForCalls (t : TreeState) (files : RuntimeOpenFilesByNumber) : Type 0 where
@@ -84,6 +90,7 @@ pub record IsSessionReadyForCalls (t : TreeState) (files : RuntimeOpenFilesByNum
   pub idle : has_unsaved_writer files ≡ false → in_flight_block_count t.map ≡ 0
   pub written : AllByRecursion (IsWriterOverWritableImage t) (writers_among files)
   pub read : AreReadersOfCurrentContentsWithoutWriter t.pairs files
+  pub known : AllByRecursion (HasKnownListBlocks t.disk) (readers_among files)
 
 abbrev pub session_of_session_view : SessionView → Session
 session_of_session_view h = record { tree = tree_view h.tree; files = h.files }

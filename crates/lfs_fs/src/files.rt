@@ -8,16 +8,17 @@ ghost use Rattle.lfs_model.specs.Operations.{path_of_bytes};
 ghost use Rattle.lfs_model.specs.Session.{has_open_file_with_path_satisfying};
 ghost use Rattle.lfs_model.specs.Writers.{is_nonsequential_write, writer_after_write};
 ghost use Rattle.lfs_model.specs.Refusals.{path_of_bytes_or_root, is_root_or_invalid_path};
+ghost use Rattle.lfs_ctz.specs.Known.{no_known_blocks};
 ghost use Rattle.lfs_fs.specs.RenamePaths.{open_file_path_prevents_rename};
 ghost use Rattle.lfs_tree.specs.OpenContents.{WritesOnlyUnusedBlocks};
 ghost use Rattle.lfs_tree.specs.TreeState.{IsIoWithFaultOrNoMemory, IsFailedTree, IsSoundTreeState, SurvivesStopsInTreeCall, TreeState, tree_view};
 ghost use Rattle.lfs_fs.specs.WriterChanges.{CanWriteByWriter, ChangesOnlyWriterAtNumber, IsChangedWriterSeenAs};
 ghost use Rattle.lfs_fs.specs.declared.files.Writer.{Writer as WriterSeen};
-ghost use Rattle.lfs_fs.specs.FileView.{last_change_end_of_unsaved, open_file_at, open_files_view, is_open_at_matching_path, is_unsaved_writer, lowest_free_number_of_runtime_files, blocks_reserved_by_writers, blocks_reserved_by_writer, blocks_reserved_for_size, open_file_with_position, open_files_with_entry_at_number, reader_of_open_file_or_none, readers_among, is_unsaved_nonsequential, writer_of_open_file_or_none, writer_view, writers_among};
+ghost use Rattle.lfs_fs.specs.FileView.{last_change_end_of_unsaved, open_file_at, open_files_view, is_open_at_matching_path, is_unsaved_writer, lowest_free_number_of_runtime_files, blocks_reserved_by_writers, blocks_reserved_by_writer, blocks_reserved_for_size, open_file_with_known, open_file_with_position, open_files_with_entry_at_number, reader_of_open_file_or_none, readers_among, is_unsaved_nonsequential, writer_of_open_file_or_none, writer_view, writers_among};
 
 use crate::owned_path::OwnedPath;
 use crate::writers::write_bytes_by_writer;
-use lfs_ctz::blocks_for;
+use lfs_ctz::{KnownBlocks, blocks_for};
 use lfs_device::{BlockDevice, Error, Geometry};
 use lfs_lookup::FileContents;
 use lfs_tree::Tree;
@@ -35,6 +36,8 @@ pub struct Reader {
     pub position: u32,
     /// The contents of the file's entry, which stay as long as the file is open.
     pub contents: FileContents,
+    /// The blocks of the file's list that reads have found.
+    pub known: KnownBlocks,
 }
 
 /// A file that is open for writing.
@@ -196,7 +199,7 @@ impl Files {
         requires path { is_some (path_of_bytes path.now) ≡ true }
         requires few { length (readers_among self.old) < 16 }
         ensures number { IfOk result (λ fd. fd ≡ lowest_free_number_of_runtime_files self.old) }
-        ensures added { OnOk result (self.new ≡ open_files_with_entry_at_number self.old (lowest_free_number_of_runtime_files self.old) (Some (OpenFile.Reading (record { path = path_of_bytes_or_root path.now; position = 0; contents = contents })))) }
+        ensures added { OnOk result (self.new ≡ open_files_with_entry_at_number self.old (lowest_free_number_of_runtime_files self.old) (Some (OpenFile.Reading (record { path = path_of_bytes_or_root path.now; position = 0; contents = contents; known = no_known_blocks })))) }
         ensures same { OnErr result (self.new ≡ self.old) }
         ensures error { IfErr result (λ e. e ≡ Error.NoMemory) }
     {
@@ -204,6 +207,7 @@ impl Files {
             path: OwnedPath::of(alloc, path)?,
             position: 0,
             contents,
+            known: KnownBlocks::new(),
         };
         let number = find_free_file_number(&self.entries);
         set_table_entry_at_number(&mut self.entries, number, Some(OpenFile::Reading(reader)))?;
@@ -353,6 +357,14 @@ impl Files {
         seek_file_in_table(&mut self.entries, fd as usize, position);
     }
 
+    /// Notes the blocks that an open reader knows.
+    pub fn note_known(&mut self, fd: u32, known: KnownBlocks)
+        requires { is_some (open_file_at self.old fd) ≡ true }
+        ensures { self.new ≡ slice_set self.old fd (option_map (open_file_with_known known) (open_file_at self.old fd)) }
+    {
+        note_known_in_table(&mut self.entries, fd as usize, known);
+    }
+
     /// Closes an open file.
     pub fn close(&mut self, fd: u32)
         requires { is_some (open_file_at self.old fd) ≡ true }
@@ -378,6 +390,16 @@ fn seek_file_in_table(entries: &mut Vec<Option<OpenFile>>, index: usize, positio
         Some(OpenFile::Reading(reader)) => reader.position = position,
         Some(OpenFile::Writing(writer)) => writer.position = position,
         None => {}
+    }
+}
+
+fn note_known_in_table(entries: &mut Vec<Option<OpenFile>>, index: usize, known: KnownBlocks)
+    requires { index < vec_len entries.old }
+    ensures files { entries.new.items ≡ slice_set entries.old.items index (option_map (open_file_with_known known) (option_flatten (slice_get entries.old.items index))) }
+    ensures len { vec_len entries.new ≡ vec_len entries.old }
+{
+    if let Some(OpenFile::Reading(reader)) = &mut entries[index] {
+        reader.known = known;
     }
 }
 

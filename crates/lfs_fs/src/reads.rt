@@ -1,30 +1,45 @@
 // The bytes that an open reader returns.
 
-ghost use Rattle.std.specs.Prelude.{◌≡◌, ◌+◌, ◌<◌, ◌^◌, List, drop, false, take, IfErr, IfOk, OnErr, OnOk, vec_len};
+ghost use Rattle.std.specs.Prelude.{◌≡◌, ◌+◌, ◌<◌, ◌^◌, ℕ, List, drop, false, take, IfOk, OnOk, vec_len};
 ghost use Rattle.lfs_model.specs.Tree.{Path};
 ghost use Rattle.lfs_model.specs.TreeEdits.{file_bytes_of_node};
 ghost use Rattle.lfs_fs.specs.SessionView.{IsReaderOfCurrentContentsWithoutWriter};
-ghost use Rattle.lfs_tree.specs.TreeState.{WasTreeOnlyRead, IsTreeFailedByRead, IsIoWithFaultOrNoMemory, tree_view};
+ghost use Rattle.lfs_ctz.specs.Known.{AreKnownListBlocks, ReadsKnownList};
+ghost use Rattle.lfs_lookup.specs.FileContents.{struct_of_file_contents};
+ghost use Rattle.lfs_model.specs.Shown.{skip_list_blocks_of_struct};
+ghost use Rattle.lfs_model.specs.Slots.{Ctz, Inline};
+ghost use Rattle.lfs_tree.specs.TreeState.{OnlyReadsTreeOrFails, tree_view};
 
 use crate::files::Reader;
+use lfs_ctz::KnownBlocks;
 use lfs_device::{BlockDevice, Error};
 use lfs_tree::Tree;
 use std::alloc::Global;
 
 // Returns the bytes of a reader's file from its position on, at most `count`. Nothing is looked up.
+// The known blocks of a list are those that the reader knows, and later those on the way.
 pub(crate) fn bytes_for_reader<D: BlockDevice>(
     alloc: Global,
     tree: &mut Tree<D>,
     reader: &Reader,
+    known: &mut KnownBlocks,
     count: u32,
 ) -> Result<Vec<u8>, Error>
     requires works { tree.old.failed ≡ false }
     requires kept { (written : List Path) × IsReaderOfCurrentContentsWithoutWriter tree.old.pairs written reader.now }
-    ensures asked { OnOk result (WasTreeOnlyRead tree.old tree.new) }
+    requires blocks { AreKnownListBlocks (skip_list_blocks_of_struct tree.old.disk (struct_of_file_contents reader.now.contents)) known.old }
+    ensures reading { OnlyReadsTreeOrFails tree.old result tree.new }
     ensures bytes { IfOk result (λ v. v.items ≡ take count (drop reader.now.position (file_bytes_of_node (tree_view tree.old reader.now.path)))) }
     ensures end { IfOk result (λ v. reader.now.position + vec_len v < 2 ^ 32) }
-    ensures broken { OnErr result (IsTreeFailedByRead tree.old tree.new) }
-    ensures errors { IfErr result (IsIoWithFaultOrNoMemory tree.old tree.new) }
+    ensures blocks { AreKnownListBlocks (skip_list_blocks_of_struct tree.old.disk (struct_of_file_contents reader.now.contents)) known.new }
+    ensures none { (own : List ℕ) → struct_of_file_contents reader.now.contents ≡ Inline own → tree.new.history ≡ tree.old.history }
+    ensures few { (head size : ℕ) → struct_of_file_contents reader.now.contents ≡ Ctz head size → OnOk result (ReadsKnownList tree.old.disk.block_size size reader.now.position count known.old known.new tree.old.history tree.new.history) }
 {
-    tree.read(alloc, &reader.contents, reader.position, count as usize)
+    tree.read(
+        alloc,
+        &reader.contents,
+        known,
+        reader.position,
+        count as usize,
+    )
 }

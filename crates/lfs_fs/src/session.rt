@@ -30,6 +30,7 @@ ghost use Rattle.lfs_fs.specs.SessionView.{IsSessionBegunByMount, EndsRunByError
 ghost use Rattle.lfs_fs.specs.FlagsView.{flags_view};
 ghost use Rattle.lfs_fs.specs.OpView.{RefusesOnlyWithRefusalError, op_view, reply_result_view, reply_view};
 ghost use Rattle.lfs_fs.specs.CallEffects.{IsSessionCallWithResult};
+ghost use Rattle.lfs_fs.specs.ReaderReads.{TakesFewDeviceReads};
 
 use crate::checks::{
     check_and_find_contents_for_reader, check_and_get_attr, check_and_list, check_and_stat,
@@ -453,11 +454,15 @@ impl<D: BlockDevice> Session<D> {
     /// Returns the bytes of an open file from its position on, at most `count`. There are fewer
     /// where the file ends, and none after its end. The position advances by as many.
     ///
+    /// An open file knows the blocks that its reads have found. A read that ends in the block where
+    /// the last one ended finds it without a pointer.
+    ///
     /// # Errors
     ///
     /// `BadFile` where no file is open for reading under the number.
     pub fn read(&mut self, alloc: Global, fd: Fd, count: u32) -> Result<Vec<u8>, Error>
-        ensures { IsSessionCallWithResult self.old (ops.Read fd count) (reply_from_result (λ v. ops.Bytes v.items) result) self.new }
+        ensures call { IsSessionCallWithResult self.old (ops.Read fd count) (reply_from_result (λ v. ops.Bytes v.items) result) self.new }
+        ensures few { OnOk result (TakesFewDeviceReads self.old fd count self.new) }
     {
         if self.tree.has_failed() {
             return Err(Error::Failed);
@@ -465,8 +470,10 @@ impl<D: BlockDevice> Session<D> {
         let Some(reader) = self.files.reader(fd) else {
             return Err(Error::BadFile);
         };
-        let bytes = bytes_for_reader(alloc, &mut self.tree, reader, count)?;
+        let mut known = reader.known;
+        let bytes = bytes_for_reader(alloc, &mut self.tree, reader, &mut known, count)?;
         let position = reader.position + bytes.len() as u32;
+        self.files.note_known(fd, known);
         self.files.seek(fd, position);
         Ok(bytes)
     }

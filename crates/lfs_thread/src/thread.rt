@@ -3,9 +3,11 @@ ghost use Rattle.std.specs.Option.{option_map};
 ghost use Rattle.lfs_model.specs.Content.{content_of_pair_at, current_block_of_pair_at};
 ghost use Rattle.lfs_model.specs.BlockSets.{IsBlockFree, IsBlockInFlight, IsBlockMarkedUsedInMap, used_count};
 ghost use Rattle.lfs_model.specs.BlockSets.BlockState.{Free, InFlight};
+ghost use Rattle.lfs_ctz.specs.Known.{AreKnownListBlocks, ReadsKnownList};
+ghost use Rattle.lfs_model.specs.Shown.{skip_list_blocks_of_struct};
 ghost use Rattle.lfs_model.specs.SkipLists.{IsSkipList, bytes_of_skip_list};
 ghost use Rattle.lfs_model.specs.History.{read_count_of_history};
-ghost use Rattle.lfs_model.specs.Slots.{pair_address_of_array};
+ghost use Rattle.lfs_model.specs.Slots.{Ctz, pair_address_of_array};
 ghost use Rattle.lfs_model.specs.Thread.{IsThreadOfMetadataPairs, Pair as ThreadPair, gstate_of_pairs, is_hard_tail, blocks_of_pair_address, blocks_of_two_pair_addresses};
 ghost use Rattle.lfs_tag.specs.ContentView.{tail_view};
 ghost use Rattle.lfs_tag.specs.FieldsView.{move_view};
@@ -26,7 +28,7 @@ use crate::parts::ThreadParts;
 use crate::splits::split_pair;
 use lfs_alloc::BlockMap;
 use lfs_cache::Cache;
-use lfs_ctz::read_at;
+use lfs_ctz::{KnownBlocks, read_at};
 use lfs_device::{BlockDevice, Error, Geometry};
 use lfs_pair::{Change, Outcome, Pair};
 use lfs_tag::{Log, MoveState, Tail, has_hard_tail};
@@ -279,6 +281,32 @@ impl<D: BlockDevice> Thread<D> {
         ensures errors { IoMeantFaultNoMemoryWroteNothing self.old.kept self.new.kept result }
     {
         read_at(&mut self.device, head, size, pos, buf)
+    }
+
+    /// Reads bytes of a skip list as [`read_list`](Thread::read_list) does, beginning at the nearest
+    /// of the blocks that are known. Notes the blocks on the way. The caller's condition is also
+    /// that the known blocks are the list's.
+    ///
+    /// Errors: `Io` where a read failed. Then it isn't said what the buffer holds.
+    pub fn read_known_list(
+        &mut self,
+        head: u32,
+        size: u32,
+        known: &mut KnownBlocks,
+        pos: u32,
+        buf: &mut [u8],
+    ) -> Result<usize, Error>
+        requires works { self.old.failed ≡ false }
+        requires list { IsSkipList self.old.kept.disk.blocks self.old.kept.disk.block_size head size }
+        requires blocks { AreKnownListBlocks (skip_list_blocks_of_struct self.old.kept.disk (Ctz head size)) known.old }
+        ensures read { IfOk result (λ n. (n ≡ min (length buf.old) (size - pos)) × (take n buf.new ≡ slice_range (bytes_of_skip_list self.old.kept.disk.blocks self.old.kept.disk.block_size head size) pos (pos + n))) }
+        ensures blocks { AreKnownListBlocks (skip_list_blocks_of_struct self.old.kept.disk (Ctz head size)) known.new }
+        ensures only { IsThreadOnlyRead self.old.kept self.new.kept }
+        ensures same { (self.new.failed ≡ false) × (self.new.cache ≡ self.old.cache) }
+        ensures errors { IoMeantFaultNoMemoryWroteNothing self.old.kept self.new.kept result }
+        ensures few { OnOk result (ReadsKnownList self.old.kept.disk.block_size size pos (length buf.old) known.old known.new self.old.kept.history self.new.kept.history) }
+    {
+        known.read_at(&mut self.device, head, size, pos, buf)
     }
 
     /// Takes a free block, which is in flight then, and returns its number. Returns None exactly

@@ -126,6 +126,7 @@ module _ (a b : ThreadView) (root : ℕ) (writable : Bool) (h : IsSoundThreadWit
         shows = tree_beside a.kept b.kept leaves sound.accepted sound.used;
         around = around_is writable _ _ _ _ _ _ _ _ _ _ a.kept.pairs b.kept.pairs leaves.shape.profile leaves.shape.block_size leaves.shape.page leaves.shape.count (used_blocks_beside a.kept b.kept leaves sound.accepted sound.used) leaves.pairs;
         stay = used_same a.kept b.kept leaves sound.accepted sound.used;
+        lists = list_beside a.kept b.kept leaves sound.accepted sound.used;
         geometry = geometry_beside a.kept b.kept leaves;
         calls = leaves.at_worst.events;
         called = leaves.at_worst.extends;

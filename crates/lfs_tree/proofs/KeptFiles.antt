@@ -1,6 +1,7 @@
 -- Files whose lists stay in the same blocks.
 use Rattle.std.proofs.Common.{ℕ, ◌≡◌, ◌≤◌, ◌∙◌, true, List, [], ◌∷◌, Option, Some, None, refl, sym, ap, subst, arith}
-use Rattle.std.specs.Prelude.{Contains}
+use Rattle.std.specs.Prelude.{All, Contains}
+use Rattle.std.proofs.lemmas.List.Elements.{recursion_from_All}
 use Rattle.std.specs.Option.{option_map}
 use Rattle.lfs_model.specs.TreeEdits.{is_file}
 use Rattle.lfs_model.specs.BlockSets.{AreExactlyTheUsedBlocks, IsBlockMarkedUsedInMap}
@@ -8,7 +9,7 @@ use Rattle.lfs_model.specs.Disk.{Disk, SameGeometry, block_bytes_on_disk}
 use Rattle.lfs_model.specs.Keeping.{struct_of_path}
 use Rattle.lfs_model.specs.SlotEdits.{slot_of_path}
 use Rattle.lfs_model.specs.Slots.{Slot, Struct, Inline, Ctz, Branch, Attributes}
-use Rattle.lfs_model.specs.Thread.{blocks_of_pairs}
+use Rattle.lfs_model.specs.Thread.{Pair, blocks_of_pairs}
 use Rattle.lfs_model.specs.Tree.{Path, node_of_struct_and_attributes}
 use Rattle.lfs_model.specs.View.{IsAcceptedImage}
 use Rattle.lfs_model.specs.Shown.{all_slots_not_moved, skip_list_bytes_on_disk, entries_by_directory_in_thread, skip_list_blocks_of_struct, tree_on_disk, used_blocks}
@@ -17,7 +18,7 @@ use Rattle.lfs_model.proofs.Counts.{Each, occurrence_count_of_number, count_appe
 use Rattle.lfs_model.proofs.Files.{file_blocks_same}
 use Rattle.lfs_model.proofs.Splices.{file_blocks_of_slots}
 use Rattle.lfs_thread.specs.Kept.{KeptThread}
-use Rattle.lfs_tree.specs.KeptFiles.{KeepsFileAtPath, skip_list_blocks_of_slot, skip_list_blocks_at_path}
+use Rattle.lfs_tree.specs.KeptFiles.{KeepsBytesOfSkipListsOfFiles, KeepsFileAtPath, skip_list_blocks_of_slot, skip_list_blocks_at_path}
 use Rattle.lfs_tree.proofs.SlotsHave.{slot_has}
 
 -- ---- the blocks of a file's list
@@ -101,3 +102,22 @@ keeps_then a b c path first second = record {
   list = second.list ∙ first.list;
   bytes = λ x has. second.bytes x (subst (λ (l : List ℕ). Contains l x) (sym first.list) has) ∙ first.bytes x has;
 }
+
+-- the list of a file whose struct stays, where no block of a list changed
+pub list_stays : (disk new : Disk) (ps qs : List Pair) (path : Path) → IsAcceptedImage disk ps → SameGeometry disk new → KeepsBytesOfSkipListsOfFiles disk ps new → struct_of_path qs path ≡ struct_of_path ps path
+    → skip_list_blocks_of_slot new (slot_of_path qs path) ≡ skip_list_blocks_of_slot disk (slot_of_path ps path)
+list_stays disk new ps qs path accepted geometry keeps same = go (slot_of_path ps path) (slot_of_path qs path) refl same
+  where
+    abbrev Stays : List ℕ → Type 0
+    Stays = All (λ b. block_bytes_on_disk new b ≡ block_bytes_on_disk disk b)
+
+    go : (was now : Option Slot) → slot_of_path ps path ≡ was → option_map (λ (u : Slot). u.struct) now ≡ option_map (λ (u : Slot). u.struct) was → skip_list_blocks_of_slot new now ≡ skip_list_blocks_of_slot disk was
+    go None None at e = refl
+    go None (Some u) at e = absurd (cc)
+    go (Some s) None at e = absurd (cc)
+    go (Some s) (Some u) at e =
+        let is : u.struct ≡ s.struct = cc in
+        let stays : Stays (skip_list_blocks_of_struct disk s.struct) = slot_has (λ (x : Slot). Stays (skip_list_blocks_of_struct disk x.struct)) disk ps accepted (recursion_from_All (λ (x : Slot). Stays (skip_list_blocks_of_struct disk x.struct)) (all_slots_not_moved ps) keeps)
+        (λ i d lt. absurd (omega (arith, lt))) path s at in
+        ap (skip_list_blocks_of_struct new) is
+        ∙ file_blocks_same disk new s.struct geometry (recursion_from_All (λ b. block_bytes_on_disk new b ≡ block_bytes_on_disk disk b) (skip_list_blocks_of_struct disk s.struct) stays)

@@ -145,10 +145,14 @@ module _ (disk new : Disk) (ps qs : List Pair) (path : Path) (ok : IsAcceptedIma
       k.others b (Contains-occurrence_count_of_number (used_blocks disk ps) b (let o = owner_counted b x ps h some in let u = parts b in omega arith))
       (of_other x h n b k.pair.at.0 some (first_owned k.pair)) (of_other x h n b k.pair.at.1 some (second_owned k.pair))
 
+  -- every block of a list keeps its bytes
+  pub files_of_alone : KeepsBytesOfSkipListsOfFiles disk ps new
+  files_of_alone = lists_from disk new ps (λ b some. k.others b (Contains-occurrence_count_of_number (used_blocks disk ps) b (let u = parts b in omega arith)) (of_file b k.pair.at.0 (first_owned k.pair) some) (of_file b k.pair.at.1 (second_owned k.pair) some))
+
   -- an operation on the path leaves the rest alone
   pub pair_of_alone : (s : Session) (op : Operation) → paths_changed_by_operation s op ≡ path ∷ [] → LeavesUnrelatedBlocksUnchanged disk ps s op new qs
   pair_of_alone s op about = record {
-    files = lists_from disk new ps (λ b some. k.others b (Contains-occurrence_count_of_number (used_blocks disk ps) b (let u = parts b in omega arith)) (of_file b k.pair.at.0 (first_owned k.pair) some) (of_file b k.pair.at.1 (second_owned k.pair) some));
+    files = files_of_alone;
     pairs = λ x a b n.
         let h = among_contained x ps a in
         let m : IsPairWithSlotOfPath ps x path → ⊥ = λ z. n (subst (Any (IsPairWithSlotOfPath ps x)) (sym about) (about_one (IsPairWithSlotOfPath ps x) path path refl z)) in

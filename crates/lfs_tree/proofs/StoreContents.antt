@@ -24,11 +24,12 @@ use Rattle.lfs_model.proofs.Committed.{recovered_from}
 use Rattle.lfs_model.proofs.Histories.{IsTrueAfterAnyPowerLossSince-weaker, IsTrueAfterAnyPowerLossSince-worst}
 use Rattle.lfs_writer.specs.ThreadContents.{CanFinishContentsOnThread, AreConsistentContentsWithBytesAndFormOnThread, LeavesPairsAndUsedBlocksUnchanged, list_blocks_of_contents}
 use Rattle.lfs_thread.specs.Kept.{KeptThread, ThreadView}
-use Rattle.lfs_tree.proofs.LeftAlone.{pair_of_alone}
+use Rattle.lfs_tree.proofs.LeftAlone.{files_of_alone, pair_of_alone}
 use Rattle.lfs_tree.specs.TreeChanges.{HasFurtherDeviceCalls, CanChangeRecoveredImage, SurvivesWithOldOrNewTree, ReportsIoWithFaultOrNoMemory}
 use Rattle.lfs_tree.specs.RootedThreads.{IsSoundThreadUnlessFailed, tree_state_of_kept_thread, tree_state_of_thread}
 use Rattle.lfs_tree.proofs.Asking.{seen_working}
-use Rattle.lfs_tree.specs.KeptFiles.{KeepsStructsOfOtherFiles}
+use Rattle.lfs_tree.specs.KeptFiles.{KeepsBytesOfSkipListsOfFiles, KeepsStructsOfOtherFiles}
+use Rattle.lfs_tree.proofs.KeptFiles.{list_stays}
 use Rattle.lfs_tree.specs.OpenContents.{CanStoreContentsAt, AreSlotsLaidOutByWriterOperationAfterRecovery, IsInMemoryExactlyUpToInlineLimit, StoresBytesKeepingOtherFilesAtPath, bytes_of_writer_contents, kept_thread_of_tree_state}
 use Rattle.lfs_tree.specs.TreeState.{IsSoundTreeState, TreeState, tree_view}
 use Rattle.lfs_tree.specs.Stores.{CanCommitContentsAtPath, HasCommittedBytesOfFile, StoresBytesKeepingOtherFilesOnThread, IsFinishedAndInlineExactlyUpToLimit, AreSlotsLaidOutByWriterOperation, ChangesOnlyPairOfPath}
@@ -140,6 +141,14 @@ module _ (t : ThreadView) (root : ℕ) (rests : CanChangeRecoveredImage t root) 
             k.others x ((rests_beside.held.sound.used x).0 (leaves.map.stays x is)) first second ∙ leaves.spared.same x is;
       }
 
+      -- the other files keep what they have
+      others_before : (new : KeptThread) → HasCommittedBytesOfFile b.kept path (bytes_of_writer_contents b.kept c) new → KeepsStructsOfOtherFiles (tree_on_disk t.kept.disk t.kept.pairs) t.kept.pairs path new.pairs
+      others_before new k = subst (λ (ps : List Pair). KeepsStructsOfOtherFiles (tree_on_disk t.kept.disk t.kept.pairs) ps path new.pairs) leaves.pairs
+          (subst (λ (x : Tree). KeepsStructsOfOtherFiles x b.kept.pairs path new.pairs) tree_same k.others)
+
+      lists_before : (new : KeptThread) → ChangesOnlyPairOfPath b.kept.disk b.kept.pairs path new.disk → KeepsBytesOfSkipListsOfFiles t.kept.disk t.kept.pairs new.disk
+      lists_before new k = files_of_alone t.kept.disk new.disk t.kept.pairs [] path sound.accepted (changes_before new.disk k)
+
       stored_before : (new : KeptThread) → HasFurtherDeviceCalls t.kept new → fault_count_of_history new.history ≡ fault_count_of_history t.kept.history → HasCommittedBytesOfFile b.kept path (bytes_of_writer_contents b.kept c) new → StoresBytesKeepingOtherFilesOnThread t.kept path (bytes_of_writer_contents t.kept contents) new
       stored_before new called quiet k = record {
         works = refl;
@@ -152,8 +161,8 @@ module _ (t : ThreadView) (root : ℕ) (rests : CanChangeRecoveredImage t root) 
         fits = k.fits;
         recovered = recovered_from new.disk new.pairs k.sound.accepted k.settled;
         shows = k.shows ∙ turn_same;
-        others = subst (λ (ps : List Pair). KeepsStructsOfOtherFiles (tree_on_disk t.kept.disk t.kept.pairs) ps path new.pairs) leaves.pairs
-            (subst (λ (x : Tree). KeepsStructsOfOtherFiles x b.kept.pairs path new.pairs) tree_same k.others);
+        others = others_before new k;
+        lists = λ q file apart. list_stays t.kept.disk new.disk t.kept.pairs new.pairs q sound.accepted called.geometry (lists_before new k.alone) (others_before new k q file apart);
         synced = arranged_before new ops.Sync k.synced;
         closed = arranged_before new ops.Close k.closed;
         alone = λ files op. pair_of_alone t.kept.disk new.disk t.kept.pairs new.pairs path sound.accepted (changes_before new.disk k.alone) (record { tree = tree_on_disk t.kept.disk t.kept.pairs; files = files }) op;

@@ -1,7 +1,7 @@
 -- The contents of a file that is open for writing, beside the image.
 use Rattle.std.specs.Prelude.{ℕ, ◌≡◌, ◌+◌, ◌^◌, ◌<◌, ◌≤◌, ◌⊎◌, true, false, max, List, [], ◌∷◌, ◌++◌, length, Contains, Result, IfErr, OnErr, OnOk}
 use Rattle.lfs_device.specs.declared.error.Error.{Error}
-use Rattle.lfs_model.specs.TreeEdits.{tree_after_change_of_node, is_file}
+use Rattle.lfs_model.specs.TreeEdits.{tree_after_change_of_node, is_file, same_path}
 use Rattle.lfs_model.specs.BlockSets.{in_flight_block_count}
 use Rattle.lfs_model.specs.Frame.{LeavesUnrelatedBlocksUnchanged, paths_changed_by_operation}
 use Rattle.lfs_model.specs.declared.limits.Profile.{Profile}
@@ -102,7 +102,7 @@ CanStoreContentsAt t path contents = CanStoreContentsInImage (tree_state_without
 abbrev pub IsFormOfOpenedContents : Profile → ℕ → ℕ → ContentsStorageForm → Type 0
 IsFormOfOpenedContents profile block_size size shape = ((shape ≡ form.InMemory size) × (size ≤ inline_limit profile block_size)) ⊎ (shape ≡ form.Finished size false)
 
--- Only blocks were written that the image doesn't use: it shows what it showed, in the same pairs.
+-- Only blocks were written that the image doesn't use: it shows what it showed, in the same pairs. Each list is in the same blocks.
 pub record WritesOnlyUnusedBlocks (old new : TreeState) : Type 0 where
   pub works : new.failed ≡ false
   pub sound : IsSoundTreeState new
@@ -111,6 +111,7 @@ pub record WritesOnlyUnusedBlocks (old new : TreeState) : Type 0 where
   pub shows : tree_view new ≡ tree_view old
   pub around : disk_summary_of_tree new ≡ disk_summary_of_tree old
   pub stay : (b : ℕ) → Contains (used_blocks old.disk old.pairs) b → block_bytes_on_disk new.disk b ≡ block_bytes_on_disk old.disk b
+  pub lists : (path : Path) → skip_list_blocks_at_path (kept_thread_of_tree_state new) path ≡ skip_list_blocks_at_path (kept_thread_of_tree_state old) path
   pub geometry : SameGeometry old.disk new.disk
   pub calls : List DeviceCallEvent
   pub called : new.history ≡ calls ++ old.history
@@ -147,6 +148,7 @@ pub record StoresBytesKeepingOtherFilesInImage (old : TreeState) (path : Path) (
   pub recovered : IsNothingLeftToRecover new.pairs
   pub shows : tree_view new ≡ tree_after_change_of_node path (node_with_bytes bytes) (tree_view old)
   pub others : KeepsStructsOfOtherFiles (tree_view old) old.pairs path new.pairs
+  pub lists : (q : Path) → is_file (tree_view old q) ≡ true → same_path path q ≡ false → skip_list_blocks_at_path (kept_thread_of_tree_state new) q ≡ skip_list_blocks_at_path (kept_thread_of_tree_state old) q
   pub synced : AreSlotsLaidOutByWriterOperationAfterRecovery old path bytes ops.Sync new
   pub closed : AreSlotsLaidOutByWriterOperationAfterRecovery old path bytes ops.Close new
   pub alone : (files : OpenFilesByNumber) (op : Operation) → ConcernsOnlyPath (record { tree = tree_view old; files = files }) op path → LeavesUnrelatedBlocksUnchanged old.disk old.pairs (record { tree = tree_view old; files = files }) op new.disk new.pairs

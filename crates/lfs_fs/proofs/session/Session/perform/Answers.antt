@@ -7,7 +7,7 @@ pub returns-in-Open-clause-call : goal.returns-in-Open-clause-call
 returns-in-Open-clause-call g c = performed_call _ _ _ _ _ _ (ap op_view c.in-Open.is) c.reply_of_fd_result.ensures.seen c.open.ensures
 
 pub returns-in-Read-clause-call : goal.returns-in-Read-clause-call
-returns-in-Read-clause-call g c = performed_call _ _ _ _ _ _ (ap op_view c.in-Read.is) c.reply_of_bytes_result.ensures.seen c.read.ensures
+returns-in-Read-clause-call g c = performed_call _ _ _ _ _ _ (ap op_view c.in-Read.is) c.reply_of_bytes_result.ensures.seen c.read.ensures.call
 
 pub returns-in-Seek-clause-call : goal.returns-in-Seek-clause-call
 returns-in-Seek-clause-call g c = performed_call _ _ _ _ _ _ (ap op_view c.in-Seek.is) c.reply_of_unit_result.ensures.seen c.seek.ensures

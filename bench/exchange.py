@@ -1,11 +1,11 @@
 #!/usr/bin/env python3
 """Images exchanged with littlefs's own code: what it writes is read here, and what is written here is read by it.
 
-usage: exchange.py LITTLEFS [SCRIPT TOOL] [--count N] [--operations N] [--seed WORD] [--only GROUP[,GROUP..]] [--keep FOLDER]
+usage: exchange.py LITTLEFS [SCRIPT TOOL] [--count N] [--operations N] [--seed WORD] [--only GROUP[,GROUP..]] [--keep FOLDER] [--jobs N]
 
 LITTLEFS is the folder of littlefs's own code with version 2.7 or later, which can write images of version 2.0: a checkout of it, or
 `lib/littlefs` of Debian's source package micropython. SCRIPT is a built lfs_script, TOOL a built mklittlefs. There are N images of
-each kind, but for long use, whose images are those of N operations each:
+each kind, but for long use, whose images are those of N operations each. --jobs says how many programs run side by side:
 
 - by littlefs, by sessions, by sessions whose device stopped: files, directories and attributes that come, change, move and go at
   random; some of littlefs's end in a loss of power;
@@ -37,6 +37,7 @@ anything else is above 0; the image is then left in FOLDER.
 
 import argparse
 import collections
+from concurrent.futures import ThreadPoolExecutor
 import functools
 import os
 import re
@@ -222,23 +223,31 @@ def lines_of(case, profile, asked):
 
 def compare(options, table, cases):
     """Counts what littlefs and the readers here make of each image."""
-    for at in range(0, len(cases), BATCH):
-        script, stories = [], []
-        for case in cases[at : at + BATCH]:
-            ended = case.cut and has_move(case.image, case.geometry)
-            shown = littlefs_code.shown(case.code or options.code, case.image, case.geometry, ended)
-            tree = case.tree or (shown.tree if shown else None)
-            asked = list(questions(tree)) if tree else []
-            stories.append((case, shown, tree, asked))
-            script += [line for profile in profiles_of(case) for line in lines_of(case, profile, asked)]
-        answers = answers_of(options.script, script) if options.script else []
-        for case, shown, tree, asked in stories:
-            read = []
-            for profile in profiles_of(case):
-                count = len(lines_of(case, profile, asked))
-                told, answers = answers[:count], answers[count:]
-                read += [read_here(options, case, tree, asked, told[-1 - len(asked) :], profile)] if tree else []
-            judge(table, case, shown, tree, read)
+    batches = [cases[at : at + BATCH] for at in range(0, len(cases), BATCH)]
+    for read in options.each(lambda batch: read_batch(options, batch), batches):
+        for story in read:
+            judge(table, *story)
+
+
+def read_batch(options, cases):
+    """Of each image: the case, what littlefs shows, the tree, and what the readers here say by each profile. One session is asked of all."""
+    script, stories = [], []
+    for case in cases:
+        ended = case.cut and has_move(case.image, case.geometry)
+        shown = littlefs_code.shown(case.code or options.code, case.image, case.geometry, ended)
+        tree = case.tree or (shown.tree if shown else None)
+        asked = list(questions(tree)) if tree else []
+        stories.append((case, shown, tree, asked))
+        script += [line for profile in profiles_of(case) for line in lines_of(case, profile, asked)]
+    answers, read = answers_of(options.script, script) if options.script else [], []
+    for case, shown, tree, asked in stories:
+        said = []
+        for profile in profiles_of(case):
+            count = len(lines_of(case, profile, asked))
+            told, answers = answers[:count], answers[count:]
+            said += [read_here(options, case, tree, asked, told[-1 - len(asked) :], profile)] if tree else []
+        read.append((case, shown, tree, said))
+    return read
 
 
 def judge(table, case, shown, tree, read):
@@ -319,11 +328,13 @@ def main():
     parser.add_argument("--seed", default="exchange")
     parser.add_argument("--only", type=lambda words: words.split(","), default=list(exchange_kinds.GROUPS))
     parser.add_argument("--keep", type=os.path.abspath, default=".")
+    parser.add_argument("--jobs", type=int, default=1)
     options = parser.parse_args()
     if not set(options.only) <= set(exchange_kinds.GROUPS):
         parser.error(f"the groups are {', '.join(exchange_kinds.GROUPS)}")
     table = Table(options)
-    with tempfile.TemporaryDirectory() as options.room:
+    with tempfile.TemporaryDirectory() as options.room, ThreadPoolExecutor(options.jobs) as pool:
+        options.each = lambda do, them: list(pool.map(do, them))
         options.build = lambda name, **words: littlefs_code.build(options.littlefs, f"{options.room}/{name}", VERSION, **words)
         options.code = options.build("exchange")
         options.newest = littlefs_code.build(options.littlefs, f"{options.room}/exchange_newest")

@@ -80,22 +80,23 @@ def at_random(options):
 def begin(options, kind, number, geometries):
     """What the image of a kind and number begins with: its own random numbers, a geometry, and a file's name."""
     rnd = random.Random(f"{options.seed}/{kind}/{number}")
-    return rnd, rnd.choice(geometries), f"{options.room}/{kind.replace(' ', '_').replace(',', '')}_{number}.img"
+    return rnd, rnd.choice(geometries), f"{options.room}/{options.seed}_{kind.replace(' ', '_').replace(',', '')}_{number}.img"
 
 
 def by_littlefs(options):
-    cases = []
-    for number in range(options.count):
+    def made(number):
         rnd, geometry, image = begin(options, "by littlefs", number, GEOMETRIES)
         cycles = rnd.choice([-1, -1, *CYCLES])
         subprocess.run([options.code, "make", image, *map(str, geometry), str(cycles), str(rnd.getrandbits(32))], check=True)
-        cases.append(Case("by littlefs", image, geometry, cycles=cycles, cut=True))
-    return cases
+        return Case("by littlefs", image, geometry, cycles=cycles, cut=True)
+
+    return options.each(made, range(options.count))
 
 
 def with_changed(options, cases):
     """The images, and then copies of them after littlefs changed them."""
-    changed = [changed_at_random(case, case.code or options.code, f"{case.kind}, changed", newer=case.newer, written=case.written) for case in cases]
+    change = lambda case: changed_at_random(case, case.code or options.code, f"{case.kind}, changed", newer=case.newer, written=case.written)
+    changed = options.each(change, cases)
     yield cases
     yield changed
 
@@ -133,16 +134,16 @@ def some_session(rnd, geometry):
 
 
 def by_sessions(options, kind, stops):
-    cases = []
-    for number in range(options.count):
+    def made(number):
         rnd, geometry, image = begin(options, kind, number, GEOMETRIES)
         script = ["fresh %d %d %d" % geometry + rnd.choice(["", " keep"]), *some_session(rnd, geometry)]
         if stops:
             stop = rnd.choice(["program", "erase"]), 1 + rnd.randrange(60), rnd.choice(["", " torn 1", f" torn {rnd.randrange(2000)}", " whole"])
             script += ["mount %s %d stop%s" % stop, *some_session(rnd, geometry)]
         answers_of(options.script, [*script, "unmount", f"save {image}"])
-        cases.append(Case(kind, image, geometry))
-    return cases
+        return Case(kind, image, geometry)
+
+    return options.each(made, range(options.count))
 
 
 # Names of which one is the beginning of another
@@ -171,10 +172,10 @@ def caches(options):
 
 def for_firmware(options, firmware, makes):
     for make in makes if options.script else [it for it in makes if it == made_by_littlefs]:
-        cases = [make(options, number, firmware) for number in range(options.count)]
-        by_session = [other for case in cases if options.script and (other := changed_by_session(options, case, firmware))]
-        later = [changed_by_littlefs(case, "then by littlefs", firmware) for case in by_session]
-        changed = [changed_by_littlefs(case, "changed by littlefs", firmware) for case in cases]
+        cases = options.each(lambda number: make(options, number, firmware), range(options.count))
+        by_session = list(filter(None, options.each(lambda case: changed_by_session(options, case, firmware), cases if options.script else [])))
+        later = options.each(lambda case: changed_by_littlefs(case, "then by littlefs", firmware), by_session)
+        changed = options.each(lambda case: changed_by_littlefs(case, "changed by littlefs", firmware), cases)
         yield from [cases, changed, by_session, later]
 
 
@@ -183,30 +184,35 @@ def made_by_littlefs(options, number, firmware):
     rnd, geometry, image = begin(options, kind, number, firmware.geometries)
     case, plain = known(kind, image, geometry, {}, code=firmware.code), {b"": None}
     driver = Driver(firmware.code, image, geometry, fresh=True)
-    for operation in some_tree(rnd, geometry[0], firmware.limits):
-        tell(driver, case, operation, plain)
+    tell(driver, case, some_tree(rnd, geometry[0], firmware.limits), plain)
     driver.end(image)
     case.plain, case.tree = plain, summed(plain)
     return case
 
 
-def tell(driver, case, operation, plain):
-    """Has littlefs carry out an operation, and the plain tree with it."""
-    answer, wanted = driver.tell(told(operation)), 0
-    if operation[0] == "read" and plain[operation[1]] is not None:
-        wanted = summed({b"": plain[operation[1]]})[b""][0][1]
-    if answer == NOT_FOUND:
-        case.missing.add(operation[1])
-    elif answer != wanted:
-        case.wrong.append(f"{operation[:2]} is answered with {answer}")
-    carry_out(plain, operation)
+def tell(driver, case, operations, plain):
+    """Has littlefs carry out operations, and the plain tree with them."""
+    wanted = []
+    for operation in operations:
+        wanted.append((operation, answer_to(operation, plain)))
+        carry_out(plain, operation)
+    for (operation, right), answer in zip(wanted, driver.tell_all([told(operation) for operation, _ in wanted])):
+        if answer == NOT_FOUND:
+            case.missing.add(operation[1])
+        elif answer != right:
+            case.wrong.append(f"{operation[:2]} is answered with {answer}")
+
+
+def answer_to(operation, plain):
+    """What littlefs has to answer: 0, or the checksum of a file that is read."""
+    return summed({b"": plain[operation[1]]})[b""][0][1] if operation[0] == "read" else 0
 
 
 def made_by_tool(options, number, firmware):
     """By `mklittlefs -c` of a folder."""
     kind = f"{firmware.name} by -c"
     rnd, geometry, image = begin(options, kind, number, firmware.geometries)
-    plain, folder = {b"": None}, f"{options.room}/folder"
+    plain, folder = {b"": None}, image.replace(".img", "_folder")
     for operation in some_tree(rnd, geometry[0], firmware.limits):
         carry_out(plain, operation)
     for path, node in plain.items():
@@ -243,12 +249,11 @@ def refusals(answers):
 
 def changed_by_littlefs(case, how, firmware):
     """A copy of the image after littlefs changed it: files written anew, added to, renamed onto others, removed, made."""
-    rnd, image = random.Random(case.image + how), case.image.replace(".img", f"_{how.replace(' ', '_')}.img")
+    rnd, image = random.Random(os.path.basename(case.image) + how), case.image.replace(".img", f"_{how.replace(' ', '_')}.img")
     shutil.copy(case.image, image)
     plain, changed = dict(case.plain), known(f"{case.kind}, {how}", image, case.geometry, {}, code=firmware.code)
     driver = Driver(firmware.code, image, case.geometry)
-    for operation in firmware.changes(rnd, dict(plain), case.geometry[0], firmware.limits):
-        tell(driver, changed, operation, plain)
+    tell(driver, changed, firmware.changes(rnd, dict(plain), case.geometry[0], firmware.limits), plain)
     answer = driver.tell(told(("mkdir", too_long(firmware.limits))))
     if answer != TOO_LONG:
         changed.wrong.append(f"a name that is too long is answered with {answer}")
@@ -263,7 +268,7 @@ def too_long(limits):
 
 def changed_by_session(options, case, firmware):
     """A copy of the image after a session changed it, or none where it isn't mounted."""
-    rnd, image = random.Random(case.image), case.image.replace(".img", "_by_session.img")
+    rnd, image = random.Random(os.path.basename(case.image)), case.image.replace(".img", "_by_session.img")
     plain, script = dict(case.plain), [*opening(firmware.profile), f"image {case.geometry[0]} {case.geometry[1]} {case.image}"]
     mounted = len(script) - 1
     for operation in some_changes(rnd, plain, case.geometry[0], firmware.limits):
@@ -291,10 +296,9 @@ def history(options, what, first, operate, cycles):
     rnd, _, image = begin(options, f"long use, {what}", cycles, [WORN])
     driver, plain = Driver(options.code, image, WORN, fresh=True, cycles=cycles), {b"": None}
     case = Case(f"{what}, block_cycles {cycles}", image, WORN, cycles=cycles)
-    for operation in first(rnd):
-        tell(driver, case, operation, plain)
+    tell(driver, case, first(rnd), plain)
     for number in range(options.operations):
-        tell(driver, case, operate(rnd, plain, WORN), plain)
+        tell(driver, case, [operate(rnd, plain, WORN)], plain)
         if number % EVERY == EVERY - 1:
             case.image = image.replace(".img", f"_{number}.img")
             driver.tell(f"save {case.image}")
@@ -334,8 +338,7 @@ def gone_on(options, rnd, cut, operate, plain):
     case = known(f"{cut.kind}, gone on", cut.image.replace("_cut.img", "_gone_on.img"), WORN, {}, cycles=cut.cycles)
     shutil.copy(cut.image, case.image)
     driver = Driver(options.code, case.image, WORN, cycles=cut.cycles)
-    for _ in range(GONE_ON):
-        tell(driver, case, operate(rnd, plain, WORN), plain)
+    tell(driver, case, (operate(rnd, plain, WORN) for _ in range(GONE_ON)), plain)
     driver.end(case.image)
     case.plain, case.tree = plain, summed(plain)
     return case
@@ -346,8 +349,9 @@ def gone_on(options, rnd, cut, operate, plain):
 
 def version(options):
     """Images made here, to which littlefs writes in its default version: nothing, an operation, or a few, the last perhaps cut short."""
-    cases, firmware = [], Firmware("names", options.code)
-    for number in range(options.count if options.script else 0):
+    firmware = Firmware("names", options.code)
+
+    def newer(number):
         made = (made_by_tool if number % 2 else made_by_sessions)(options, number, firmware)
         rnd, image = random.Random(f"{options.seed}/version/{number}"), made.image.replace(".img", "_newer.img")
         shutil.copy(made.image, image)
@@ -355,14 +359,14 @@ def version(options):
         driver, plain = Driver(options.newest, image, made.geometry), dict(made.plain)
         if case.cut:
             driver.tell(f"cut {rnd.randrange(12)}")
-        for operation in list(some_changes(rnd, plain, made.geometry[0]))[: [0, 1, 2, 5][number % 4]]:
-            driver.tell(told(operation))
+        driver.tell_all([told(it) for it in some_changes(rnd, plain, made.geometry[0])][: [0, 1, 2, 5][number % 4]])
         driver.end(image)
         case.written = not is_same(made.image, image) and not case.cut
         case.kind += ", cut" if case.cut else ", written to" if case.written else ", mounted"
         os.unlink(made.image)
-        cases.append(case)
-    yield cases
+        return case
+
+    yield options.each(newer, range(options.count if options.script else 0))
 
 
 def is_same(one, other):
@@ -372,33 +376,34 @@ def is_same(one, other):
 
 def later(options):
     """Images by littlefs in its default version, and by littlefs in version 2.0 and then in that; many operations, some cut, and gone on."""
-    cases, before = [], []
-    for number in range(options.count):
+    def made(number):
         rnd, geometry, image = begin(options, "version 2.1 by littlefs", number, GEOMETRIES)
         words = [*map(str, geometry), str(rnd.choice([-1, *CYCLES])), str(rnd.getrandbits(32))]
         subprocess.run([options.newest, "make", image, *words], check=True)
         case = Case("version 2.1 by littlefs", image, geometry, cycles=int(words[3]), cut=True, code=options.newest, newer=True, written=True)
-        cases.append(case)
         image = image.replace(".img", "_before.img")
         words[3] = str(rnd.choice([2, 3, 20]))  # few, so that the superblock's pair moves on
         subprocess.run([options.code, "make", image, *words], check=True)
-        before.append(Case("version 2.0", image, geometry, cycles=int(words[3])))
-    yield from with_changed(options, cases)
-    yield [changed_at_random(case, options.newest, "version 2.0 and then 2.1 by littlefs", newer=True) for case in before]
-    for case in before:
-        os.unlink(case.image)
+        return case, Case("version 2.0", image, geometry, cycles=int(words[3]))
+
+    both = options.each(made, range(options.count))
+    yield from with_changed(options, [case for case, _ in both])
+    yield options.each(lambda both: changed_at_random(both[1], options.newest, "version 2.0 and then 2.1 by littlefs", newer=True), both)
+    for _, before in both:
+        os.unlink(before.image)
 
 
 def turns(options):
     """Images that littlefs in its default version and sessions change in turns. The device of some sessions stops."""
     firmware = Firmware("in turns,", options.newest, limits=Limits(files=40))
-    made = [(made_by_tool if number % 2 else made_by_littlefs)(options, number, firmware) for number in range(options.count if options.script else 0)]
+    make = lambda number: (made_by_tool if number % 2 else made_by_littlefs)(options, number, firmware)
+    made = options.each(make, range(options.count if options.script else 0))
     for case in made:
         case.newer = case.written = case.kind.endswith("littlefs")
     for turn in range(1, TURNS + 1):
-        by_littlefs = [turn_by_littlefs(case, turn, firmware) for case in made]
+        by_littlefs = options.each(lambda case: turn_by_littlefs(case, turn, firmware), made)
         yield made
-        made = [turn_by_session(options, case, turn) for case in by_littlefs]
+        made = options.each(lambda case: turn_by_session(options, case, turn), by_littlefs)
         yield by_littlefs
     yield made
 
@@ -411,7 +416,7 @@ def turn_by_littlefs(case, turn, firmware):
 
 def turn_by_session(options, case, turn):
     """A copy of the image after a session changed it. It ends with an operation in which the device stops, if it stops."""
-    rnd, image = random.Random(f"{case.image}/session"), case.image.replace(".img", "_session.img")
+    rnd, image = random.Random(f"{os.path.basename(case.image)}/session"), case.image.replace(".img", "_session.img")
     stop = ["unmount", f"mount program {1 + rnd.randrange(12)} stop torn {rnd.randrange(1500)}"] * (rnd.random() < 0.3)
     begun = [ALSO_2_1.line(), f"image {case.geometry[0]} {case.geometry[1]} {case.image}", *stop]
     operations = list(some_changes(rnd, dict(case.plain), case.geometry[0]))

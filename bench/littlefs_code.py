@@ -86,6 +86,15 @@ class Driver:
             return 1
         return int(self.run.stdout.readline() or 1)
 
+    def tell_all(self, lines):
+        """Carries out operations, all of which are told at once; their answers."""
+        try:
+            self.run.stdin.write("".join(line + "\n" for line in lines))
+            self.run.stdin.flush()
+        except BrokenPipeError:
+            pass
+        return [int(self.run.stdout.readline() or 1) for _ in lines]
+
     def end(self, image=None):
         """Unmounts, and writes the image to a file."""
         answer = self.tell(f"save {image}") if image else 0

@@ -108,7 +108,7 @@ pub list_stays : (disk new : Disk) (ps qs : List Pair) (path : Path) → IsAccep
     → skip_list_blocks_of_slot new (slot_of_path qs path) ≡ skip_list_blocks_of_slot disk (slot_of_path ps path)
 list_stays disk new ps qs path accepted geometry keeps same = go (slot_of_path ps path) (slot_of_path qs path) refl same
   where
-    abbrev Stays : List ℕ → Type 0
+    Stays : List ℕ → Type 0
     Stays = All (λ b. block_bytes_on_disk new b ≡ block_bytes_on_disk disk b)
 
     go : (was now : Option Slot) → slot_of_path ps path ≡ was → option_map (λ (u : Slot). u.struct) now ≡ option_map (λ (u : Slot). u.struct) was → skip_list_blocks_of_slot new now ≡ skip_list_blocks_of_slot disk was

@@ -69,10 +69,10 @@ loop-at-preserved g c =
     let one = c.read_block_pointer.ensures.few in
     let less : 1 ≤ 2 ^ k = one-le-pow k 2 (omega arith) in
     let next : AreListBlocks old (c.args.last + 1) c.args.head → AreKnownListBlocks (list_blocks_from_head old (c.args.last + 1) c.args.head) c.args.self.now → c.in_ok-block.block ≡ slice_index (list_blocks_from_head old (c.args.last + 1) c.args.head) (at - 1 * 2 ^ c.min-skip.result % 4294967296) = λ chain known.
-        c.in_ok-block.ensures.word
-        ∙ ap (λ d. word_at_offset (block_bytes_by_number d c.loop-at.block) (4 * c.min-skip.result)) inv.device.same
-        ∙ pointer_at old c.args.last c.args.head at c.min-skip.result chain (omega arith) inv.high (let e = c.min-skip.ensures in omega arith) c.loop-at.block (inv.found chain known)
-        ∙ ap (λ n. slice_index (list_blocks_from_head old (c.args.last + 1) c.args.head) (at - n)) (ap (λ n. 2 ^ n) c.min-skip.ensures ∙ sym s) in
+    c.in_ok-block.ensures.word
+    ∙ ap (λ d. word_at_offset (block_bytes_by_number d c.loop-at.block) (4 * c.min-skip.result)) inv.device.same
+    ∙ pointer_at old c.args.last c.args.head at c.min-skip.result chain (omega arith) inv.high (let e = c.min-skip.ensures in omega arith) c.loop-at.block (inv.found chain known)
+    ∙ ap (λ n. slice_index (list_blocks_from_head old (c.args.last + 1) c.args.head) (at - n)) (ap (λ n. 2 ^ n) c.min-skip.ensures ∙ sym s) in
     record {
       low = omega arith;
       high = (let h = inv.high in omega arith);

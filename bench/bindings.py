@@ -51,6 +51,7 @@ from session_model import Model, Refused, key, parsed
 top = os.path.dirname(os.path.dirname(os.path.abspath(__file__)))
 sys.path.insert(0, os.path.join(top, "bindings", "python"))
 import littlefs_c
+from littlefs_c import library
 
 NAMES = [b"a", b"b", b"ab", b"name with space", b"\\", b"caf\xc3\xa9", b"\xff\x01", b"x" * 255, b"x" * 256]
 EXAMPLE = ["21.5 degrees\nf 13 today\n", "21.5 degrees\n21.5 degrees\nf 26 today\n"]
@@ -302,12 +303,12 @@ def session_by_calls(image, name, takes):
     """The same call through the handle of an image."""
     try:
         if name == "open":
-            return image._call("open", [], *littlefs_c._bytes(takes[0]), takes[1])
+            return image._call("open", [], *library.readable(takes[0]), takes[1])
         if name == "read":
             buffer = bytearray(takes[1])
-            return bytes(buffer[: image._call("file_read", [], takes[0], *littlefs_c._room(buffer))])
+            return bytes(buffer[: image._call("file_read", [], takes[0], *library.writable(buffer))])
         if name == "write":
-            return image._call("file_write", [], takes[0], *littlefs_c._bytes(takes[1]))
+            return image._call("file_write", [], takes[0], *library.readable(takes[1]))
         if name in ("seek", "truncate", "sync", "close"):
             return "not 0" if image._call("file_" + name, [], *takes) else None
         return getattr(image, name)(*takes)
@@ -357,7 +358,7 @@ def filled(name, size, whole, answer, wanted, may_be_part):
 
 
 def buffers():
-    calls = littlefs_c.load()
+    calls = library.load()
     image = littlefs_c.Image.format(24 * 4096)
     image.mkdir("/d")
     image.write("/d/file", bytes(range(256)) * 20)
@@ -367,16 +368,16 @@ def buffers():
     listed, content = b"f 0 \\x5cback\nf 5120 file\n", bytes(range(256)) * 20
     asked = [("list", (b"/d",), listed, False), ("read", (b"/d/file", 0), content, True), ("read", (b"/d/file", 5000), content[5000:], True),
              ("read", (b"/d/file", 5120), b"", True), ("get_attr", (b"/d/file", 9), b"an attribute", False)]
-    file = image._call("open", [], *littlefs_c._bytes(b"/d/file"), littlefs_c.READ)
-    held = [("list_at", littlefs_c._bytes(b"/d"), listed, False), ("get_attr_at", (*littlefs_c._bytes(b"/d/file"), 9), b"an attribute", False), ("image", (), data, False),
+    file = image._call("open", [], *library.readable(b"/d/file"), library.READ)
+    held = [("list_at", library.readable(b"/d"), listed, False), ("get_attr_at", (*library.readable(b"/d/file"), 9), b"an attribute", False), ("image", (), data, False),
             *[("image_part", (offset,), data[offset:], True) for offset in (0, 1, 50000, len(data) - 1, len(data), len(data) + 1, 2**64 - 1)],
             *[("file_read", (file, position), content[position:], True) for position in (0, 5000, 5120, 6000)]]
     seen = 0
     for name, takes, wanted, may_be_part in asked + held:
         for size in {0, max(len(wanted) - 1, 0), len(wanted), len(wanted) + 1, len(wanted) + 100}:
             whole, address = guarded(size)
-            if name in littlefs_c.CALLS:
-                answer = calls[name](data, len(data), 4096, 256, *littlefs_c._bytes(takes[0]), *takes[1:], address, size)
+            if name in library.CALLS:
+                answer = calls[name](data, len(data), 4096, 256, *library.readable(takes[0]), *takes[1:], address, size)
             elif name == "file_read":
                 image._call("file_seek", [], *takes)
                 answer = image._call(name, [], takes[0], address, size)
@@ -415,7 +416,7 @@ def called(calls, name, data, block_size, page, chance):
     whole, address = guarded(len(data))
     ctypes.memmove(address, bytes(data), len(data))
     takes, written = [], []
-    for letter in littlefs_c.CALLS[name]:
+    for letter in library.CALLS[name]:
         if letter == "n":
             takes.append(chance.choice([0, 1, 2, 5000, 2**32 - 1]))
         elif letter == "k":
@@ -425,7 +426,7 @@ def called(calls, name, data, block_size, page, chance):
             written.append(buffer[0])
             takes += [buffer[1], len(buffer[0]) - 2 * GUARD]
         else:
-            takes += littlefs_c._bytes(chance.choice([b"/", b"/d", b"/d/file", b"/new", b"", b"/d/" + chance.randbytes(5), b"/" + b"n" * 300]))
+            takes += library.readable(chance.choice([b"/", b"/d", b"/d/file", b"/new", b"", b"/d/" + chance.randbytes(5), b"/" + b"n" * 300]))
     answer = calls[name](address, len(data), block_size, page, *takes)
     for other in [whole, *written]:
         same(f"{name}, beside what it may write", bytes(other)[:GUARD] + bytes(other)[-GUARD:], b"\xa5" * 2 * GUARD)
@@ -463,11 +464,11 @@ def some_images():
 
 
 def attack(count, seed):
-    calls, images, seen = littlefs_c.load(), some_images(), collections.Counter()
+    calls, images, seen = library.load(), some_images(), collections.Counter()
     for number in range(count):
         chance = random.Random(f"{seed} hostile {number}")
         data, block_size, page = hostile(chance, images)
-        for name in littlefs_c.CALLS:
+        for name in library.CALLS:
             answer, left = called(calls, name, data, block_size, page, chance)
             if answer < 0:
                 same(f"image {number}, {name}: an error's number", -answer in littlefs_c.ERRORS, True)
@@ -496,9 +497,9 @@ def raises(wanted, call, number=None, path=None):
 
 def closed():
     """Each call through a closed handle is refused, and a second end of a session does nothing."""
-    calls, seen = littlefs_c.load(), 0
-    for name, takes in littlefs_c.SESSION_CALLS.items():
-        handle, room = littlefs_c._Handle(None, 0), ctypes.create_string_buffer(100)
+    calls, seen = library.load(), 0
+    for name, takes in library.SESSION_CALLS.items():
+        handle, room = library.Handle(None, 0), ctypes.create_string_buffer(100)
         if name in ("mount", "mkfs"):
             continue
         words = [word for letter in takes for word in ((room, 100) if letter == "b" else (1,))]
@@ -615,7 +616,7 @@ def refusals():
         image.write("/a/b/file", b"kept")
         raises(OSError, lambda: image.write("/a/b/file", bytes(16 * 4096)), errno.ENOSPC)
         same("a reader beside a refused write", (reader.read(), image.read("/a/b/file")), (b"2", b"kept"))
-    missing = subprocess.run([sys.executable, "-c", "import littlefs_c; littlefs_c.Image.format(65536)"], env={**os.environ, "LITTLEFS_C": "/none.so", "PYTHONPATH": os.path.dirname(littlefs_c.__file__)}, capture_output=True, text=True)
+    missing = subprocess.run([sys.executable, "-c", "import littlefs_c; littlefs_c.Image.format(65536)"], env={**os.environ, "LITTLEFS_C": "/none.so", "PYTHONPATH": os.path.dirname(os.path.dirname(littlefs_c.__file__))}, capture_output=True, text=True)
     same("a library that isn't there", "run `rt lib` in crates/littlefs_c and `make` in bindings/c" in missing.stderr, True)
 
 

@@ -1,0 +1,66 @@
+"""Makes a wheel of littlefs_c with the library in it, for pip, and needs nothing else.
+
+    pip install ./bindings/python
+    python3 bindings/python/build_wheel.py FOLDER     # a wheel in a folder, for machines like this one
+"""
+
+import base64
+import hashlib
+import os
+from pathlib import Path
+import platform
+import sys
+import zipfile
+
+HERE = Path(__file__).resolve().parent
+LIBRARY = HERE.parent / "c" / "littlefs_c.so"
+NAME, VERSION = "littlefs_c", "1.0.0"
+TAG = f"py3-none-linux_{platform.machine()}"
+METADATA = f"""Metadata-Version: 2.1
+Name: {NAME}
+Version: {VERSION}
+Summary: littlefs images in memory, by a proved library
+License: BSD-3-Clause
+Requires-Python: >=3.9
+"""
+WHEEL = f"""Wheel-Version: 1.0
+Generator: build_wheel
+Root-Is-Purelib: false
+Tag: {TAG}
+"""
+
+
+def files_of_wheel():
+    """The bytes of each file of the wheel, by its name there."""
+    if not LIBRARY.exists():
+        sys.exit(f"{LIBRARY} isn't there: run `rt lib` in crates/littlefs_c and `make` in bindings/c")
+    package = HERE / NAME
+    files = {f"{NAME}/{path.name}": path.read_bytes() for path in sorted(package.iterdir()) if path.suffix in (".py", ".typed")}
+    info = f"{NAME}-{VERSION}.dist-info"
+    return {**files, f"{NAME}/{LIBRARY.name}": LIBRARY.read_bytes(), f"{info}/METADATA": METADATA.encode(), f"{info}/WHEEL": WHEEL.encode()}
+
+
+def line_of_record(name, data):
+    digest = base64.urlsafe_b64encode(hashlib.sha256(data).digest()).rstrip(b"=").decode()
+    return f"{name},sha256={digest},{len(data)}\n"
+
+
+def build_wheel(folder, config_settings=None, metadata_directory=None):
+    """Writes the wheel to a folder, and answers its name: what pip calls."""
+    files = files_of_wheel()
+    record = f"{NAME}-{VERSION}.dist-info/RECORD"
+    files[record] = ("".join(line_of_record(*it) for it in files.items()) + f"{record},,\n").encode()
+    wheel = f"{NAME}-{VERSION}-{TAG}.whl"
+    with zipfile.ZipFile(os.path.join(folder, wheel), "w", zipfile.ZIP_DEFLATED) as archive:
+        for name, data in files.items():
+            archive.writestr(name, data)
+    return wheel
+
+
+def build_sdist(folder, config_settings=None):
+    """There is none: the library is built from the repository."""
+    raise NotImplementedError("littlefs_c has no source distribution: install it from the repository")
+
+
+if __name__ == "__main__":
+    print(build_wheel(sys.argv[1]))

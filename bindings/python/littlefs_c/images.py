@@ -1,0 +1,357 @@
+"""Images in memory, mounted."""
+
+from __future__ import annotations
+
+import contextlib
+import ctypes
+import io
+import re
+import threading
+import weakref
+from typing import IO, Any, Iterator, NamedTuple, Optional
+
+from .files import MODES, File
+from .library import CREATE, DIRECTORY, LONGER_FIRST, TRUNCATE, WRITE, Config, Handle, PathName, in_range, loaded, path_bytes, path_text, readable, refusal, writable
+
+NO_ATTR = 61
+ATTR_ROOM = 1024  # more than an attribute has
+
+
+class Entry(NamedTuple):
+    """What is in a directory, as of `os.scandir`."""
+
+    name: str
+    path: str
+    size: Optional[int]  # in bytes; None for a directory
+
+    def is_dir(self) -> bool:
+        return self.size is None
+
+    def is_file(self) -> bool:
+        return self.size is not None
+
+    def __fspath__(self) -> str:
+        return self.path
+
+
+class Limits(NamedTuple):
+    """The longest name, file, attribute and inline file that are written, in bytes."""
+
+    name_max: int
+    file_max: int
+    attr_max: int
+    inline_max: int
+
+
+class Image:
+    """An image in memory that is mounted, until it is closed. A refused call leaves it as it was. Several threads may use it: one
+    at a time is in a call."""
+
+    def __init__(self, data: Any, block_size: int = 4096, page: int = 256, *, also_2_1: bool = False, name_max: int = 255,
+                 file_max: int = 2147483647, attr_max: int = 1022, inline_max: int = 1022):
+        """Mounts a copy of these bytes. Images of version 2.1 are accepted where `also_2_1` says so. Only images whose limits are
+        those that are given are written; without any they are littlefs's own. Raises an `OSError`: EINVAL where the bytes are no
+        image of that geometry or a number is out of range, and 84 where no image is accepted in them."""
+        self._begin(data, None, (block_size, page, LONGER_FIRST, int(also_2_1), name_max, file_max, attr_max, inline_max))
+
+    @classmethod
+    def format(cls, size: int, block_size: int = 4096, page: int = 256, order: int = LONGER_FIRST, *, also_2_1: bool = False,
+               name_max: int = 255, file_max: int = 2147483647, attr_max: int = 1022, inline_max: int = 1022) -> Image:
+        """An empty image of so many bytes. littlefs's own code reads those whose order is `LONGER_FIRST`."""
+        image = cls.__new__(cls)
+        image._begin(None, size, (block_size, page, order, int(also_2_1), name_max, file_max, attr_max, inline_max))
+        return image
+
+    def _begin(self, data: Any, size: Optional[int], numbers: tuple[int, ...]) -> None:
+        self._handle, self._lock, self._calls = Handle(None, 0), threading.RLock(), loaded()
+        self._files: weakref.WeakSet[Any] = weakref.WeakSet()
+        self._raws: weakref.WeakSet[File] = weakref.WeakSet()
+        self._config = Config(*[in_range(number, 32, name) for number, (name, _) in zip(numbers, Config._fields_)])
+        self.block_size, self.page = numbers[:2]
+        if size is None:
+            data, self._size = readable(data)
+            answer = self._calls["mount"](self._handle, self._config, data, self._size)
+        else:
+            self._size, count = size, size // self.block_size if self.block_size and size % self.block_size == 0 else 0
+            answer = self._calls["mkfs"](self._handle, self._config, in_range(count, 32, "size"))
+        if answer < 0:
+            raise refusal(-answer)
+
+    def _ask(self, name: str, *more: Any) -> int:
+        """What a call of the session answers: an error as minus its number."""
+        with self._lock:
+            if not self._handle.is_open:
+                raise ValueError("the image is closed")
+            return self._calls[name](self._handle, *more)
+
+    def _call(self, name: str, paths: list[PathName], *more: Any) -> int:
+        answer = self._ask(name, *more)
+        if answer < 0:
+            raise refusal(-answer, *paths)
+        return answer
+
+    def _at(self, name: str, path: PathName, *more: Any) -> int:
+        return self._call(name + "_at", [path], *readable(path_bytes(path)), *more)
+
+    def _whole_answer(self, name: str, path: PathName, *more: Any) -> bytes:
+        """What a call puts into a buffer, once it is told how much room that wants."""
+        size = 2048
+        while True:
+            buffer = ctypes.create_string_buffer(size)
+            answer = self._at(name, path, *more, buffer, size)
+            if answer <= size:
+                return buffer.raw[:answer]
+            size = answer
+
+    # ---- the image
+
+    @property
+    def closed(self) -> bool:
+        """Whether the image is closed."""
+        return not self._handle.is_open
+
+    @property
+    def limits(self) -> Limits:
+        """The limits by which the image is written."""
+        return Limits(*[getattr(self._config, name) for name in Limits._fields])
+
+    @property
+    def block_count(self) -> int:
+        """How many blocks the image has. `used` says how many of them are in use."""
+        return self._size // self.block_size
+
+    def close(self) -> None:
+        """Closes the open files, as `close` of each does, and frees the image. Nothing but `close` and `closed` may follow."""
+        with contextlib.ExitStack() as stack:
+            stack.callback(self._end)
+            # without the lock, since a file's buffer has one that is taken before it
+            for file in list(self._files):
+                stack.callback(file.close)
+
+    def _end(self) -> None:
+        with self._lock:
+            self._calls["unmount"](self._handle)
+
+    def __enter__(self) -> Image:
+        if self.closed:
+            raise ValueError("the image is closed")
+        return self
+
+    def __exit__(self, *raised: Any) -> None:
+        self.close()
+
+    def __del__(self) -> None:
+        if getattr(self, "_handle", None) and self._handle.is_open:
+            self._calls["unmount"](self._handle)
+
+    def __repr__(self) -> str:
+        return f"<{type(self).__name__} of {self._size} bytes{', closed' * self.closed}>"
+
+    def __bytes__(self) -> bytes:
+        """The bytes of the image. What an open file hasn't synced isn't in them."""
+        return self.part(0, self._size)
+
+    def part(self, offset: int, count: int) -> bytes:
+        """At most `count` bytes of the image from an offset on."""
+        offset = in_range(offset, 64, "offset")
+        buffer = bytearray(min(in_range(count, 64, "count"), max(self._size - offset, 0)))
+        answer = self._call("image_part", [], offset, *writable(buffer))
+        return bytes(memoryview(buffer)[:answer])
+
+    def check(self) -> None:
+        """Nothing, where a mount accepts the image as it is now. Raises as `Image(..)` else."""
+        handle, data = Handle(None, 0), bytes(self)
+        answer = self._calls["mount"](handle, self._config, data, len(data))
+        self._calls["unmount"](handle)
+        if answer < 0:
+            raise refusal(-answer)
+
+    def remount(self) -> None:
+        """Closes all files without saving them, and reads the image anew."""
+        with self._lock:
+            self._call("remount", [])
+            for raw in list(self._raws):
+                raw._number = None
+
+    def recover(self) -> None:
+        """Ends what a loss of power left. Each call that changes the image does so first."""
+        self._call("recover", [])
+
+    def used(self) -> int:
+        """How many blocks the image uses."""
+        return self._call("used_blocks", [])
+
+    # ---- directories
+
+    def items(self, path: PathName = "/") -> list[tuple[bytes, Optional[int]]]:
+        """Pairs of a name in bytes and a file's size, or None for a directory, in name order."""
+        found = []
+        for line in self._whole_answer("list", path).splitlines():
+            kind, size, name = line.split(b" ", 2)
+            if b"\\" in name:
+                name = re.sub(rb"\\x(..)", lambda shown: bytes.fromhex(shown[1].decode()), name)
+            found.append((name, int(size) if kind == b"f" else None))
+        return found
+
+    def scandir(self, path: PathName = "/") -> Iterator[Entry]:
+        """The entries of a directory with their sizes, in name order."""
+        above = path_text(path_bytes(path)).rstrip("/")
+        return iter([Entry(path_text(name), f"{above}/{path_text(name)}", size) for name, size in self.items(path)])
+
+    def listdir(self, path: PathName = "/") -> list[str]:
+        """The names in a directory, in order."""
+        return [path_text(name) for name, _ in self.items(path)]
+
+    def walk(self, path: PathName = "/") -> Iterator[tuple[str, list[str], list[str]]]:
+        """Triples of a directory's path, the names of the directories in it and those of its files, as `os.walk` from the top."""
+        entries = list(self.scandir(path))
+        folders = [entry.name for entry in entries if entry.is_dir()]
+        path = path_text(path_bytes(path))
+        yield path, folders, [entry.name for entry in entries if entry.is_file()]
+        for name in folders:
+            yield from self.walk(path.rstrip("/") + "/" + name)
+
+    def mkdir(self, path: PathName) -> None:
+        """Makes an empty directory."""
+        self._at("mkdir", path)
+
+    def makedirs(self, path: PathName, exist_ok: bool = False) -> None:
+        """Makes a directory, and those above it that aren't there."""
+        with self._lock:
+            name = path_bytes(path)
+            for end in [at for at in range(1, len(name)) if name[at : at + 1] == b"/"]:
+                if not self.exists(name[:end]):
+                    self.mkdir(name[:end])
+            if not (exist_ok and self.is_dir(path)):
+                self.mkdir(path)
+
+    # ---- entries
+
+    def stat(self, path: PathName) -> Optional[int]:
+        """A file's size in bytes, or None for a directory. Of a file that is written it is the size at its last sync."""
+        answer = self._at("stat", path)
+        return None if answer == DIRECTORY else answer
+
+    def exists(self, path: PathName) -> bool:
+        """Whether something is at a path."""
+        return self._kind(path) != ""
+
+    def is_dir(self, path: PathName) -> bool:
+        """Whether a directory is at a path."""
+        return self._kind(path) == "directory"
+
+    def is_file(self, path: PathName) -> bool:
+        """Whether a file is at a path."""
+        return self._kind(path) == "file"
+
+    def _kind(self, path: PathName) -> str:
+        try:
+            return "directory" if self.stat(path) is None else "file"
+        except (FileNotFoundError, NotADirectoryError):
+            return ""
+
+    def remove(self, path: PathName) -> None:
+        """Takes a file or an empty directory."""
+        self._at("remove", path)
+
+    def rename(self, old: PathName, new: PathName) -> None:
+        """Gives an entry another path, in place of a file or an empty directory there."""
+        self._call("rename_at", [old, new], *readable(path_bytes(old)), *readable(path_bytes(new)))
+
+    def getattr(self, path: PathName, kind: int) -> bytes:
+        """The bytes of an entry's attribute, whose type is from 0 to 255."""
+        return self._whole_answer("get_attr", path, in_range(kind, 8, "kind"))
+
+    def setattr(self, path: PathName, kind: int, data: Any) -> None:
+        """Gives an entry an attribute, in place of the one of that type."""
+        self._at("set_attr", path, in_range(kind, 8, "kind"), *readable(data))
+
+    def removeattr(self, path: PathName, kind: int) -> None:
+        """Takes an attribute from an entry."""
+        self._at("remove_attr", path, in_range(kind, 8, "kind"))
+
+    def attributes(self, path: PathName) -> dict[int, bytes]:
+        """All attributes of an entry, by their types."""
+        found, name, buffer = {}, readable(path_bytes(path)), ctypes.create_string_buffer(ATTR_ROOM)
+        with self._lock:
+            for kind in range(256):
+                answer = self._ask("get_attr_at", *name, kind, buffer, ATTR_ROOM)
+                if answer >= 0:
+                    found[kind] = buffer.raw[:answer]
+                elif answer != -NO_ATTR:
+                    raise refusal(-answer, path)
+        return found
+
+    # ---- files
+
+    def open(self, path: PathName, mode: str = "r", buffering: int = -1, encoding: Optional[str] = None, errors: Optional[str] = None,
+             newline: Optional[str] = None) -> IO[Any]:
+        """A file object, as of the builtin `open`: mode r, w, a or x, with b for bytes, and without it for text, in UTF-8 where no
+        encoding is given. One file is written at a time, and up to 16 are read."""
+        kind = "".join(letter for letter in mode if letter not in "bt")
+        if kind not in MODES or not set(mode) <= set(kind + "bt") or len(set(mode)) < len(mode) or {"b", "t"} <= set(mode):
+            raise io.UnsupportedOperation(f"mode {mode!r}: a file is read (r), or it is written (w, a, x)")
+        is_text = "b" not in mode
+        if not is_text and (encoding, errors, newline) != (None, None, None):
+            raise ValueError("a file of bytes has no encoding, errors or newline")
+        if is_text and buffering == 0:
+            raise ValueError("a file of text has a buffer")
+        with self._lock:
+            file: Any = File(self, path, kind)
+            if buffering:
+                size = buffering if buffering > 1 else io.DEFAULT_BUFFER_SIZE
+                file = io.BufferedReader(file, size) if kind == "r" else io.BufferedWriter(file, size)
+            if is_text:
+                file = io.TextIOWrapper(file, encoding or "utf-8", errors, newline, line_buffering=buffering == 1)
+                file.mode = mode
+            self._files.add(file)
+        return file
+
+    def read(self, path: PathName, position: int = 0, count: Optional[int] = None) -> bytes:
+        """A file's bytes from a position on, at most so many where that is given."""
+        with self._lock:
+            with File(self, path, "r") as file:
+                file.seek(position)
+                return file.readall() if count is None else file.read(in_range(count, 32, "count"))
+
+    def write(self, path: PathName, data: Any) -> None:
+        """Makes a file with these bytes, or gives the one there these in place of its own. A refusal leaves the tree as it was."""
+        self._put(path, WRITE | CREATE | TRUNCATE, 0, data, None)
+
+    def write_at(self, path: PathName, position: int, data: Any, size: Optional[int] = None) -> None:
+        """Writes bytes into a file from a position on, and gives the file `size` bytes then, if that is given. What else is in it
+        stays. A refusal leaves the tree as it was."""
+        self._put(path, WRITE, in_range(position, 32, "position"), data, size)
+
+    def truncate(self, path: PathName, size: int) -> None:
+        """Gives a file so many bytes: it is cut, or zeros fill it up."""
+        self._put(path, WRITE, 0, b"", size)
+
+    def _put(self, path: PathName, flags: int, position: int, data: Any, size: Optional[int]) -> None:
+        data, size = readable(data)[0], None if size is None else in_range(size, 32, "size")
+        with self._lock:
+            is_new = flags & CREATE and not self.exists(path)
+            file = File(self, path, "w", flags)
+            try:
+                if position:
+                    file.seek(position)
+                file.write(data)
+                if size is not None:
+                    file.truncate(size)
+            except BaseException:
+                self._forget(file, is_new)
+                raise
+            file.close()
+
+    def _forget(self, file: File, is_new: bool) -> None:
+        """Takes a file back that couldn't be written: one that is new is removed. Else only a remount forgets what isn't saved, and
+        the files that are read are opened again."""
+        with contextlib.suppress(OSError):
+            if is_new:
+                file.close()
+                self.remove(file.name)
+            else:
+                file._drop()
+                self.remount()
+                for other in list(self._raws):
+                    other._open_again()

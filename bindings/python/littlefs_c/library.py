@@ -1,0 +1,126 @@
+"""The calls of `bindings/c/littlefs_c.h` by ctypes, and the numbers of their errors."""
+
+from __future__ import annotations
+
+import ctypes
+import errno
+import operator
+import os
+from pathlib import Path
+from typing import Any, Optional, Union
+
+DIRECTORY = 4294967296
+LONGER_FIRST, SHORTER_FIRST = 0, 1
+READ, WRITE, CREATE, EXCLUSIVE, TRUNCATE, APPEND = 0x1, 0x2, 0x100, 0x200, 0x400, 0x800
+
+# the numbers of littlefs_c.h: their names there, and what is said of those that the system has no such words for
+ERRORS = {errno.ENOENT: "NoEnt", errno.EBADF: "BadFile", errno.ENOMEM: "NoMemory", errno.EBUSY: "Busy", errno.EEXIST: "Exist",
+          errno.ENOTDIR: "NotDir", errno.EISDIR: "IsDir", errno.EINVAL: "Invalid", errno.EFBIG: "TooBig", errno.ENOSPC: "NoSpace",
+          errno.EROFS: "ReadOnly", errno.ENAMETOOLONG: "NameTooLong", errno.ENOTEMPTY: "NotEmpty", 61: "NoAttr", 84: "Corrupt",
+          200: "Failed", 201: "EntryFull"}
+MEANINGS = {
+    errno.EBUSY: "an open file prevents it",
+    errno.EINVAL: "no image of that geometry, or a path, a position or a number is out of range",
+    errno.EROFS: "the image can be read, and images like it aren't written",
+    61: "the attribute isn't there",
+    84: "no image is accepted in these bytes; one of version 2.1 is with also_2_1=True",
+    200: "an earlier call had no memory, and remount() mends it",
+    201: "a name and its attributes would take more than half of a metadata pair",
+}
+NOT_BUILT = "the library isn't there: run `rt lib` in crates/littlefs_c and `make` in bindings/c"
+
+PathName = Union[str, bytes, "os.PathLike[Any]"]
+
+
+class Handle(ctypes.Structure):
+    """`lfs_c_session`: all zeros while there is no session."""
+
+    _fields_ = [("at", ctypes.c_void_p), ("is_open", ctypes.c_uint64)]
+
+
+class Config(ctypes.Structure):
+    """`lfs_c_config`."""
+
+    _fields_ = [(name, ctypes.c_uint32) for name in ("block_size", "page", "order", "versions", "name_max", "file_max", "attr_max", "inline_max")]
+
+
+# what each call on an image takes behind it, its block size and its page, and each call of a session behind its handle
+CALLS = {"format": "n", "check": "", "list": "bb", "stat": "b", "read": "bnb", "write": "bb", "mkdir": "b", "remove": "b", "rename": "bb",
+         "get_attr": "bkb", "set_attr": "bkb", "remove_attr": "bk", "used": ""}
+SESSION_CALLS = {"mount": "cb", "mkfs": "cn", "unmount": "", "remount": "", "recover": "", "used_blocks": "", "image": "b", "image_part": "sb",
+                 "stat_at": "b", "list_at": "bb", "mkdir_at": "b", "remove_at": "b", "rename_at": "bb",
+                 "get_attr_at": "bkb", "set_attr_at": "bkb", "remove_attr_at": "bk",
+                 "open": "bn", "file_read": "nb", "file_write": "nb", "file_seek": "nn", "file_truncate": "nn", "file_sync": "n", "file_close": "n"}
+_TYPES = {"n": [ctypes.c_uint32], "k": [ctypes.c_uint8], "s": [ctypes.c_size_t], "b": [ctypes.c_void_p, ctypes.c_size_t],
+          "h": [ctypes.POINTER(Handle)], "c": [ctypes.POINTER(Config)]}
+
+
+def built_library() -> Path:
+    """The shared library: beside this module where a wheel has put it, else in bindings/c."""
+    here = Path(__file__).resolve().parent
+    installed = here / "littlefs_c.so"
+    return installed if installed.exists() else here.parent.parent / "c" / "littlefs_c.so"
+
+
+def load(path: Optional[PathName] = None) -> dict[str, Any]:
+    """The calls of the shared library at a path. Without one it is the library that LITTLEFS_C names, or the one that is built."""
+    path = path or os.environ.get("LITTLEFS_C") or built_library()
+    calls = {}
+    try:
+        library = ctypes.CDLL(os.fsdecode(path))
+        for first, names in (("bnn", CALLS), ("h", SESSION_CALLS)):
+            for name, takes in names.items():
+                call = calls[name] = getattr(library, "lfs_c_" + name)
+                call.restype = ctypes.c_int64
+                call.argtypes = [kind for letter in first + takes for kind in _TYPES[letter]]
+    except (OSError, AttributeError) as error:
+        raise FileNotFoundError(errno.ENOENT, NOT_BUILT, os.fsdecode(path)) from error
+    return calls
+
+
+_calls: dict[str, Any] = {}
+
+
+def loaded() -> dict[str, Any]:
+    """The calls of the library, which is loaded once."""
+    if not _calls:
+        _calls.update(load())
+    return _calls
+
+
+def path_bytes(path: PathName) -> bytes:
+    """A path as the library takes it."""
+    path = os.fspath(path)
+    return path.encode("utf-8", "surrogateescape") if isinstance(path, str) else path
+
+
+def path_text(name: bytes) -> str:
+    """A name of the library as text."""
+    return name.decode("utf-8", "surrogateescape")
+
+
+def readable(data: Any) -> tuple[Any, int]:
+    """What has bytes, as C may read it, and how many they are."""
+    if not isinstance(data, bytes):
+        data = memoryview(data).tobytes()
+    return data, len(data)
+
+
+def writable(data: Any) -> tuple[Any, int]:
+    """What has bytes that may be changed, as C may write it, and how many they are."""
+    view = memoryview(data).cast("B")
+    return (ctypes.c_ubyte * len(view)).from_buffer(view) if len(view) else ctypes.create_string_buffer(1), len(view)
+
+
+def in_range(value: int, bits: int, what: str) -> int:
+    """A whole number of so many bits. Raises a `ValueError` for another number, and a `TypeError` for what is none."""
+    value = operator.index(value)
+    if not 0 <= value < 1 << bits:
+        raise ValueError(f"{what} is out of range: {value}")
+    return value
+
+
+def refusal(number: int, *paths: PathName) -> OSError:
+    """The exception for an error's number, with the paths that the call was given."""
+    shown = [os.fsdecode(path) for path in paths]
+    return OSError(number, MEANINGS.get(number) or os.strerror(number), *[it for path in shown for it in (path, None)][:3])

@@ -190,15 +190,21 @@ class Folder(Operations):
         return self._files.at(path, number).read(offset, size)
 
     def write(self, path, data, offset, number):
-        if offset + len(data) > self.image.limits.file_max:
-            raise OSError(errno.EFBIG, os.strerror(errno.EFBIG))
-        self._files.at(path, number).write(offset, data, time.time_ns())
+        file = self._files.at(path, number)
+        self._grow(file, offset + len(data))
+        file.write(offset, data, time.time_ns())
         return len(data)
 
-    def truncate(self, path, size, number=None):
+    def _grow(self, file, size):
+        """Refuses a size for which there is no room, so that a file in memory isn't longer than the image can be."""
         if size > self.image.limits.file_max:
             raise OSError(errno.EFBIG, os.strerror(errno.EFBIG))
+        if file and size > len(file.data) and size - file.size > (self.image.block_count - self.image.used()) * self.image.block_size:
+            raise OSError(errno.ENOSPC, os.strerror(errno.ENOSPC))
+
+    def truncate(self, path, size, number=None):
         file = self._files.at(path, number)
+        self._grow(file, size)
         if file:
             file.truncate(size, time.time_ns())
         else:

@@ -23,8 +23,9 @@ class ImageFile:
     def __init__(self, path: str, is_written: bool):
         self.path = os.path.realpath(path)
         self._next, self._last = f"{self.path}.next", f"{self.path}.last"
-        self._here, self._spare, self._behind = self._open(is_written), None, set()
-        self._image, self._tail, self._is_durable = [], b"", True
+        self._here, self._spare = self._open(is_written), None
+        self._behind, self._is_lost, self._is_durable = set(), False, True  # of the spare; of the last save
+        self._shown, self._tail = None, b""
 
     def _open(self, is_written: bool) -> int:
         while True:
@@ -44,45 +45,56 @@ class ImageFile:
         with open(self.path, "rb") as file:
             return file.read() if size is None else file.read(size)
 
-    def begin(self, data: bytes) -> None:
-        """Says which bytes the image has. What is behind them in the file stays as it is."""
-        self._image = [data[at : at + PIECE] for at in range(0, len(data), PIECE)]
+    def begin(self, image) -> None:
+        """Says which image the file has. What is behind it in the file stays as it is."""
+        image.changed_blocks()
+        self._shown = None if image.changed_blocks() is not None else _pieces(image)
         with open(self.path, "rb") as file:
-            file.seek(len(data))
+            file.seek(image.block_count * image.block_size)
             self._tail = file.read()
 
     def save(self, image, is_durable: bool) -> None:
         """Gives the path an image's bytes. They are on the disk then if that is asked for."""
-        pieces = [image.part(number * PIECE, len(piece)) for number, piece in enumerate(self._image)]
-        changed = {at for number, piece in enumerate(pieces) for at in _differing(piece, self._image[number], number * PIECE, image.block_size)}
-        if changed:
+        changed = self._changed(image)
+        if changed or self._is_lost:
             try:
-                self._write(pieces, changed, image.block_size)
+                self._write(image, changed)
                 self._place(is_durable)
             except OSError:
+                self._is_lost = True
                 self._forget_spare()
                 raise
-            self._image, self._behind = pieces, changed
+            self._behind, self._is_lost, self._is_durable = changed, False, is_durable
         elif is_durable and not self._is_durable:
             os.fsync(self._here)
             self._sync_folder()
-        self._is_durable = is_durable or self._is_durable and not changed
+            self._is_durable = True
 
     def close(self) -> None:
         """Removes the second file."""
         self._forget_spare()
         os.close(self._here)
 
-    def _write(self, pieces: list[bytes], changed: set[int], block_size: int) -> None:
-        if self._spare is None:
-            self._spare = self._new_file()
-            for number, piece in enumerate(pieces):
-                _write_at(self._spare, piece, number * PIECE)
-            _write_at(self._spare, self._tail, sum(map(len, pieces)))
+    def _changed(self, image) -> set[int]:
+        """The blocks that the image has otherwise than at the last save: as it notes them, or else by a look at all of them."""
+        changed = image.changed_blocks()
+        if changed is not None:
+            return changed
+        if self._shown is None:
+            return set(range(image.block_count))
+        was, self._shown = self._shown, _pieces(image)
+        return {block for piece, (new, old) in enumerate(zip(self._shown, was)) if new != old for block in _differing(new, old, piece, image.block_size)}
+
+    def _write(self, image, changed: set[int]) -> None:
+        if self._spare is not None:
+            for block in sorted(changed | self._behind):
+                at = block * image.block_size
+                _write_at(self._spare, image.part(at, image.block_size), at)
             return
-        for at in sorted(changed | self._behind):
-            within = at % PIECE
-            _write_at(self._spare, pieces[at // PIECE][within : within + block_size], at)
+        self._spare, at = self._new_file(), 0
+        for piece in [*_pieces(image), self._tail]:
+            _write_at(self._spare, piece, at)
+            at += len(piece)
 
     def _new_file(self) -> int:
         was = os.fstat(self._here)
@@ -142,8 +154,17 @@ def _write_at(file: int, data: bytes, at: int) -> None:
         data, at = data[count:], at + count
 
 
-def _differing(new: bytes, old: bytes, start: int, size: int) -> list[int]:
-    """The offsets of the blocks that differ."""
-    if new == old:
-        return []
-    return [start + at for at in range(0, len(new), size) if new[at : at + size] != old[at : at + size]]
+def _step(block_size: int) -> int:
+    """How many bytes are looked at together: some blocks."""
+    return max(PIECE // block_size, 1) * block_size
+
+
+def _pieces(image) -> list[bytes]:
+    step = _step(image.block_size)
+    return [image.part(at, step) for at in range(0, image.block_count * image.block_size, step)]
+
+
+def _differing(new: bytes, old: bytes, piece: int, size: int) -> list[int]:
+    """The blocks in which a piece differs."""
+    first = piece * _step(size) // size
+    return [first + at // size for at in range(0, len(new), size) if new[at : at + size] != old[at : at + size]]

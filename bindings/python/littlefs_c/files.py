@@ -107,7 +107,7 @@ class File(io.RawIOBase):
             number, self._number = self._number, None
             super().close()
             self._image._raws.discard(self)
-            if number is not None:
+            if number is not None and not (self.readable() and self._image.closed):
                 self._image._call("file_close", [self.name], number)
 
     def _drop(self) -> None:

@@ -11,7 +11,7 @@ import weakref
 from typing import IO, Any, Iterator, NamedTuple, Optional
 
 from .files import MODES, File
-from .library import CREATE, DIRECTORY, LONGER_FIRST, TRUNCATE, WRITE, Config, Handle, PathName, in_range, loaded, path_bytes, path_text, readable, refusal, writable
+from .library import CREATE, DIRECTORY, LONGER_FIRST, TRUNCATE, WRITE, Change, Config, Handle, PathName, in_range, loaded, path_bytes, path_text, readable, refusal, writable
 
 NO_ATTR = 61
 ATTR_ROOM = 1024  # more than an attribute has
@@ -68,6 +68,7 @@ class Image:
         self._raws: weakref.WeakSet[File] = weakref.WeakSet()
         self._config = Config(*[in_range(number, 32, name) for number, (name, _) in zip(numbers, Config._fields_)])
         self.block_size, self.page = numbers[:2]
+        self._next_change: Optional[int] = None
         if size is None:
             data, self._size = readable(data)
             answer = self._calls["mount"](self._handle, self._config, data, self._size)
@@ -157,6 +158,23 @@ class Image:
         buffer = bytearray(min(in_range(count, 64, "count"), max(self._size - offset, 0)))
         answer = self._call("image_part", [], offset, *writable(buffer))
         return bytes(memoryview(buffer)[:answer])
+
+    def changed_blocks(self) -> Optional[set[int]]:
+        """The blocks that were changed since the last such call, or None where that isn't known: at the first one, where memory was
+        wanting, and where the library that is built doesn't note changes."""
+        with self._lock:
+            self.__enter__()
+            if "change" not in self._calls:
+                return None
+            found, change = set(), Change()
+            if self._next_change is not None:
+                while (answer := self._ask("change", self._next_change, change, b"", 0)) == 1:
+                    found.add(change.block)
+                    self._next_change += 1
+                if answer == 0:
+                    return found
+            self._next_change = self._call("note_changes", [])
+            return None
 
     def check(self) -> None:
         """Nothing, where a mount accepts the image as it is now. Raises as `Image(..)` else."""

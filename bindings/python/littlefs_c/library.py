@@ -44,6 +44,12 @@ class Config(ctypes.Structure):
     _fields_ = [(name, ctypes.c_uint32) for name in ("block_size", "page", "order", "versions", "name_max", "file_max", "attr_max", "inline_max")]
 
 
+class Change(ctypes.Structure):
+    """`lfs_c_change`'s answer: a program (1) or an erase (2), its block, the offset in it, and how many bytes are programmed there."""
+
+    _fields_ = [("kind", ctypes.c_uint32), ("block", ctypes.c_uint32), ("offset", ctypes.c_uint32), ("len", ctypes.c_size_t)]
+
+
 # what each call on an image takes behind it, its block size and its page, and each call of a session behind its handle
 CALLS = {"format": "n", "check": "", "list": "bb", "stat": "b", "read": "bnb", "write": "bb", "mkdir": "b", "remove": "b", "rename": "bb",
          "get_attr": "bkb", "set_attr": "bkb", "remove_attr": "bk", "used": ""}
@@ -51,7 +57,8 @@ SESSION_CALLS = {"mount": "cb", "mkfs": "cn", "unmount": "", "remount": "", "rec
                  "stat_at": "b", "list_at": "bb", "mkdir_at": "b", "remove_at": "b", "rename_at": "bb",
                  "get_attr_at": "bkb", "set_attr_at": "bkb", "remove_attr_at": "bk",
                  "open": "bn", "file_read": "nb", "file_write": "nb", "file_seek": "nn", "file_truncate": "nn", "file_sync": "n", "file_close": "n"}
-_TYPES = {"n": [ctypes.c_uint32], "k": [ctypes.c_uint8], "s": [ctypes.c_size_t], "b": [ctypes.c_void_p, ctypes.c_size_t],
+NEWER_CALLS = {"note_changes": "", "change": "qgb"}  # of a session, too, and not in each build of the library
+_TYPES = {"n": [ctypes.c_uint32], "q": [ctypes.c_uint64], "g": [ctypes.POINTER(Change)], "k": [ctypes.c_uint8], "s": [ctypes.c_size_t], "b": [ctypes.c_void_p, ctypes.c_size_t],
           "h": [ctypes.POINTER(Handle)], "c": [ctypes.POINTER(Config)]}
 
 
@@ -68,7 +75,8 @@ def load(path: Optional[PathName] = None) -> dict[str, Any]:
     calls = {}
     try:
         library = ctypes.CDLL(os.fsdecode(path))
-        for first, names in (("bnn", CALLS), ("h", SESSION_CALLS)):
+        newer = {name: takes for name, takes in NEWER_CALLS.items() if hasattr(library, "lfs_c_" + name)}
+        for first, names in (("bnn", CALLS), ("h", {**SESSION_CALLS, **newer})):
             for name, takes in names.items():
                 call = calls[name] = getattr(library, "lfs_c_" + name)
                 call.restype = ctypes.c_int64

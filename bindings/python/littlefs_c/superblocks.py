@@ -27,7 +27,7 @@ def superblock(data: Any) -> Optional[Superblock]:
     while at >= 0:
         if at + SIZES.size <= len(head):
             found = Superblock(*SIZES.unpack_from(head, at))
-            if at - BEHIND_REVISION in (0, found.block_size):
+            if found.version >> 16 == 2 and at - BEHIND_REVISION in (0, found.block_size):
                 return found
         at = head.find(MAGIC, at + 1)
     return None

@@ -10,8 +10,11 @@ be there, and the image has to be accepted. With the folder of littlefs's own co
 """
 
 import argparse
+import contextlib
 import os
 import shutil
+import signal
+import struct
 import subprocess
 import sys
 import tempfile
@@ -142,6 +145,61 @@ def try_operations(mounted, room, count, seed):
     return 0
 
 
+def refused_commands(python, room):
+    """Command lines that are refused, and what is said then."""
+    program = os.path.join(top, "bindings", "fuse", "littlefs-fuse")
+    with Image.format(64 << 10) as image:
+        image.write("/file", b"kept")
+        good = bytes(image)
+    later = good.replace(struct.pack("<2I", 0x20000, 4096), struct.pack("<2I", 0x20001, 4096))
+    for name, data in {"good": good, "none": bytes(64 << 10), "later": later, "short": good[:5000]}.items():
+        with open(f"{room}/{name}.img", "wb") as file:
+            file.write(data)
+    os.mkdir(f"{room}/point")
+    for words, wanted in [(["missing.img", "point"], "No such file"), (["none.img", "point"], "no image is accepted"), (["later.img", "point"], "give --also-2.1"), (["short.img", "point"], "no image"),
+                          (["good.img", "nowhere"], "isn't mounted"), (["good.img"], "FOLDER"), (["good.img", "point", "-o", "block_size=x"], "a number is missing"), (["good.img", "point", "-b", "1000"], "no image")]:
+        ran = subprocess.run([python, program, *words], cwd=room, capture_output=True, text=True)
+        if ran.returncode == 0 or wanted not in ran.stderr or "Traceback" in ran.stderr:
+            return f"{words}: {ran.stderr[-200:]}"
+    return in_background(python, program, room, good)
+
+
+def program_of(words):
+    """The number of the process with these words, in which no other has the paths of this run."""
+    for number in filter(str.isdecimal, os.listdir("/proc")):
+        with contextlib.suppress(OSError), open(f"/proc/{number}/cmdline", "rb") as file:
+            if file.read().split(b"\0")[:-1] == [os.fsencode(word) for word in words]:
+                return int(number)
+    raise ProcessLookupError(words)
+
+
+def in_background(python, program, room, good):
+    """The program goes to the background, and ends by a signal with all saved. Only one may write an image."""
+    words = [python, program, f"{room}/good.img", f"{room}/point", "-o", "fsname=named,nodev"]
+    subprocess.run(words, check=True)
+    again = subprocess.run([python, program, "good.img", "point"], cwd=room, capture_output=True, text=True)
+    with open(f"{room}/point/file", "a") as file:
+        file.write(", and more")
+    with contextlib.suppress(OSError), open(f"{room}/point/other", "w") as file:  # the close comes too late
+        file.write("open at the end")
+        file.flush()
+        program = program_of(words)
+        os.kill(program, signal.SIGTERM)
+        while os.path.exists(f"/proc/{program}"):
+            time.sleep(0.01)
+    with open(f"{room}/good.img", "rb") as file, Image.by_superblock(file.read()) as image:
+        found = image.read("/file"), image.read("/other")
+    if "is mounted already" not in again.stderr or found != (b"kept, and more", b"open at the end") or os.path.ismount(f"{room}/point"):
+        return f"{again.stderr} {found}"
+    return ""
+
+
+def try_commands(python, room):
+    begun = time.monotonic()
+    wrong = refused_commands(python, room)
+    return not line("command lines, and an end by a signal", not wrong, time.monotonic() - begun, wrong)
+
+
 def look_again(mounted, image, littlefs, room):
     """The image is accepted, shows the same in a new mount that is only read, and to littlefs's own code."""
     before = tree_of(mounted.folder)
@@ -173,6 +231,7 @@ def main():
     given = parser.parse_args()
     failed = 0
     with tempfile.TemporaryDirectory() as room:
+        failed += try_commands(given.python, room)
         mounted = Mounted(given.python, f"{room}/disk.img", f"{room}/mounted", ["--create", str(given.size)])
         try:
             failed += try_programs(mounted, room, given.only)

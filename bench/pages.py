@@ -14,7 +14,7 @@ over, and so are what names the past, CHANGELOG.md, and what names other tools. 
   the first column of docs/PROVED.md it is a word of the code of the crates that the heading names;
 - in a column of definitions, and of what shows them, it is a word of `lfs_model`, unless another crate is named behind it;
 - in a column of files it is a definitions' file, a crate or a path;
-- an option is one of mklittlefs, of lfs_script or of a script in bench;
+- an option is one of mklittlefs, of lfs_script, of littlefs-fuse or of a script in bench;
 - in `docs/USING.md, "Scripts"` there is such a heading.
 
 Prints a line for each that isn't there, and fails then.
@@ -43,6 +43,7 @@ rt antt KIT RT_* rattle-kit-* search grind omega simp subst cc rw refl ap elim a
 Vec Option Result Ok Err None Some String Box RefCell Cell Send Sync Drop Copy Model Iterator Read Write Error Debug u8 u16 u32 u64 usize bool
 std core alloc libc byteorder arrayvec lru bitflags clap itoa thiserror anyhow std_alloc std_heap
 objdump perf cat cksum cp mkfs genext2fs zlib echo sync gzip exec
+allow_other
 extern unsafe safe ensures requires ghost impl fn let match mod use
 """.split())
 COMMANDS_FROM_OUTSIDE = ("rt ", "gcc", "cp ", "fs.", "pio ", "sync ", "cat ", "grep ")
@@ -81,8 +82,9 @@ class Repository:
             to.add(os.path.splitext(os.path.basename(path))[0])
         if crate == "lfs_tool_line":
             self.options |= {"--" + name for name in re.findall(r'"([a-z][a-z0-9.-]+)"', text)} | {"-" + name for name in re.findall(r"'([a-z])'", text)}
-        elif path.startswith("bench/"):
+        elif path.startswith(("bench/", "bindings/fuse/")):
             self.options |= set(re.findall(LONG_OPTION, text))
+            self.options |= set(re.findall(SHORT_OPTION, text)) if path.startswith("bindings/") else set()
 
     def has(self, path):
         if "*" not in path:

@@ -9,6 +9,7 @@ Needs littlefs_c.so (`rt lib` in crates/littlefs_c, `make` in bindings/c). In tu
 - each method with words of wrong types: each gives a `TypeError`, a `ValueError` or an `OSError`, and the image stays as it was;
 - each method of an image and of a file behind its end;
 - threads that read, write and close the same files and images: each call answers or raises, and nothing is lost or mixed up;
+- many images, which leave no memory behind, and the example;
 - a wheel, and `pip install` into an environment of its own, without and with the library.
 
 Prints a line for each. Fails at the first difference.
@@ -225,6 +226,48 @@ def ends_amid_threads(rounds):
     return answered[0], refused[0]
 
 
+def memory():
+    """How many bytes 400 images and the refusals of 20,000 calls leave, behind as many before."""
+
+    def work():
+        for number in range(400):
+            image = Image.format(1 << 20)
+            image.write("/f", bytes(5000))
+            file = image.open("/f", "rb")
+            with contextlib.suppress(OSError):
+                image.write("/large", bytes(2 << 20))
+            if number % 2:
+                image.close()
+            for _ in range(50):
+                image.closed or image.exists("/none")
+            del image, file
+
+    def resident():
+        with open("/proc/self/statm") as file:
+            return int(file.read().split()[1]) * os.sysconf("SC_PAGE_SIZE")
+
+    work()
+    before = resident()
+    work()
+    left = resident() - before
+    same("little memory is left", left < 4 << 20, True)
+    return left
+
+
+def example():
+    with tempfile.TemporaryDirectory() as room:
+        path = os.path.join(room, "disk.img")
+        with Image.format(16 * 1024, 1024, 64, name_max=30) as image, open(path, "wb") as file:
+            file.write(bytes(image))
+        words = {**os.environ, "PYTHONPATH": os.path.join(top, "bindings", "python")}
+        for name in ("one", "two"):
+            shown = subprocess.run([sys.executable, os.path.join(top, "bindings", "python", "example.py"), path, name], env=words, check=True, capture_output=True, text=True).stdout
+        same("the example", shown, "/ ['settings.json']\n/log ['changes']\n")
+        with open(path, "rb") as file, Image(file.read(), 1024, 64, name_max=30) as image, image.open("/log/changes") as log:
+            same("its log", [line.split()[1:] for line in log], [["named", "one"], ["named", "two"]])
+            same("its settings", image.read("/settings.json"), b'{"name": "two"}')
+
+
 def installation():
     """A wheel has the library, and pip installs it where nothing else is."""
     source = os.path.join(top, "bindings", "python")
@@ -253,6 +296,8 @@ def main():
     print("words of any type:", wrong_types(20000))
     behind_the_end()
     print("calls amid threads that end, answered and refused:", ends_amid_threads(60))
+    print("bytes that many images leave:", memory())
+    example()
     if not given.no_install:
         print("installed:", installation())
 

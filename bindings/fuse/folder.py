@@ -81,6 +81,7 @@ class Folder(Operations):
         if self._image_file:
             self._image_file.save(self.image, is_durable=True)
             self._image_file.close()
+        self._is_changed = False
 
     # ---- entries
 
@@ -146,7 +147,7 @@ class Folder(Operations):
 
     def statfs(self, path):
         free = self.image.block_count - self.image.used()
-        return {"f_bsize": self.image.block_size, "f_frsize": self.image.block_size, "f_blocks": self.image.block_count, "f_bfree": free, "f_bavail": free, "f_namemax": 255}
+        return {"f_bsize": self.image.block_size, "f_frsize": self.image.block_size, "f_blocks": self.image.block_count, "f_bfree": free, "f_bavail": free, "f_namemax": self.image.limits.name_max}
 
     def mknod(self, path, mode, device):
         if not stat.S_ISREG(mode):
@@ -207,6 +208,7 @@ class Folder(Operations):
         self._grow(file, size)
         if file:
             file.truncate(size, time.time_ns())
+            self._is_changed |= number is None and self._files.save(file)
         else:
             self.image.truncate(path, size)
             self._details.note_time(path, time.time_ns())

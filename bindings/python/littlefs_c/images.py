@@ -11,7 +11,8 @@ import weakref
 from typing import IO, Any, Iterator, NamedTuple, Optional
 
 from .files import MODES, File
-from .library import CREATE, DIRECTORY, LONGER_FIRST, TRUNCATE, WRITE, Change, Config, Handle, PathName, in_range, loaded, path_bytes, path_text, readable, refusal, writable
+from .library import CORRUPT, CREATE, DIRECTORY, LONGER_FIRST, TRUNCATE, WRITE, Change, Config, Handle, PathName, in_range, loaded, path_bytes, path_text, readable, refusal, usual_page, writable
+from .superblocks import superblock
 
 NO_ATTR = 61
 ATTR_ROOM = 1024  # more than an attribute has
@@ -43,26 +44,42 @@ class Limits(NamedTuple):
     inline_max: int
 
 
+LARGEST = Limits(255, 2147483647, 1022, 1022)  # littlefs's own
+
+
 class Image:
     """An image in memory that is mounted, until it is closed. A refused call leaves it as it was. Several threads may use it: one
     at a time is in a call."""
 
-    def __init__(self, data: Any, block_size: int = 4096, page: int = 256, *, also_2_1: bool = False, name_max: int = 255,
+    def __init__(self, data: Any, block_size: int = 4096, page: Optional[int] = None, *, also_2_1: bool = False, name_max: int = 255,
                  file_max: int = 2147483647, attr_max: int = 1022, inline_max: int = 1022):
-        """Mounts a copy of these bytes. Images of version 2.1 are accepted where `also_2_1` says so. Only images whose limits are
-        those that are given are written; without any they are littlefs's own. Raises an `OSError`: EINVAL where the bytes are no
-        image of that geometry or a number is out of range, and 84 where no image is accepted in them."""
+        """Mounts a copy of these bytes. Without a page it is the largest one up to 256. Images of version 2.1 are accepted where
+        `also_2_1` says so. Only images whose limits are those that are given are written; without any they are littlefs's own. Raises
+        an `OSError`: EINVAL where the bytes are no image of that geometry or a number is out of range, and 84 where no image is
+        accepted in them."""
         self._begin(data, None, (block_size, page, LONGER_FIRST, int(also_2_1), name_max, file_max, attr_max, inline_max))
 
     @classmethod
-    def format(cls, size: int, block_size: int = 4096, page: int = 256, order: int = LONGER_FIRST, *, also_2_1: bool = False,
+    def format(cls, size: int, block_size: int = 4096, page: Optional[int] = None, order: int = LONGER_FIRST, *, also_2_1: bool = False,
                name_max: int = 255, file_max: int = 2147483647, attr_max: int = 1022, inline_max: int = 1022) -> Image:
         """An empty image of so many bytes. littlefs's own code reads those whose order is `LONGER_FIRST`."""
         image = cls.__new__(cls)
         image._begin(None, size, (block_size, page, order, int(also_2_1), name_max, file_max, attr_max, inline_max))
         return image
 
-    def _begin(self, data: Any, size: Optional[int], numbers: tuple[int, ...]) -> None:
+    @classmethod
+    def by_superblock(cls, data: Any, page: Optional[int] = None, *, also_2_1: bool = False, inline_max: int = LARGEST.inline_max) -> Image:
+        """Mounts a copy of an image by the sizes and limits that are in its superblock. Bytes behind the image are left out. Raises an
+        `OSError` with the number 84 where no superblock is found."""
+        found = superblock(data)
+        if found is None:
+            raise refusal(CORRUPT)
+        limits = {name: min(getattr(found, name), getattr(LARGEST, name)) for name in ("name_max", "file_max", "attr_max")}
+        part = memoryview(data)[: found.block_count * found.block_size]
+        return cls(part, found.block_size, page, also_2_1=also_2_1, inline_max=inline_max, **limits)
+
+    def _begin(self, data: Any, size: Optional[int], numbers: tuple[Any, ...]) -> None:
+        numbers = (numbers[0], usual_page(numbers[0]) if numbers[1] is None else numbers[1], *numbers[2:])
         self._handle, self._lock, self._calls = Handle(None, 0), threading.RLock(), loaded()
         self._files: weakref.WeakSet[Any] = weakref.WeakSet()
         self._raws: weakref.WeakSet[File] = weakref.WeakSet()

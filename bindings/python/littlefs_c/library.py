@@ -27,6 +27,7 @@ MEANINGS = {
     200: "an earlier call had no memory, and remount() mends it",
     201: "a name and its attributes would take more than half of a metadata pair",
 }
+CORRUPT = 84
 NOT_BUILT = "the library isn't there: run `rt lib` in crates/littlefs_c and `make` in bindings/c"
 
 PathName = Union[str, bytes, "os.PathLike[Any]"]
@@ -126,6 +127,11 @@ def in_range(value: int, bits: int, what: str) -> int:
     if not 0 <= value < 1 << bits:
         raise ValueError(f"{what} is out of range: {value}")
     return value
+
+
+def usual_page(block_size: int) -> int:
+    """The largest page up to 256 that goes with blocks of that size."""
+    return max((page for page in (8, 16, 32, 64, 128, 256) if block_size % page == 0 and 8 * page <= block_size), default=8)
 
 
 def refusal(number: int, *paths: PathName) -> OSError:

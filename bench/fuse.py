@@ -76,7 +76,7 @@ class Mounted:
 
     def begin(self):
         self.program = subprocess.Popen(self.words)
-        for _ in range(500):
+        for _ in range(3000):
             if os.path.ismount(self.folder):
                 return
             if self.program.poll() is not None:
@@ -88,10 +88,13 @@ class Mounted:
         subprocess.run(["fusermount3", "-u", *words, self.folder], check=True)
 
     def end(self):
-        for _ in range(100):
+        """Unmounts, and waits for the program's end. Where another program looks around in the folder it takes some tries."""
+        for _ in range(200):
             if subprocess.run(["fusermount3", "-u", self.folder], stderr=subprocess.DEVNULL).returncode == 0:
                 break
             time.sleep(0.05)
+        else:
+            self.unmount("-z")
         self.program.wait()
 
     def kill(self):

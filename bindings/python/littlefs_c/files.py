@@ -4,6 +4,7 @@ from __future__ import annotations
 
 import io
 from typing import TYPE_CHECKING, Any, Optional
+import weakref
 
 from .library import APPEND, CREATE, EXCLUSIVE, READ, TRUNCATE, WRITE, PathName, in_range, path_bytes, readable, writable
 
@@ -17,24 +18,33 @@ class File(io.RawIOBase):
     """An open file of an image, without a buffer: it is read, or it is written. `Image.open` makes it."""
 
     def __init__(self, image: Image, path: PathName, kind: str, flags: Optional[int] = None):
-        self._image, self.name, self.mode, self._number = image, path, kind + "b", None
+        self._image, self.name, self.mode, self._number, self._mount = image, path, kind + "b", None, 0
         self._size = self._position = 0
         with image._lock:
-            self._number = image._call("open", [path], *readable(path_bytes(path)), MODES[kind] if flags is None else flags)
-            image._raws.add(self)
+            self._begin(MODES[kind] if flags is None else flags)
             if kind in "ra":
                 self._size = image.stat(path) or 0
             self._position = self._size if kind == "a" else 0
 
+    def _begin(self, flags: int) -> None:
+        """Opens the file. Its number holds until a remount."""
+        image = self._image
+        self._number = image._call("open", [self.name], *readable(path_bytes(self.name)), flags)
+        self._mount = image._mount
+        image._raws[self._number] = weakref.ref(self)
+
+    def _is_open(self) -> bool:
+        return self._number is not None and self._mount == self._image._mount
+
     def _call(self, name: str, *more: Any) -> int:
         with self._image._lock:
-            if self.closed or self._number is None:
+            if not self._is_open():
                 raise ValueError("I/O operation on closed file")
             return self._image._call(name, [self.name], self._number, *more)
 
     def _open_again(self) -> None:
         """Opens a file that is read once more, where a remount has closed it."""
-        self._number = self._image._call("open", [self.name], *readable(path_bytes(self.name)), READ)
+        self._begin(READ)
         self._call("file_seek", self._position)
 
     def readable(self) -> bool:
@@ -104,13 +114,10 @@ class File(io.RawIOBase):
     def close(self) -> None:
         """Commits what was written, and closes the file."""
         with self._image._lock:
-            number, self._number = self._number, None
+            is_open, number = self._is_open(), self._number
+            self._number = None
             super().close()
-            self._image._raws.discard(self)
-            if number is not None and not (self.readable() and self._image.closed):
-                self._image._call("file_close", [self.name], number)
-
-    def _drop(self) -> None:
-        """Closes the file without saving it, where a remount follows or has been."""
-        self._number = None
-        self.close()
+            if is_open:
+                del self._image._raws[number]
+                if not (self.readable() and self._image.closed):
+                    self._image._call("file_close", [self.name], number)

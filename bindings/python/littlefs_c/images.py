@@ -82,7 +82,8 @@ class Image:
         numbers = (numbers[0], usual_page(numbers[0]) if numbers[1] is None else numbers[1], *numbers[2:])
         self._handle, self._lock, self._calls = Handle(None, 0), threading.RLock(), loaded()
         self._files: weakref.WeakSet[Any] = weakref.WeakSet()
-        self._raws: weakref.WeakSet[File] = weakref.WeakSet()
+        self._raws: dict[int, weakref.ref[File]] = {}  # the open files without their buffers, by their numbers
+        self._mount = 0
         self._config = Config(*[in_range(number, 32, name) for number, (name, _) in zip(numbers, Config._fields_)])
         self.block_size, self.page = numbers[:2]
         self._next_change: Optional[int] = None
@@ -143,8 +144,9 @@ class Image:
         with contextlib.ExitStack() as stack:
             stack.callback(self._end)
             # without the lock, since a file's buffer has one that is taken before it
-            for file in list(self._files):
-                stack.callback(file.close)
+            for file in [raw() for raw in list(self._raws.values())] + list(self._files):
+                if file is not None:
+                    stack.callback(file.close)
 
     def _end(self) -> None:
         with self._lock:
@@ -205,8 +207,8 @@ class Image:
         """Closes all files without saving them, and reads the image anew."""
         with self._lock:
             self._call("remount", [])
-            for raw in list(self._raws):
-                raw._number = None
+            self._mount += 1
+            self._raws.clear()
 
     def recover(self) -> None:
         """Ends what a loss of power left. Each call that changes the image does so first."""
@@ -333,13 +335,15 @@ class Image:
             raise ValueError("a file of text has a buffer")
         with self._lock:
             file: Any = File(self, path, kind)
+            raw = file
             if buffering:
                 size = buffering if buffering > 1 else io.DEFAULT_BUFFER_SIZE
                 file = io.BufferedReader(file, size) if kind == "r" else io.BufferedWriter(file, size)
             if is_text:
                 file = io.TextIOWrapper(file, encoding or "utf-8", errors, newline, line_buffering=buffering == 1)
                 file.mode = mode
-            self._files.add(file)
+            if file is not raw:
+                self._files.add(file)
         return file
 
     def read(self, path: PathName, position: int = 0, count: Optional[int] = None) -> bytes:
@@ -386,7 +390,8 @@ class Image:
                 file.close()
                 self.remove(file.name)
             else:
-                file._drop()
+                readers = [other for raw in list(self._raws.values()) if (other := raw()) is not None and other is not file]
                 self.remount()
-                for other in list(self._raws):
+                file.close()
+                for other in readers:
                     other._open_again()

@@ -18,7 +18,7 @@ import sys
 import traceback
 
 CANNOT = {"vfs_lfs_superblock": "its blocks have 64 bytes, and here a block has at least 1,024"}
-BUT_FOR = {"vfs_lfs": (18, "(1024, 1024, 30, 9, 9, 0, 0, 0, 0, 255)", "9 blocks are free, and not 7; littlefs's own code from C has 9, too, behind these operations")}
+BUT_FOR = {"vfs_lfs": (18, "(1024, 1024, 30, 9, 9, 0, 0, 0, 0, 255)", "9 blocks are free, and not 7: MicroPython counts each directory's pair twice, as a traversal by littlefs does")}
 OTHER_HALF = re.compile(r"^test\(.*vfs\.VfsLfs1\)$", re.M)
 
 

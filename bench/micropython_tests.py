@@ -18,7 +18,6 @@ import sys
 import traceback
 
 CANNOT = {"vfs_lfs_superblock": "its blocks have 64 bytes, and here a block has at least 1,024"}
-BUT_FOR = {"vfs_lfs": (18, "(1024, 1024, 30, 9, 9, 0, 0, 0, 0, 255)", "9 blocks are free, and not 7: MicroPython counts each directory's pair twice, as a traversal by littlefs does")}
 OTHER_HALF = re.compile(r"^test\(.*vfs\.VfsLfs1\)$", re.M)
 
 
@@ -40,10 +39,6 @@ def outcome(path):
     got = ran.stdout.splitlines()
     if got == wanted and ran.returncode == 0:
         return name, "passes", ""
-    if name in BUT_FOR:
-        line, shown, why = BUT_FOR[name]
-        if got[line - 1 : line] == [shown] and got[: line - 1] + got[line:] == wanted[: line - 1] + wanted[line:] and ran.returncode == 0:
-            return name, "passes", f"but for line {line}: {why}"
     if name in CANNOT:
         return name, "can't", CANNOT[name]
     pairs = [(one, other) for one, other in zip(got + [""] * len(wanted), wanted + [""] * len(got)) if one != other]

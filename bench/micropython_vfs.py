@@ -114,8 +114,10 @@ class VfsLfs2(metaclass=Shown):
         return (DIRECTORY if size is None else FILE, 0, 0, 0, 0, 0, size or 0, when, when, when)
 
     def statvfs(self, path):
+        """Free blocks as MicroPython counts them: the pair of each directory is used twice, beneath its name and in the thread."""
         with self._image(is_changed=False) as image:
-            free = image.block_count - image.used()
+            directories = sum(len(below) for _, below, _ in image.walk())
+            free = image.block_count - image.used() - 2 * directories
             return (image.block_size, image.block_size, image.block_count, free, free, 0, 0, 0, 0, image.limits.name_max)
 
     def chdir(self, path):

@@ -3,8 +3,9 @@
 
 usage: pages.py [PAGE..]
 
-Without PAGE it takes README.md, CONTRIBUTING.md, what is in docs, bench/README.md, and the pages of the crates. Code blocks are passed
-over, and so are what names the past, CHANGELOG.md, and what names other tools. It looks at what stands between backticks:
+Without PAGE it takes README.md, CONTRIBUTING.md, what is in docs, bench/README.md, bindings/README.md, and the pages of the crates. Code
+blocks are passed over, and so are what names the past, CHANGELOG.md, and what names other tools. It looks at what stands between
+backticks:
 
 - a path is one of the repository's: from the top, from `crates`, or from a crate. Its ending may be left out;
 - of a wrong body `CRATE/NAME` is its file;
@@ -27,7 +28,7 @@ import subprocess
 import sys
 
 TOP = os.path.dirname(os.path.dirname(os.path.abspath(__file__)))
-PAGES = ["README.md", "CONTRIBUTING.md", "docs/*.md", "bench/README.md", "crates/*/*.md"]
+PAGES = ["README.md", "CONTRIBUTING.md", "docs/*.md", "bench/README.md", "bindings/README.md", "crates/*/*.md"]
 ENDINGS = ["", ".rt", ".antt", ".py", ".c", ".h", ".md", ".edit"]
 WORD = r"[A-Za-z_][A-Za-z0-9_]*(?:[-'][A-Za-z0-9_]+)*"
 LONG_OPTION, SHORT_OPTION = r"(?<![\w-])--[a-z][a-z0-9.-]*", r"(?<![\w-])-[a-z](?![\w-])"

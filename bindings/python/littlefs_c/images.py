@@ -183,11 +183,11 @@ class Image:
         wanting, and where the library that is built doesn't note changes."""
         with self._lock:
             self.__enter__()
-            if "change" not in self._calls:
+            if "fetch_change" not in self._calls:
                 return None
             found, change = set(), Change()
             if self._next_change is not None:
-                while (answer := self._ask("change", self._next_change, change, b"", 0)) == 1:
+                while (answer := self._ask("fetch_change", self._next_change, change, b"", 0)) == 1:
                     found.add(change.block)
                     self._next_change += 1
                 if answer == 0:

@@ -46,7 +46,7 @@ class Config(ctypes.Structure):
 
 
 class Change(ctypes.Structure):
-    """`lfs_c_change`'s answer: a program (1) or an erase (2), its block, the offset in it, and how many bytes are programmed there."""
+    """`lfs_c_fetch_change`'s answer: a program (1) or an erase (2), its block, the offset in it, and how many bytes are programmed there."""
 
     _fields_ = [("kind", ctypes.c_uint32), ("block", ctypes.c_uint32), ("offset", ctypes.c_uint32), ("len", ctypes.c_size_t)]
 
@@ -58,7 +58,7 @@ SESSION_CALLS = {"mount": "cb", "mkfs": "cn", "unmount": "", "remount": "", "rec
                  "stat_at": "b", "list_at": "bb", "mkdir_at": "b", "remove_at": "b", "rename_at": "bb",
                  "get_attr_at": "bkb", "set_attr_at": "bkb", "remove_attr_at": "bk",
                  "open": "bn", "file_read": "nb", "file_write": "nb", "file_seek": "nn", "file_truncate": "nn", "file_sync": "n", "file_close": "n"}
-NEWER_CALLS = {"note_changes": "", "change": "qgb"}  # of a session, too, and not in each build of the library
+NEWER_CALLS = {"note_changes": "", "fetch_change": "qgb"}  # of a session, too, and not in each build of the library
 _TYPES = {"n": [ctypes.c_uint32], "q": [ctypes.c_uint64], "g": [ctypes.POINTER(Change)], "k": [ctypes.c_uint8], "s": [ctypes.c_size_t], "b": [ctypes.c_void_p, ctypes.c_size_t],
           "h": [ctypes.POINTER(Handle)], "c": [ctypes.POINTER(Config)]}
 

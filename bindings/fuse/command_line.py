@@ -8,22 +8,23 @@ from littlefs_c import Image, superblock
 from littlefs_c.images import LARGEST
 
 VERSION_2_1 = 0x20001
+SAVES = ("close", "sync", "end")
 LIMITS = ("name_max", "file_max", "attr_max", "inline_max")
 
 
 def arguments(words):
-    parser = argparse.ArgumentParser(prog="littlefs-fuse", description="Mounts a littlefs image as a folder. `fusermount -u FOLDER` ends it.")
+    parser = argparse.ArgumentParser(prog="littlefs-fuse", description="Mounts a littlefs image as a folder. `fusermount3 -u FOLDER` ends it.")
     parser.add_argument("image", metavar="IMAGE", help="the image's file")
     parser.add_argument("folder", metavar="FOLDER", help="an empty folder")
     parser.add_argument("-o", metavar="OPTION,..", action="append", default=[], help="ro: the image is only read. Each option below without its dashes, as in block_size=4096. Others are FUSE's own, as allow_other")
     parser.add_argument("-b", "--block-size", type=int, metavar="BYTES", help="the size of a block; the superblock's, if it isn't given, or 4096")
     parser.add_argument("-n", "--block-count", type=int, metavar="COUNT", help="how many blocks the image has; the superblock's, if it isn't given")
-    parser.add_argument("-p", "--page", type=int, metavar="BYTES", help="the size of a page; an eighth of a block and at most 256, if it isn't given")
+    parser.add_argument("-p", "--page", type=int, metavar="BYTES", help="the size of a page; the largest one up to 256, if it isn't given")
     parser.add_argument("--also-2.1", dest="also_2_1", action="store_true", help="takes an image of version 2.1, too")
     for name in LIMITS:
         parser.add_argument("--" + name.replace("_", "-"), type=int, metavar="BYTES", help=f"the limit {name}; the superblock's, if it isn't given" if name != "inline_max" else "the longest file that is kept in its directory's entry: the firmware's cache_size")
     parser.add_argument("--create", type=int, metavar="BYTES", help="makes an empty image of so many bytes, where no file is there")
-    parser.add_argument("--save", choices=("close", "sync", "end"), default="close", help="when a change comes to the image's file: at each close of a file and within a second else, at each sync, or at the end alone. A sync always saves")
+    parser.add_argument("--save", choices=SAVES, default="close", help="when a change comes to the image's file: at each close of a file and within a second else, at each sync, or at the end alone. A sync always saves")
     parser.add_argument("-f", "--foreground", action="store_true", help="doesn't go to the background")
     parser.add_argument("-d", "--debug", action="store_true", help="prints each operation")
     given = parser.parse_args(words)
@@ -42,6 +43,8 @@ def take_option(parser, given, word):
             parser.error(f"-o {word}: a number is missing")
         setattr(given, name, int(value))
     elif name == "save":
+        if value not in SAVES:
+            parser.error(f"-o {word}: it is {', '.join(SAVES)}")
         given.save = value
     elif name not in ("rw", "dev", "suid", "nodev", "nosuid", "auto", "noauto", "user", "nofail"):
         return name, value if has_value else True

@@ -21,7 +21,6 @@ FAILED, CORRUPT = 200, 84
 FOR_SYSTEM = {FAILED: errno.EIO, CORRUPT: errno.EIO, ENTRY_FULL: errno.ENOSPC}
 NOW, OMIT = (1 << 30) - 1, (1 << 30) - 2  # nanoseconds by which utimens means the present, and no change
 BY_ITSELF = 1  # seconds within which a change is saved that no file's close or sync saves
-SAVES = ("close", "sync", "end")
 NAMES_AS_BYTES = "latin-1"  # so each byte of a name is a letter for fusepy
 
 

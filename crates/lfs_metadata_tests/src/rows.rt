@@ -63,6 +63,29 @@ fn every_sixteenth_commit_erases(rt: HostRuntime) -> Result<(), Fail> {
     Ok(())
 }
 
+// Where the device says that the bytes behind the log are blank, 15 commits behind a mount fill the
+// block's other pages, and the next one is written into the other block.
+#[test]
+fn commits_behind_blank_log_end_append(rt: HostRuntime) -> Result<(), Fail> {
+    for (times, first, second) in [(1, 1, 7), (15, 1, 7), (16, 1, 2), (17, 1, 2)] {
+        let device = device_with_first_block_commit(
+            rt.alloc(),
+            Geometry::new(4096, 256, 16)?,
+            1,
+            SUPERBLOCK,
+        )?.with_blank_checks();
+        let lines = COMMITS.get(..times).unwrap_or_default();
+        let (done, _, device) = run_thread_actions_on_device(rt.alloc(), device, lines);
+        let bytes = device.bytes();
+        assert_eq!(rt; done, times);
+        assert_eq!(rt;
+            (bytes.first(), bytes.get(4096)),
+            (Some(&first), Some(&second))
+        );
+    }
+    Ok(())
+}
+
 // An empty file whose name has 200 bytes takes 208.
 const FIRST: [Change<'static>; 2] = [
     Change::Create {

@@ -1,5 +1,5 @@
 -- The contents of a file, as they were found.
-use Rattle.std.proofs.Common.{ℕ, ◌≡◌, ◌+◌, ◌-◌, min, List, Option, Some, None, refl, subst, sym, arith}
+use Rattle.std.proofs.Common.{ℕ, ◌≡◌, ◌≤◌, ◌+◌, ◌-◌, min, List, Option, Some, None, length, refl, subst, sym, arith}
 use Rattle.std.specs.Option.{option_map}
 use Rattle.std.proofs.lemmas.List.Elements.{recursion_from_All}
 use Rattle.std.proofs.lemmas.Option.{same_Some}
@@ -8,14 +8,18 @@ use Rattle.lfs_ctz.specs.declared.known.KnownBlocks.{KnownBlocks}
 use Rattle.lfs_model.specs.Disk.{Disk}
 use Rattle.lfs_model.specs.History.{DeviceCallEvent}
 use Rattle.lfs_model.specs.SkipLists.{IsPlaceOfByteInList, list_block_count_for_size}
+use Rattle.lfs_model.proofs.ListSizes.{length-bytes_of_skip_list}
+use Rattle.lfs_model.specs.Blocks.{HasBlocksOfCountAndSize}
 use Rattle.lfs_model.specs.SlotEdits.{slot_of_path}
-use Rattle.lfs_model.specs.Slots.{Slot}
-use Rattle.lfs_model.specs.Shown.{all_slots_not_moved}
+use Rattle.lfs_model.specs.Slots.{Attributes, Slot}
+use Rattle.lfs_model.specs.Shown.{all_slots_not_moved, entries_by_directory_in_thread, skip_list_bytes_on_disk, tree_on_disk}
 use Rattle.lfs_model.specs.Thread.{Pair}
-use Rattle.lfs_model.specs.Tree.{Path}
+use Rattle.lfs_model.specs.Tree.{Path, node_of_struct_and_attributes}
+use Rattle.lfs_model.specs.TreeEdits.{file_bytes_of_node}
 use Rattle.lfs_model.specs.View.{IsAcceptedImage, IsSkipListIfCtzStruct}
 use Rattle.lfs_lookup.specs.FileContents.{IsInlineBytesOrSkipListOfFileAtPath, struct_of_file_contents}
 use Rattle.lfs_lookup.specs.declared.file_contents.FileContents.{FileContents}
+use Rattle.lfs_lookup.specs.declared.file_contents.FileContents.TheVariants as contents
 use Rattle.lfs_tree.proofs.SlotsHave.{slot_has}
 
 -- its list is well formed
@@ -34,3 +38,23 @@ known_read block_size size position count room known later old new is h first la
     let fits : min room (size - position) ≡ min count (size - position) = omega arith in
     subst (λ k. ReadsFewPointers known (list_block_count_for_size block_size size) first last k later old new) fits
     (h first last off end at (subst (λ k. IsPlaceOfByteInList block_size (position + k - 1) last end) (sym fits) there))
+
+-- how many bytes these contents have
+abbrev pub size_of_file_contents : FileContents → ℕ
+size_of_file_contents (contents.Inline bytes) = length bytes.items
+size_of_file_contents (contents.List head size) = size
+
+-- the file there has as many
+pub contents_sized : (disk : Disk) (ps : List Pair) (path : Path) (c : FileContents) (count : ℕ) → IsAcceptedImage disk ps → (1024 ≤ disk.block_size) × HasBlocksOfCountAndSize disk.block_size count disk.blocks → IsInlineBytesOrSkipListOfFileAtPath ps path c
+    → size_of_file_contents c ≡ length (file_bytes_of_node (tree_on_disk disk ps path))
+contents_sized disk ps path c count ok shape h = go (slot_of_path ps path) h.struct
+  where
+    kind : (attributes : Attributes) (d : FileContents) → IsSkipListIfCtzStruct disk (struct_of_file_contents d) → size_of_file_contents d ≡ length (file_bytes_of_node (Some (node_of_struct_and_attributes (skip_list_bytes_on_disk disk) (entries_by_directory_in_thread ps) attributes (struct_of_file_contents d))))
+    kind attributes (contents.Inline bytes) list = refl
+    kind attributes (contents.List head size) list = sym (length-bytes_of_skip_list disk.blocks disk.block_size count head size shape.0 shape.1 list)
+
+    go : (o : Option Slot) → option_map (λ (u : Slot). u.struct) o ≡ Some (struct_of_file_contents c)
+        → size_of_file_contents c ≡ length (file_bytes_of_node (option_map (λ (u : Slot). node_of_struct_and_attributes (skip_list_bytes_on_disk disk) (entries_by_directory_in_thread ps) u.attributes u.struct) o))
+    go None e = absurd (cc)
+    go (Some u) e =
+        subst (λ s. size_of_file_contents c ≡ length (file_bytes_of_node (Some (node_of_struct_and_attributes (skip_list_bytes_on_disk disk) (entries_by_directory_in_thread ps) u.attributes s)))) (sym (same_Some u.struct (struct_of_file_contents c) e)) (kind u.attributes c (list_read disk ps path c ok h))

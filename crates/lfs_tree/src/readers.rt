@@ -71,6 +71,20 @@ impl<D: BlockDevice> Tree<D> {
         mark_thread_failed_on_error(&mut self.thread, &bytes);
         bytes
     }
+
+    /// Returns the size in bytes of a file with these contents. The call makes no call of the
+    /// device.
+    pub fn size_of_contents(&self, contents: &FileContents) -> u32
+        requires works { self.now.failed ≡ false }
+        requires there { (path : ModelPath) × IsInlineBytesOrSkipListOfFileAtPath self.now.pairs path contents.now }
+        ensures { (path : ModelPath) → IsInlineBytesOrSkipListOfFileAtPath self.now.pairs path contents.now → result ≡ length (file_bytes_of_node (tree_view self.now path)) }
+    {
+        let _device = self.thread.device();
+        match contents {
+            FileContents::Inline(bytes) => bytes.len() as u32,
+            FileContents::List { head: _, size } => *size,
+        }
+    }
 }
 
 // Returns the bytes from a position on, at most `count`, of a file with these contents. The known

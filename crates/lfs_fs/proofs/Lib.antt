@@ -49,3 +49,4 @@ pub mod DeviceLaws
 pub mod Called
 pub mod WritersInPlace
 pub mod ImageLimits
+mod FileAnswers

@@ -71,6 +71,10 @@ open_files_view t files = map (option_map (open_file_view_over_tree t.disk (tree
 abbrev pub open_file_at : RuntimeOpenFilesByNumber → ℕ → Option OpenFile
 open_file_at files fd = option_flatten (slice_get files fd)
 
+abbrev pub position_of_kept_file : OpenFile → ℕ
+position_of_kept_file (file.Reading r) = r.position
+position_of_kept_file (file.Writing w) = w.position
+
 abbrev pub reader_of_open_file_or_none : Option OpenFile → Option Reader
 reader_of_open_file_or_none None = None
 reader_of_open_file_or_none (Some (file.Reading r)) = Some r

@@ -25,3 +25,4 @@ pub mod DeviceLaws
 pub mod CallEnds
 pub mod CallEffects
 pub mod ImageLimits
+pub mod FileAnswers

@@ -14,7 +14,7 @@ ghost use Rattle.lfs_tree.specs.OpenContents.{WritesOnlyUnusedBlocks};
 ghost use Rattle.lfs_tree.specs.TreeState.{IsIoWithFaultOrNoMemory, IsFailedTree, IsSoundTreeState, SurvivesStopsInTreeCall, TreeState, tree_view};
 ghost use Rattle.lfs_fs.specs.WriterChanges.{CanWriteByWriter, ChangesOnlyWriterAtNumber, IsChangedWriterSeenAs};
 ghost use Rattle.lfs_fs.specs.declared.files.Writer.{Writer as WriterSeen};
-ghost use Rattle.lfs_fs.specs.FileView.{last_change_end_of_unsaved, open_file_at, open_files_view, is_open_at_matching_path, is_unsaved_writer, lowest_free_number_of_runtime_files, blocks_reserved_by_writers, blocks_reserved_by_writer, blocks_reserved_for_size, open_file_with_known, open_file_with_position, open_files_with_entry_at_number, reader_of_open_file_or_none, readers_among, is_unsaved_nonsequential, writer_of_open_file_or_none, writer_view, writers_among};
+ghost use Rattle.lfs_fs.specs.FileView.{last_change_end_of_unsaved, open_file_at, open_files_view, is_open_at_matching_path, is_unsaved_writer, lowest_free_number_of_runtime_files, blocks_reserved_by_writers, blocks_reserved_by_writer, blocks_reserved_for_size, open_file_with_known, open_file_with_position, open_files_with_entry_at_number, reader_of_open_file_or_none, readers_among, is_unsaved_nonsequential, writer_of_open_file_or_none, writer_view, writers_among, position_of_kept_file};
 
 use crate::owned_path::OwnedPath;
 use crate::writers::write_bytes_by_writer;
@@ -230,6 +230,17 @@ impl Files {
     {
         match self.entries.get(fd as usize) {
             Some(Some(OpenFile::Writing(writer))) => Some(writer),
+            _ => None,
+        }
+    }
+
+    // Returns the position of the file of that number.
+    pub(crate) fn position(&self, fd: u32) -> Option<u32>
+        ensures { result ≡ option_map position_of_kept_file (open_file_at self.now fd) }
+    {
+        match self.entries.get(fd as usize) {
+            Some(Some(OpenFile::Reading(reader))) => Some(reader.position),
+            Some(Some(OpenFile::Writing(writer))) => Some(writer.position),
             _ => None,
         }
     }

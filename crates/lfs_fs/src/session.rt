@@ -31,6 +31,7 @@ ghost use Rattle.lfs_fs.specs.FlagsView.{flags_view};
 ghost use Rattle.lfs_fs.specs.OpView.{RefusesOnlyWithRefusalError, op_view, reply_result_view, reply_view};
 ghost use Rattle.lfs_fs.specs.CallEffects.{IsSessionCallWithResult};
 ghost use Rattle.lfs_fs.specs.ReaderReads.{TakesFewDeviceReads};
+ghost use Rattle.lfs_fs.specs.FileAnswers.{AnswersOfOpenFile, position_of_open_file, size_of_open_file};
 
 use crate::checks::{
     check_and_find_contents_for_reader, check_and_get_attr, check_and_list, check_and_stat,
@@ -491,6 +492,45 @@ impl<D: BlockDevice> Session<D> {
         check_seek(&self.tree, &self.files, fd, position)?;
         self.files.seek(fd, position);
         Ok(())
+    }
+
+    /// Returns the position of an open file, in bytes from its beginning. The call makes no call of
+    /// the device.
+    ///
+    /// # Errors
+    ///
+    /// `BadFile` where no file is open under the number.
+    pub fn position(&self, fd: Fd) -> Result<u32, Error>
+        ensures { AnswersOfOpenFile position_of_open_file self.now fd result }
+    {
+        if self.tree.has_failed() {
+            return Err(Error::Failed);
+        }
+        match self.files.position(fd) {
+            Some(position) => Ok(position),
+            None => Err(Error::BadFile),
+        }
+    }
+
+    /// Returns the size of an open file in bytes. Of a file that is open for writing it is the size
+    /// with what isn't synced. The call makes no call of the device.
+    ///
+    /// # Errors
+    ///
+    /// `BadFile` where no file is open under the number.
+    pub fn size(&self, fd: Fd) -> Result<u32, Error>
+        ensures { AnswersOfOpenFile size_of_open_file self.now fd result }
+    {
+        if self.tree.has_failed() {
+            return Err(Error::Failed);
+        }
+        if let Some(writer) = self.files.writer(fd) {
+            return Ok(writer.size);
+        }
+        match self.files.reader(fd) {
+            Some(reader) => Ok(self.tree.size_of_contents(&reader.contents)),
+            None => Err(Error::BadFile),
+        }
     }
 
     /// Closes an open file, and commits its changes to the tree. Its number is free then.

@@ -3,3 +3,5 @@ mod Carrying
 mod FirstRefusal
 mod Formats
 mod Images
+mod Kept
+mod Mountings

@@ -8,3 +8,5 @@ pub mod Configs
 pub mod Slots
 pub mod Sessions
 pub mod Mounts
+pub mod Changes
+pub mod Fetches

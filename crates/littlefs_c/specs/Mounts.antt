@@ -7,10 +7,14 @@ use Rattle.lfs_device.specs.Shown.{disk_of_geometry_and_blocks, disk_with_name_o
 use Rattle.lfs_device.specs.declared.ram.RamDevice.{RamDevice}
 use Rattle.lfs_model.specs.Blocks.{AreBlocksEqualExceptThese, cut}
 use Rattle.lfs_model.specs.Disk.{Disk, SameGeometry}
+use Rattle.lfs_model.specs.EntryTypes.{SuperblockFields}
 use Rattle.lfs_model.specs.Fresh.{IsFreshDisk, empty_tree}
 use Rattle.lfs_model.specs.Geometry.{IsValidGeometry}
+use Rattle.lfs_model.specs.Profile.{profile_with_limits, superblock_of_image}
 use Rattle.lfs_model.specs.Run.{SystemState}
 use Rattle.lfs_model.specs.State.{Healthy, session_after_mount}
+use Rattle.lfs_model.specs.Thread.{Pair}
+use Rattle.lfs_model.specs.View.{IsAcceptedImage}
 use Rattle.lfs_fs.specs.SessionView.{SessionView, system_state_of_session_view}
 use Rattle.littlefs_c.specs.Calls.{IsErrorPreventingSessionOnImage, IsSessionMountedOnImage}
 use Rattle.littlefs_c.specs.Codes.{code_of_result}
@@ -22,6 +26,15 @@ use Rattle.littlefs_c.specs.declared.config.Config.{Config}
 -- a session as a mount of the image by that configuration begins it
 abbrev pub IsMountedByConfig : Config → List ℕ → SystemState → Type 0
 IsMountedByConfig config image from = IsValidConfig config × IsSessionMountedOnImage config.block_size config.page (profile_of_config config) image from
+
+-- A session as a mount of the image by that configuration begins it, with the limits of the image in place of the configuration's.
+pub record IsMountedWithLimits (config : Config) (image : List ℕ) (from : SystemState) : Type 0 where
+  pub valid : IsValidConfig config
+  pub pairs : List Pair
+  pub accepted : IsAcceptedImage from.disk pairs
+  pub fields : SuperblockFields
+  pub superblock : superblock_of_image pairs ≡ Some fields
+  pub mounted : IsSessionMountedOnImage config.block_size config.page (profile_with_limits fields (profile_of_config config)) image from
 
 -- a number of the configuration is out of range, or the image has no session by it, or memory wasn't granted
 abbrev pub PreventsMount : Config → List ℕ → Error → Type 0

@@ -80,6 +80,16 @@ FillsBufferWithLines (Err e) (Err e') buffer filled = (e' ≡ e) × (filled ≡ 
 abbrev pub IsListCall : List ℕ → ℤ → List ℕ → List ℕ → SessionView → SessionView → Type 0
 IsListCall path code buffer filled old new = (r : Result (Vec ListItem Global) Error) × ((t : Result ℕ Error) × ((code ≡ code_of_result (λ n. n) t) × (FillsBufferWithLines r t buffer filled × IsSessionCallWithResult old (ops.ListAll path) (reply_from_result (λ (items : Vec ListItem Global). ops.Items (map list_item_view items.items)) r) new)))
 
+-- ---- calls of the library alone
+
+-- the session stays, and P holds of it and of an answer with this code
+abbrev pub AnswersWithCode : {X : Type 0} → (X → ℤ) → (SessionView → X → Type 0) → ℤ → SessionView → SessionView → Type 0
+AnswersWithCode {X} number P code old new = (new ≡ old) × ((x : X) × ((code ≡ number x) × P old x))
+
+-- an answer about an open file
+abbrev pub IsFileAnswer : (SessionView → Result ℕ Error → Type 0) → ℤ → SessionView → SessionView → Type 0
+IsFileAnswer P code old new = AnswersWithCode {X = Result ℕ Error} (λ r. code_of_result (λ n. n) r) P code old new
+
 -- ---- the image
 
 -- The bytes are an image whose disk is that one.

@@ -3,9 +3,9 @@
 ghost use Rattle.std.specs.Prelude.{◌≡◌, Option, None, Some, option_map};
 ghost use Rattle.littlefs_c.specs.Slots.{open_number};
 
+use crate::noted::HeldDevice;
 use crate::parts::Parts;
 use crate::slot::Slot;
-use lfs_device::RamDevice;
 use lfs_fs::Session;
 use std::alloc::Global;
 use std::mem::replace;
@@ -23,7 +23,7 @@ pub struct Handle {
 }
 
 impl Handle {
-    fn opened(b: Box<Session<RamDevice>, Global>) -> Handle
+    fn opened(b: Box<Session<HeldDevice>, Global>) -> Handle
         ensures { result.slot.session ≡ Some b.value }
     {
         Handle {
@@ -33,7 +33,7 @@ impl Handle {
     }
 
     // Takes the session out.
-    fn into_session(self) -> Option<Box<Session<RamDevice>, Global>>
+    fn into_session(self) -> Option<Box<Session<HeldDevice>, Global>>
         ensures { option_map (λ b. b.value) result ≡ self.slot.session }
     {
         let Handle { slot, is_open } = self;
@@ -60,7 +60,7 @@ fn null() -> *mut u8 {
 pub(crate) fn take_session(
     alloc: Global,
     handle: &mut Handle,
-) -> Option<Box<Session<RamDevice>, Global>>
+) -> Option<Box<Session<HeldDevice>, Global>>
     ensures taken { option_map (λ b. b.value) result ≡ handle.old.slot.session }
     ensures left { handle.new.slot.session ≡ None }
 {
@@ -69,7 +69,7 @@ pub(crate) fn take_session(
 }
 
 // Puts a session into a handle. One that was there is ended.
-pub(crate) fn put_session(handle: &mut Handle, b: Box<Session<RamDevice>, Global>)
+pub(crate) fn put_session(handle: &mut Handle, b: Box<Session<HeldDevice>, Global>)
     ensures { handle.new.slot.session ≡ Some b.value }
 {
     *handle = Handle::opened(b);

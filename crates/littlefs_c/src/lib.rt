@@ -5,6 +5,7 @@
 
 mod buffers;
 mod calls;
+mod changes;
 mod codes;
 mod config;
 mod entries;
@@ -12,6 +13,8 @@ mod exports;
 mod handle;
 mod image;
 mod lines;
+mod noted;
+mod notes;
 mod open_files;
 mod operation_runs;
 mod parts;

@@ -2,7 +2,8 @@
 
 ghost use Rattle.std.specs.Prelude.{◌-◌, ◌^◌, length, min};
 ghost use Rattle.lfs_model.specs.Operations as ops;
-ghost use Rattle.littlefs_c.specs.Sessions.{CallsSession, IsBytesCall, IsCountCall, IsUnitCall, open_flags_of_number};
+ghost use Rattle.lfs_fs.specs.FileAnswers.{AnswersOfOpenFile, position_of_open_file, size_of_open_file};
+ghost use Rattle.littlefs_c.specs.Sessions.{CallsSession, IsBytesCall, IsCountCall, IsFileAnswer, IsUnitCall, open_flags_of_number};
 
 use crate::buffers::fill_with_bytes;
 use crate::codes::{return_code_of_count, return_code_of_unit};
@@ -98,6 +99,43 @@ pub extern "C" fn lfs_c_file_seek(
     let answer = inner.seek(file, position);
     put_session(session, inner);
     return_code_of_unit(answer)
+}
+
+/// Returns the position of an open file, in bytes from its beginning.
+///
+/// # Errors
+///
+/// 77 where there is no session, `Failed` where it has failed, and `BadFile` where no file is open
+/// under the number.
+#[unsafe(no_mangle)]
+pub extern "C" fn lfs_c_file_tell(alloc: Global, session: &mut Handle, file: u32) -> i64
+    ensures { CallsSession (IsFileAnswer (λ s r. AnswersOfOpenFile position_of_open_file s file r) result) result session.old.slot.session session.new.slot.session }
+{
+    let Some(inner) = take_session(alloc, session) else {
+        return CLOSED;
+    };
+    let answer = inner.position(file);
+    put_session(session, inner);
+    return_code_of_count(answer)
+}
+
+/// Returns the size of an open file in bytes. Of a file that is open for writing it is the size with
+/// what isn't synced.
+///
+/// # Errors
+///
+/// 77 where there is no session, `Failed` where it has failed, and `BadFile` where no file is open
+/// under the number.
+#[unsafe(no_mangle)]
+pub extern "C" fn lfs_c_file_size(alloc: Global, session: &mut Handle, file: u32) -> i64
+    ensures { CallsSession (IsFileAnswer (λ s r. AnswersOfOpenFile size_of_open_file s file r) result) result session.old.slot.session session.new.slot.session }
+{
+    let Some(inner) = take_session(alloc, session) else {
+        return CLOSED;
+    };
+    let answer = inner.size(file);
+    put_session(session, inner);
+    return_code_of_count(answer)
 }
 
 /// Gives a file that is open for writing that many bytes: it is cut, or zeros fill it up. The

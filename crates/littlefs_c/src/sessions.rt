@@ -2,12 +2,12 @@
 
 ghost use Rattle.std.specs.Prelude.{◌^◌, ◌<◌};
 ghost use Rattle.lfs_model.specs.Operations as ops;
-ghost use Rattle.littlefs_c.specs.Sessions.{AnswersFromSession, CallsSession, CopiesImage, CopiesImagePart, IsCountCall, IsUnitCall};
+ghost use Rattle.littlefs_c.specs.Sessions.{AnswersFromSession, CallsSession, CopiesImage, CopiesImagePart, IsCountCall, IsImageOfDisk, IsUnitCall};
 
 use crate::buffers::{copy_part, copy_to_buffer_if_bytes_fit};
 use crate::codes::{return_code_of_count, return_code_of_unit};
 use crate::handle::{CLOSED, Handle, put_session, take_session};
-use lfs_device::RamDevice;
+use crate::noted::HeldDevice;
 use lfs_fs::Session;
 use std::alloc::Global;
 
@@ -63,12 +63,19 @@ pub extern "C" fn lfs_c_used_blocks(alloc: Global, session: &mut Handle) -> i64
     return_code_of_count(answer)
 }
 
+// Borrows the bytes of a session's image.
+fn image_of_session(session: &Session<HeldDevice>) -> &[u8]
+    ensures { IsImageOfDisk session.now.tree.disk result.now }
+{
+    session.device().inner().inner().bytes()
+}
+
 // Puts the bytes of a session's image into a buffer, if all of them fit. Returns how many they are.
-fn copy_image(session: &Session<RamDevice>, buffer: &mut [u8]) -> usize
+fn copy_image(session: &Session<HeldDevice>, buffer: &mut [u8]) -> usize
     ensures copied { CopiesImage session.now result buffer.old buffer.new }
     ensures small { result < 2 ^ 63 }
 {
-    copy_to_buffer_if_bytes_fit(session.device().bytes(), buffer)
+    copy_to_buffer_if_bytes_fit(image_of_session(session), buffer)
 }
 
 /// Puts the bytes of the image into the buffer, if all of them fit, and returns how many they are.
@@ -90,11 +97,11 @@ pub extern "C" fn lfs_c_image(alloc: Global, session: &mut Handle, buffer: &mut 
 }
 
 // Puts a part of a session's image into a buffer. Returns how many bytes it has.
-fn copy_image_part(session: &Session<RamDevice>, offset: usize, buffer: &mut [u8]) -> usize
+fn copy_image_part(session: &Session<HeldDevice>, offset: usize, buffer: &mut [u8]) -> usize
     ensures copied { CopiesImagePart session.now offset result buffer.old buffer.new }
     ensures small { result < 2 ^ 63 }
 {
-    copy_part(session.device().bytes(), offset, buffer)
+    copy_part(image_of_session(session), offset, buffer)
 }
 
 /// Puts the bytes of the image from an offset on into the buffer, as many as it has room for, and

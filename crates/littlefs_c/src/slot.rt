@@ -4,8 +4,8 @@ ghost use Rattle.std.specs.Prelude.{◌≡◌, Option, None, Some, IsSome};
 ghost use Rattle.lfs_fs.specs.SessionView.{SessionView};
 ghost use Rattle.littlefs_c.specs.Slots.{slot_owns};
 
+use crate::noted::HeldDevice;
 use crate::parts::Parts;
-use lfs_device::RamDevice;
 use lfs_fs::Session;
 use std::alloc::Global;
 use std::marker::Model;
@@ -31,7 +31,7 @@ impl Slot {
         Slot { at, alloc }
     }
 
-    pub fn of_parts(parts: Parts<Session<RamDevice>, Global>) -> Slot
+    pub fn of_parts(parts: Parts<Session<HeldDevice>, Global>) -> Slot
         ensures { result.session ≡ Some parts.value }
     {
         let Parts { ptr, alloc } = parts;
@@ -41,13 +41,13 @@ impl Slot {
         }
     }
 
-    pub fn into_parts(self) -> Parts<Session<RamDevice>, Global>
+    pub fn into_parts(self) -> Parts<Session<HeldDevice>, Global>
         requires { IsSome self.session }
         ensures { self.session ≡ Some result.value }
     {
         let Slot { at, alloc } = self;
         Parts {
-            ptr: at as *mut Session<RamDevice>,
+            ptr: at as *mut Session<HeldDevice>,
             alloc,
         }
     }

@@ -2,21 +2,24 @@
 
 ghost use Rattle.std.specs.Prelude.{◌≡◌, pos, None, IfOk, IfErr};
 ghost use Rattle.lfs_fs.specs.SessionView.{system_state_of_session_view};
-ghost use Rattle.littlefs_c.specs.Mounts.{BeginsInHandle, IsBlankDevice, IsCodeOfBeginning, IsFormattedByConfig, IsMountedByConfig, PreventsFormat, PreventsMount};
+ghost use Rattle.littlefs_c.specs.Calls.{IsUncalledDeviceWithImage};
+ghost use Rattle.littlefs_c.specs.Configs.{IsValidConfig, profile_of_config};
+ghost use Rattle.littlefs_c.specs.Mounts.{BeginsInHandle, IsBlankDevice, IsCodeOfBeginning, IsFormattedByConfig, IsMountedByConfig, IsMountedWithLimits, PreventsFormat, PreventsMount};
 
 use crate::codes::return_code_of_unit;
 use crate::config::Config;
 use crate::handle::{Handle, put_session, take_session};
-use crate::image::mount_by_profile;
+use crate::image::device_by_profile;
+use crate::noted::{HeldDevice, Noted, held_device};
 use lfs_device::{Error, Geometry, RamDevice};
-use lfs_fs::{Session, format_ordered};
+use lfs_fs::{Session, format_ordered, mount, mount_with_limits};
 use std::alloc::Global;
 
 // Puts a session into a box.
 fn box_session(
     alloc: Global,
-    session: Session<RamDevice>,
-) -> Result<Box<Session<RamDevice>, Global>, Error>
+    session: Session<HeldDevice>,
+) -> Result<Box<Session<HeldDevice>, Global>, Error>
     ensures ok { IfOk result (λ b. b.value ≡ session) }
     ensures err { IfErr result (λ e. e ≡ Error.NoMemory) }
 {
@@ -26,16 +29,46 @@ fn box_session(
     }
 }
 
-// Mounts a session over a copy of an image, by a configuration.
-fn mount_session(alloc: Global, config: &Config, image: &[u8]) -> Result<Session<RamDevice>, Error>
-    ensures ok { IfOk result (λ s. IsMountedByConfig config.now image.now (system_state_of_session_view s)) }
+// Makes a device in memory that has a copy of an image, by a configuration.
+fn copy_of_image(alloc: Global, config: &Config, image: &[u8]) -> Result<RamDevice, Error>
+    ensures ok { IfOk result (λ d. IsValidConfig config.now × IsUncalledDeviceWithImage config.now.block_size config.now.page (profile_of_config config.now) image.now d) }
     ensures err { IfErr result (PreventsMount config.now image.now) }
 {
     if !config.is_valid() {
         return Err(Error::Invalid);
     }
     let profile = config.profile();
-    mount_by_profile(alloc, image, config.block_size, config.page, profile)
+    device_by_profile(alloc, image, config.block_size, config.page, profile)
+}
+
+// Mounts a session over a copy of an image, by a configuration.
+fn mount_session(alloc: Global, config: &Config, image: &[u8]) -> Result<Session<HeldDevice>, Error>
+    ensures ok { IfOk result (λ s. IsMountedByConfig config.now image.now (system_state_of_session_view s)) }
+    ensures err { IfErr result (PreventsMount config.now image.now) }
+{
+    let ram = copy_of_image(alloc, config, image)?;
+    let profile = config.profile();
+    match mount(alloc, held_device(alloc, ram, profile)) {
+        Ok(session) => Ok(session),
+        Err((_device, error)) => Err(error),
+    }
+}
+
+// Mounts a session over a copy of an image, by a configuration and the limits of the image.
+fn mount_session_with_limits(
+    alloc: Global,
+    config: &Config,
+    image: &[u8],
+) -> Result<Session<HeldDevice>, Error>
+    ensures ok { IfOk result (λ s. IsMountedWithLimits config.now image.now (system_state_of_session_view s)) }
+    ensures err { IfErr result (PreventsMount config.now image.now) }
+{
+    let ram = copy_of_image(alloc, config, image)?;
+    let profile = config.profile();
+    match mount_with_limits(alloc, Noted::new(alloc, ram), profile) {
+        Ok(session) => Ok(session),
+        Err((_device, error)) => Err(error),
+    }
 }
 
 // Mounts a copy of an image, where the handle has no session.
@@ -77,6 +110,44 @@ pub extern "C" fn lfs_c_mount(
     return_code_of_unit(mount_into_handle(alloc, session, config, image))
 }
 
+// Mounts a copy of an image by its own limits, where the handle has no session.
+fn mount_with_limits_into_handle(
+    alloc: Global,
+    session: &mut Handle,
+    config: &Config,
+    image: &[u8],
+) -> Result<(), Error>
+    ensures { BeginsInHandle (λ s. IsMountedWithLimits config.now image.now (system_state_of_session_view s)) (PreventsMount config.now image.now) result session.old.slot.session session.new.slot.session }
+{
+    if let Some(open) = take_session(alloc, session) {
+        put_session(session, open);
+        return Err(Error::Busy);
+    }
+    let inner = mount_session_with_limits(alloc, config, image)?;
+    let b = box_session(alloc, inner)?;
+    put_session(session, b);
+    Ok(())
+}
+
+/// Begins a session over a copy of an image, as [`lfs_c_mount`], with the limits of the image in
+/// place of the configuration's. So an image that was made with lower limits may be changed, and
+/// stays within them. Returns 0.
+///
+/// # Errors
+///
+/// Those of [`lfs_c_mount`]. The handle is as it was after an error.
+#[unsafe(no_mangle)]
+pub extern "C" fn lfs_c_mount_with_limits(
+    alloc: Global,
+    session: &mut Handle,
+    config: &Config,
+    image: &[u8],
+) -> i64
+    ensures { IsCodeOfBeginning (λ s. IsMountedWithLimits config.now image.now (system_state_of_session_view s)) (PreventsMount config.now image.now) result session.old.slot.session session.new.slot.session }
+{
+    return_code_of_unit(mount_with_limits_into_handle(alloc, session, config, image))
+}
+
 // Makes a device in memory of so many blocks by a configuration, whose bytes are 255.
 fn blank_device(alloc: Global, config: &Config, block_count: u32) -> Result<RamDevice, Error>
     ensures ok { IfOk result (IsBlankDevice config.now block_count) }
@@ -94,11 +165,12 @@ fn format_session(
     alloc: Global,
     config: &Config,
     block_count: u32,
-) -> Result<Session<RamDevice>, Error>
+) -> Result<Session<HeldDevice>, Error>
     ensures ok { IfOk result (IsFormattedByConfig config.now block_count) }
     ensures err { IfErr result (PreventsFormat config.now block_count) }
 {
-    let device = blank_device(alloc, config, block_count)?;
+    let ram = blank_device(alloc, config, block_count)?;
+    let device = held_device(alloc, ram, config.profile());
     match format_ordered(alloc, device, config.name_order()) {
         Ok(session) => Ok(session),
         // The device had no fault, so memory wasn't granted.

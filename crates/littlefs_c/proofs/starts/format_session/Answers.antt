@@ -1,7 +1,15 @@
-use Rattle.littlefs_c.proofs.Formats.{formatted_by_config}
+use Rattle.std.proofs.Common.{subst, sym, ◌∙◌}
+use Rattle.littlefs_c.specs.Mounts.{IsBlankDevice}
+use Rattle.littlefs_c.proofs.Formats.{formatted_by_config, prevented_format}
+use Rattle.littlefs_c.proofs.Images.{none_below}
 use Rattle.littlefs_c.proofs.starts.format_session.Goals as goal
 
 pub returns-in-Ok-clause-ok : goal.returns-in-Ok-clause-ok
 returns-in-Ok-clause-ok c =
-    formatted_by_config c.args.config.now c.args.block_count c.in_ok-device.device c.name_order.result c.in-Ok.session c.in_ok-device.ensures.ok c.name_order.ensures c.in-Ok.ensures.formatted.fresh
+    let d = c.held_device-device.result.inner.inner in
+    formatted_by_config c.args.config.now c.args.block_count d c.held_device-device.result.profile c.name_order.result c.in-Ok.session
+    (subst (IsBlankDevice c.args.config.now c.args.block_count) (sym c.held_device-device.ensures.ram) c.in_ok-ram.ensures.ok) (c.held_device-device.ensures.profile ∙ c.profile.ensures) c.name_order.ensures c.in-Ok.ensures.formatted.fresh
     c.in-Ok.ensures.geometry c.in-Ok.ensures.calls.writes.others c.in-Ok.ensures.state
+
+pub returns-in-Err-clause-err : goal.returns-in-Err-clause-err
+returns-in-Err-clause-err c = prevented_format c.args.config.now c.args.block_count c.in-Err.error c.in-Err.ensures.back.errors (λ io. none_below _ _ (c.in-Err.ensures.back.fault io) c.in-Err._device.inner.inner.no_fault)

@@ -1,0 +1,65 @@
+-- What C gets of a change.
+use Rattle.std.specs.Prelude.{ℕ, ℤ, ◌≡◌, ◌≤◌, pos, ◌-ℤ◌, IfSome, List, length, Option, None, Some, slice_get}
+use Rattle.lfs_model.specs.History.{DeviceCall}
+use Rattle.lfs_model.specs.History.DeviceCall.{Read, Program, Erase}
+use Rattle.lfs_fs.specs.SessionView.{SessionView}
+use Rattle.littlefs_c.specs.Buffers.{buffer_with_bytes_if_they_fit}
+use Rattle.littlefs_c.specs.Changes.{writes_of_history}
+use Rattle.littlefs_c.specs.Sessions.{AnswersWithCode}
+use Rattle.littlefs_c.specs.declared.changes.Fetched.{Fetched}
+use Rattle.littlefs_c.specs.declared.changes.Fetched.TheVariants as fetched
+use Rattle.littlefs_c.specs.declared.changes.ShownChange.{ShownChange}
+
+-- ---- a change
+
+-- the change is that program or erase
+abbrev pub IsShownChange : DeviceCall → ShownChange → Type 0
+IsShownChange (Read block off len) shown = ⊥
+IsShownChange (Program block off bytes) shown = (shown.kind ≡ 1) × (shown.block ≡ block) × (shown.offset ≡ off) × (shown.len ≡ length bytes)
+IsShownChange (Erase block) shown = (shown.kind ≡ 2) × (shown.block ≡ block) × (shown.offset ≡ 0) × (shown.len ≡ 0)
+
+-- a buffer with the bytes of a program, if they fit
+abbrev pub buffer_after_change : DeviceCall → List ℕ → List ℕ
+buffer_after_change (Read block off len) buffer = buffer
+buffer_after_change (Program block off bytes) buffer = buffer_with_bytes_if_they_fit bytes buffer
+buffer_after_change (Erase block) buffer = buffer
+
+-- C gets the call of that number, with its bytes, if they fit.
+pub record GetsChange (calls : List DeviceCall) (number : ℕ) (shown : ShownChange) (buffer filled : List ℕ) : Type 0 where
+  pub call : DeviceCall
+  pub is : slice_get calls number ≡ Some call
+  pub shows : IsShownChange call shown
+  pub bytes : filled ≡ buffer_after_change call buffer
+
+-- C gets the change of that number; or there are no more changes than so many; or it isn't kept
+abbrev pub FetchesChange : List DeviceCall → ℕ → Fetched → ShownChange → ShownChange → List ℕ → List ℕ → Type 0
+FetchesChange calls number fetched.Change old new buffer filled = GetsChange calls number new buffer filled
+FetchesChange calls number fetched.NoneYet old new buffer filled = (length calls ≤ number) × (new ≡ old) × (filled ≡ buffer)
+FetchesChange calls number fetched.NotKept old new buffer filled = (new ≡ old) × (filled ≡ buffer)
+
+-- the number of the next change, if there are numbers
+abbrev pub IsNumberOfNextChange : List DeviceCall → Option ℕ → Type 0
+IsNumberOfNextChange calls number = IfSome number (λ n. n ≡ length calls)
+
+-- ---- answers
+
+-- minus 202, where a change isn't kept
+abbrev pub code_of_lost_change : ℤ
+code_of_lost_change = pos 0 -ℤ pos 202
+
+abbrev pub code_of_fetched : Fetched → ℤ
+code_of_fetched fetched.Change = pos 1
+code_of_fetched fetched.NoneYet = pos 0
+code_of_fetched fetched.NotKept = code_of_lost_change
+
+abbrev pub code_of_change_number : Option ℕ → ℤ
+code_of_change_number (Some n) = pos n
+code_of_change_number None = code_of_lost_change
+
+-- a fetch of a session's change
+abbrev pub IsFetchAnswer : ℕ → ShownChange → ShownChange → List ℕ → List ℕ → ℤ → SessionView → SessionView → Type 0
+IsFetchAnswer number shown after buffer filled code old new = AnswersWithCode {X = Fetched} code_of_fetched (λ s answer. FetchesChange (writes_of_history s.tree.history) number answer shown after buffer filled) code old new
+
+-- the number of a session's next change
+abbrev pub IsNoteAnswer : ℤ → SessionView → SessionView → Type 0
+IsNoteAnswer code old new = AnswersWithCode {X = Option ℕ} code_of_change_number (λ s number. IsNumberOfNextChange (writes_of_history s.tree.history) number) code old new

@@ -1,0 +1,165 @@
+// The changes of a session's image, for C to make the same ones on a flash of its own.
+
+ghost use Rattle.std.specs.Prelude.{◌≡◌, ◌<◌, ◌^◌, IfSome, List};
+ghost use Rattle.lfs_model.specs.History.{DeviceCall};
+ghost use Rattle.littlefs_c.specs.Changes.{AreNoted, call_of_change, writes_of_history};
+ghost use Rattle.littlefs_c.specs.Fetches.{FetchesChange, IsFetchAnswer, IsNoteAnswer, IsNumberOfNextChange, IsShownChange, buffer_after_change, code_of_change_number, code_of_fetched};
+ghost use Rattle.littlefs_c.specs.Sessions.{CallsSession};
+
+use crate::buffers::copy_to_buffer_if_bytes_fit;
+use crate::handle::{CLOSED, Handle, put_session, take_session};
+use crate::noted::HeldDevice;
+use crate::notes::{Change, Notes};
+use lfs_fs::Session;
+use std::alloc::Global;
+
+/// A change as C sees it: 1 for a program and 2 for an erase, the block, the offset in it, and how
+/// many bytes are programmed there.
+#[repr(C)]
+#[derive(Drop)]
+pub struct ShownChange {
+    pub kind: u32,
+    pub block: u32,
+    pub offset: u32,
+    pub len: usize,
+}
+
+/// What a fetch of a change gave.
+pub enum Fetched {
+    Change,
+    NoneYet,
+    NotKept,
+}
+
+// Minus the number of what is answered where a change isn't kept.
+const NOT_KEPT: i64 = -202;
+
+fn return_code_of_fetched(fetched: Fetched) -> i64
+    ensures { result ≡ code_of_fetched fetched }
+{
+    match fetched {
+        Fetched::Change => 1,
+        Fetched::NoneYet => 0,
+        Fetched::NotKept => NOT_KEPT,
+    }
+}
+
+fn return_code_of_change_number(number: Option<u64>) -> i64
+    requires { IfSome number (λ n. n < 2 ^ 63) }
+    ensures { result ≡ code_of_change_number number }
+{
+    match number {
+        Some(number) => number as i64,
+        None => NOT_KEPT,
+    }
+}
+
+// Shows a change, and puts its bytes into a buffer, if all of them fit.
+fn show_change(change: &Change, shown: &mut ShownChange, buffer: &mut [u8])
+    ensures shown { IsShownChange (call_of_change change.now) shown.new }
+    ensures buffer { buffer.new ≡ buffer_after_change (call_of_change change.now) buffer.old }
+{
+    match change {
+        Change::Program(block, offset, bytes) => {
+            *shown = ShownChange {
+                kind: 1,
+                block: *block,
+                offset: *offset,
+                len: bytes.len(),
+            };
+            let _ = copy_to_buffer_if_bytes_fit(bytes, buffer);
+        }
+        Change::Erase(block) => {
+            *shown = ShownChange {
+                kind: 2,
+                block: *block,
+                offset: 0,
+                len: 0,
+            };
+        }
+    }
+}
+
+// Fetches the change of that number. Those before it aren't wanted any more.
+fn fetch_change(notes: &Notes, number: u64, shown: &mut ShownChange, buffer: &mut [u8]) -> Fetched
+    ensures { (calls : List DeviceCall) → AreNoted notes.now.first notes.now.changes.items calls → FetchesChange calls number result shown.old shown.new buffer.old buffer.new }
+{
+    notes.want(number);
+    if notes.is_to_come(number) {
+        return Fetched::NoneYet;
+    }
+    match notes.change(number) {
+        Some(change) => {
+            show_change(change, shown, buffer);
+            Fetched::Change
+        }
+        None => Fetched::NotKept,
+    }
+}
+
+// Fetches the change of a session's image that has that number.
+fn fetch_session_change(
+    session: &Session<HeldDevice>,
+    number: u64,
+    shown: &mut ShownChange,
+    buffer: &mut [u8],
+) -> Fetched
+    ensures { FetchesChange (writes_of_history session.now.tree.history) number result shown.old shown.new buffer.old buffer.new }
+{
+    fetch_change(session.device().inner().notes(), number, shown, buffer)
+}
+
+// Keeps the changes of a session's image from the next one on. Returns its number.
+fn next_change_number(session: &Session<HeldDevice>) -> Option<u64>
+    ensures number { IsNumberOfNextChange (writes_of_history session.now.tree.history) result }
+    ensures small { IfSome result (λ n. n < 2 ^ 63) }
+{
+    session.device().inner().notes().begin()
+}
+
+/// Keeps the changes of the image from the next one on, where none are kept yet, and returns the
+/// number of the next one. Changes are numbered from 0 on since the session began, in the order in
+/// which they are made.
+///
+/// # Errors
+///
+/// 77 where there is no session. 202 where there are no numbers any more, after 2 to the 62nd
+/// changes.
+#[unsafe(no_mangle)]
+pub extern "C" fn lfs_c_note_changes(alloc: Global, session: &mut Handle) -> i64
+    ensures { CallsSession (IsNoteAnswer result) result session.old.slot.session session.new.slot.session }
+{
+    let Some(inner) = take_session(alloc, session) else {
+        return CLOSED;
+    };
+    let answer = next_change_number(&inner);
+    put_session(session, inner);
+    return_code_of_change_number(answer)
+}
+
+/// Shows the change of that number, puts its bytes into the buffer, if all of them fit, and returns
+/// 1; or 0 where there is no change of that number yet. Changes before that number aren't wanted
+/// any more, and may be let go.
+///
+/// # Errors
+///
+/// 77 where there is no session. 202 where the change isn't kept: none were kept then, a later one
+/// was wanted, or memory wasn't granted for it or for a later one. What was given is as it was
+/// then.
+#[unsafe(no_mangle)]
+pub extern "C" fn lfs_c_fetch_change(
+    alloc: Global,
+    session: &mut Handle,
+    number: u64,
+    change: &mut ShownChange,
+    buffer: &mut [u8],
+) -> i64
+    ensures { CallsSession (IsFetchAnswer number change.old change.new buffer.old buffer.new result) result session.old.slot.session session.new.slot.session }
+{
+    let Some(inner) = take_session(alloc, session) else {
+        return CLOSED;
+    };
+    let answer = fetch_session_change(&inner, number, change, buffer);
+    put_session(session, inner);
+    return_code_of_fetched(answer)
+}

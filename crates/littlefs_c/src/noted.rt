@@ -1,0 +1,95 @@
+// A device that notes its programs and erases, and the device of a session that C holds.
+
+ghost use Rattle.std.specs.Prelude.{◌≡◌, []};
+ghost use Rattle.lfs_device.specs.RamDevice.{history_of_ram_device};
+ghost use Rattle.lfs_device.specs.declared.geometry.Geometry.{Geometry};
+ghost use Rattle.littlefs_c.specs.Changes.{AreNoted, writes_of_history};
+
+use crate::notes::Notes;
+use lfs_device::{BlockDevice, Error, Geometry, Profile, Profiled, RamDevice};
+use std::alloc::Global;
+
+/// A device that notes its programs and erases, in order. Its blocks and calls are those of the
+/// device below.
+#[derive(Drop)]
+pub struct Noted<D: BlockDevice> {
+    inner: D,
+    notes: Notes,
+    ghost noted: { AreNoted notes.first notes.changes.items (writes_of_history (D.history inner)) },
+}
+
+impl<D: BlockDevice> Noted<D> {
+    /// Notes what is written to a device from its first call on.
+    pub fn new(alloc: Global, inner: D) -> Noted<D>
+        requires { D.history inner ≡ [] }
+        ensures { result.inner ≡ inner }
+    {
+        Noted {
+            inner,
+            notes: Notes::new(alloc),
+        }
+    }
+
+    /// Borrows the device below.
+    pub fn inner(&self) -> &D
+        ensures { result.now ≡ self.now.inner }
+    {
+        &self.inner
+    }
+
+    /// Borrows the notes.
+    pub fn notes(&self) -> &Notes
+        ensures { AreNoted result.now.first result.now.changes.items (writes_of_history (D.history self.now.inner)) }
+    {
+        &self.notes
+    }
+}
+
+impl<D: BlockDevice> BlockDevice for Noted<D> {
+    ghost geometry = { λ d. D.geometry d.inner };
+
+    ghost blocks = { λ d. D.blocks d.inner };
+
+    ghost history = { λ d. D.history d.inner };
+
+    ghost shape = { λ d. D.shape d.inner };
+
+    ghost bytes = { λ d. D.bytes d.inner };
+
+    ghost newest = { λ d. D.newest d.inner };
+
+    ghost conforms = { λ d. D.conforms d.inner };
+
+    fn geometry(&self) -> Geometry {
+        self.inner.geometry()
+    }
+
+    fn read(&mut self, block: u32, off: u32, buf: &mut [u8]) -> Result<(), Error> {
+        let outcome = self.inner.read(block, off, buf);
+        outcome
+    }
+
+    fn prog(&mut self, block: u32, off: u32, bytes: &[u8]) -> Result<(), Error> {
+        let outcome = self.inner.prog(block, off, bytes);
+        self.notes.note_program(block, off, bytes);
+        outcome
+    }
+
+    fn erase(&mut self, block: u32) -> Result<(), Error> {
+        let outcome = self.inner.erase(block);
+        self.notes.note_erase(block);
+        outcome
+    }
+}
+
+/// The device of a session that C holds: one in memory, with notes of its changes and a profile.
+pub type HeldDevice = Profiled<Noted<RamDevice>>;
+
+// Makes such a device of one in memory that has had no call.
+pub(crate) fn held_device(alloc: Global, ram: RamDevice, profile: Profile) -> HeldDevice
+    requires { history_of_ram_device ram ≡ [] }
+    ensures ram { result.inner.inner ≡ ram }
+    ensures profile { result.profile ≡ profile }
+{
+    Profiled::new(Noted::new(alloc, ram), profile)
+}

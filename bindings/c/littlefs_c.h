@@ -11,6 +11,8 @@
  *     lfs_c_image(&fs, image, image_len);                 // the image as it is now
  *     lfs_c_unmount(&fs);                                 // frees
  *
+ * A session writes to memory. C can fetch each change of the image, and make it on a flash of its own: see "a flash of C's own" below.
+ *
  * Or one call takes a whole image as bytes that the caller owns, performs one operation on it, and keeps nothing: the last part
  * below. It copies and mounts the image each time.
  *
@@ -59,6 +61,7 @@ extern "C" {
 #define LFS_C_CORRUPT 84       /* the bytes hold no image that is accepted; one of version 2.1 is with LFS_C_ALSO_2_1 */
 #define LFS_C_FAILED 200       /* the session had no memory in an earlier call; lfs_c_remount mends it */
 #define LFS_C_ENTRY_FULL 201   /* a name and its attributes would take more than a half of their metadata pair */
+#define LFS_C_NOT_KEPT 202     /* the change isn't kept */
 
 /* What lfs_c_stat answers for a directory. */
 #define LFS_C_DIRECTORY INT64_C(4294967296)
@@ -103,6 +106,10 @@ typedef struct lfs_c_config {
  * CORRUPT; NO_MEMORY. */
 int64_t lfs_c_mount(lfs_c_session *session, const lfs_c_config *config, const uint8_t *image, size_t image_len);
 
+/* Begins a session as lfs_c_mount does, with the limits of the image in place of the configuration's. So an image that was made
+ * with lower limits may be changed, and stays within them. Refused as lfs_c_mount. */
+int64_t lfs_c_mount_with_limits(lfs_c_session *session, const lfs_c_config *config, const uint8_t *image, size_t image_len);
+
 /* Makes an empty file system of so many blocks, begins a session over it, and answers 0. All bytes but those of the first two
  * blocks are 255. Refused: BUSY where there is a session; INVALID for a number out of range; NO_MEMORY. */
 int64_t lfs_c_mkfs(lfs_c_session *session, const lfs_c_config *config, uint32_t block_count);
@@ -111,7 +118,8 @@ int64_t lfs_c_mkfs(lfs_c_session *session, const lfs_c_config *config, uint32_t 
 int64_t lfs_c_unmount(lfs_c_session *session);
 
 /* Each call below is refused by NO_SESSION where there is none. Where memory isn't granted it answers NO_MEMORY, and the session
- * has failed: it answers FAILED to all but lfs_c_remount, lfs_c_image, lfs_c_image_part and lfs_c_unmount. */
+ * has failed: it answers FAILED to all but lfs_c_remount, lfs_c_image, lfs_c_image_part, lfs_c_note_changes, lfs_c_fetch_change and
+ * lfs_c_unmount. */
 
 /* Closes all files, reads the image anew, and answers 0. What an open file hasn't synced is lost. */
 int64_t lfs_c_remount(lfs_c_session *session);
@@ -191,6 +199,12 @@ int64_t lfs_c_file_write(lfs_c_session *session, uint32_t file, const uint8_t *b
 /* Sets the position of a file, and answers 0. It may be after the end. Refused: BAD_FILE; INVALID above file_max. */
 int64_t lfs_c_file_seek(lfs_c_session *session, uint32_t file, uint32_t position);
 
+/* Answers the position of a file. Refused: BAD_FILE. */
+int64_t lfs_c_file_tell(lfs_c_session *session, uint32_t file);
+
+/* Answers the size of a file in bytes; of a file that is being written, with what isn't synced. Refused: BAD_FILE. */
+int64_t lfs_c_file_size(lfs_c_session *session, uint32_t file);
+
 /* Gives a file so many bytes, and answers 0: it is cut, or zeros fill it up. The position stays.
  * Refused: BAD_FILE, TOO_BIG, NO_SPACE. */
 int64_t lfs_c_file_truncate(lfs_c_session *session, uint32_t file, uint32_t size);
@@ -200,6 +214,44 @@ int64_t lfs_c_file_sync(lfs_c_session *session, uint32_t file);
 
 /* Commits what was written to a file, closes it, and answers 0. Its number is free then. Refused: BAD_FILE. */
 int64_t lfs_c_file_close(lfs_c_session *session, uint32_t file);
+
+/* ---- a flash of C's own. A session changes its image by programs and erases, as on flash. C fetches them and makes them on its flash:
+ *
+ *     int64_t next = lfs_c_note_changes(&fs);            // after the mount of what the flash has
+ *     lfs_c_mkdir_at(&fs, path, path_len);
+ *     lfs_c_change change;
+ *     static uint8_t bytes[4096];                        // a block's size is enough
+ *     while (lfs_c_fetch_change(&fs, next, &change, bytes, sizeof bytes) == 1) {
+ *         if (change.kind == LFS_C_ERASE) my_erase(change.block);
+ *         else my_program(change.block, change.offset, bytes, change.len);
+ *         next++;
+ *     }
+ *
+ * The changes are fetched complete and in order, each by its number. So the flash has at each moment what the image had after some
+ * of its changes, with the next one done in part. Where power is lost then, the flash has the tree from before the call or the one
+ * from after it. C owes three things: it makes the changes in order and each one whole, it makes those of a call before it relies
+ * on that call, and an erase of its flash leaves bytes of 255. docs/USING.md has more. */
+
+#define LFS_C_PROGRAM 1
+#define LFS_C_ERASE 2
+
+/* A change of a block: bytes that were programmed from an offset on, in whole pages; or an erase, with 0 for offset and len. */
+typedef struct lfs_c_change {
+    uint32_t kind; /* LFS_C_PROGRAM or LFS_C_ERASE */
+    uint32_t block;
+    uint32_t offset;
+    size_t len;
+} lfs_c_change;
+
+/* Keeps the changes of the image from now on, where none are kept yet, and answers the number of the next one. Changes are numbered
+ * from 0 on since the session began. They take memory until they are fetched. Refused: NOT_KEPT after 2 to the 62nd changes. */
+int64_t lfs_c_note_changes(lfs_c_session *session);
+
+/* Answers 1, shows the change of that number, and writes the bytes of a program to the buffer if they fit; or answers 0 where there
+ * is no change of that number yet. The changes before it may be let go.
+ * Refused: NOT_KEPT where none were kept then, a later one was fetched, or memory wasn't granted for it or a later one. The flash
+ * then wants the whole image, and lfs_c_note_changes says how to go on. */
+int64_t lfs_c_fetch_change(lfs_c_session *session, uint64_t number, lfs_c_change *change, uint8_t *buffer, size_t buffer_len);
 
 /* ---- one call on an image. Version 2.0 alone is accepted, with the limits of LFS_C_CONFIG. An image is changed only where the
  * answer isn't negative. BAD_FILE, BUSY, NO_SESSION and FAILED never come */

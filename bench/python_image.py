@@ -34,7 +34,7 @@ sys.path.insert(0, os.path.join(top, "bindings", "python"))
 from littlefs_c import ERRORS, Image, superblock
 
 WORDS = [None, 5, -1, 2**70, 1.5, "text", "/f", "/d", b"/f", b"\xff", bytearray(b"/f"), [], {}, object(), Path("/f"), array.array("I", [1, 2]), memoryview(b"abcd")[::2], True, "/" + "n" * 300, "\udcff"]
-METHODS = {"part": 2, "items": 1, "scandir": 1, "listdir": 1, "walk": 1, "mkdir": 1, "makedirs": 2, "stat": 1, "exists": 1, "is_dir": 1, "is_file": 1, "remove": 1, "rename": 2, "getattr": 2,
+METHODS = {"part": 2, "part_into": 2, "items": 1, "scandir": 1, "listdir": 1, "walk": 1, "mkdir": 1, "makedirs": 2, "stat": 1, "exists": 1, "is_dir": 1, "is_file": 1, "remove": 1, "rename": 2, "getattr": 2,
            "setattr": 3, "removeattr": 2, "attributes": 1, "open": 3, "read": 3, "write": 2, "write_at": 4, "truncate": 2}
 WITHOUT_WORDS = ["check", "remount", "recover", "used", "changed_blocks", "__bytes__", "__enter__"]
 FILE_METHODS = {"read": 1, "readinto": 1, "write": 1, "seek": 2, "truncate": 1, "readline": 1, "writelines": 1, "readall": 0, "sync": 0, "tell": 0, "readable": 0, "fileno": 0}
@@ -172,7 +172,7 @@ def behind_the_end():
     for name in WITHOUT_WORDS:
         raises(ValueError, getattr(image, name))
     for name, takes in METHODS.items():
-        words = ["/f", 0, b"", 0][:takes] if name not in ("rename", "setattr", "write", "open", "part") else {"rename": ["/f", "/g"], "setattr": ["/f", 0, b""], "write": ["/f", b""], "open": ["/f", "r"], "part": [0, 5]}[name]
+        words = ["/f", 0, b"", 0][:takes] if name not in ("rename", "setattr", "write", "open", "part", "part_into") else {"rename": ["/f", "/g"], "setattr": ["/f", 0, b""], "write": ["/f", b""], "open": ["/f", "r"], "part": [0, 5], "part_into": [0, bytearray(5)]}[name]
         raises(ValueError, lambda: list(getattr(image, name)(*words)))
     for file in (raw, buffered, text):
         for name in ("read", "tell", "readline"):

@@ -25,7 +25,7 @@ class ImageFile:
         self._next, self._last = f"{self.path}.next", f"{self.path}.last"
         self._here, self._spare = self._open(is_written), None
         self._behind, self._is_lost, self._is_durable = set(), False, True  # of the spare; of the last save
-        self._shown, self._tail = None, b""
+        self._shown, self._room, self._tail = None, None, b""  # the last save's pieces, and room for new ones
 
     def _open(self, is_written: bool) -> int:
         while True:
@@ -48,7 +48,8 @@ class ImageFile:
     def begin(self, image) -> None:
         """Says which image the file has. What is behind it in the file stays as it is."""
         image.changed_blocks()
-        self._shown = None if image.changed_blocks() is not None else _pieces(image)
+        if image.changed_blocks() is None:
+            self._shown, self._room = _pieces(image), _pieces(image)
         with open(self.path, "rb") as file:
             file.seek(image.block_count * image.block_size)
             self._tail = file.read()
@@ -82,8 +83,9 @@ class ImageFile:
             return changed
         if self._shown is None:
             return set(range(image.block_count))
-        was, self._shown = self._shown, _pieces(image)
-        return {block for piece, (new, old) in enumerate(zip(self._shown, was)) if new != old for block in _differing(new, old, piece, image.block_size)}
+        _fill(image, self._room)
+        self._shown, self._room = self._room, self._shown
+        return {block for piece, (new, old) in enumerate(zip(self._shown, self._room)) if new != old for block in _differing(new, old, piece, image.block_size)}
 
     def _write(self, image, changed: set[int]) -> None:
         if self._spare is not None:
@@ -159,12 +161,20 @@ def _step(block_size: int) -> int:
     return max(PIECE // block_size, 1) * block_size
 
 
-def _pieces(image) -> list[bytes]:
-    step = _step(image.block_size)
-    return [image.part(at, step) for at in range(0, image.block_count * image.block_size, step)]
+def _pieces(image) -> list[bytearray]:
+    """The bytes of an image, in pieces."""
+    size, step = image.block_count * image.block_size, _step(image.block_size)
+    pieces = [bytearray(min(step, size - at)) for at in range(0, size, step)]
+    _fill(image, pieces)
+    return pieces
 
 
-def _differing(new: bytes, old: bytes, piece: int, size: int) -> list[int]:
+def _fill(image, pieces: list[bytearray]) -> None:
+    for number, piece in enumerate(pieces):
+        image.part_into(number * _step(image.block_size), piece)
+
+
+def _differing(new: bytearray, old: bytearray, piece: int, size: int) -> list[int]:
     """The blocks in which a piece differs."""
     first = piece * _step(size) // size
     return [first + at // size for at in range(0, len(new), size) if new[at : at + size] != old[at : at + size]]

@@ -173,10 +173,12 @@ class Image:
 
     def part(self, offset: int, count: int) -> bytes:
         """At most `count` bytes of the image from an offset on."""
-        offset = in_range(offset, 64, "offset")
-        buffer = bytearray(min(in_range(count, 64, "count"), max(self._size - offset, 0)))
-        answer = self._call("image_part", [], offset, *writable(buffer))
-        return bytes(memoryview(buffer)[:answer])
+        buffer = bytearray(min(in_range(count, 64, "count"), max(self._size - in_range(offset, 64, "offset"), 0)))
+        return bytes(memoryview(buffer)[: self.part_into(offset, buffer)])
+
+    def part_into(self, offset: int, buffer: Any) -> int:
+        """Writes the bytes of the image from an offset on to a buffer, and answers how many they are."""
+        return self._call("image_part", [], in_range(offset, 64, "offset"), *writable(buffer))
 
     def changed_blocks(self) -> Optional[set[int]]:
         """The blocks that were changed since the last such call, or None where that isn't known: at the first one, where memory was

@@ -14,6 +14,7 @@ from image_reader import CREATE, DELETE, FILE, FOLDER, INLINE, LIST, NONE, PAIR_
 
 LARGEST_IMAGE = 268435456
 FIRST_ENTRIES = bytes.fromhex("f00ffff7") + b"littlefs" + bytes.fromhex("2fe00010")
+LIMITS = "name_max", "file_max", "attr_max"
 STRUCTS = {FILE: (INLINE, LIST), FOLDER: (PAIR_STRUCT,)}
 
 # For each rule of the reader the kinds of lines for it. Where the reader stops at a rule, a line of one of its kinds is true.
@@ -86,7 +87,7 @@ def is_small(read, pair, block_size, page, profile):
 
 def other_limit(slot, profile):
     """The first limit of a superblock that isn't the profile's."""
-    limits = zip(("name_max", "file_max", "attr_max"), image_reader.words(slot.struct[1])[3:], profile.limits())
+    limits = zip(LIMITS, image_reader.words(slot.struct[1])[3:], profile.limits())
     return next(f"{name} {number}" for name, number, own in limits if number != own)
 
 
@@ -119,6 +120,14 @@ def used_blocks(read):
     return len(used)
 
 
+def superblock_lines(read, profile):
+    """What the root directory's superblock says of version and limits, where that isn't the default. By the default profile nothing is told."""
+    version, _, _, *limits = image_reader.words(read.pairs[read.root].slots[0].struct[1])
+    told = [f"version {version >> 16}.{version & 0xffff}"] * (version != profiles.TWO_ZERO)
+    told += [f"{name} {number}" for name, number, own in zip(LIMITS, limits, profiles.DEFAULT.limits()) if number != own]
+    return "".join(line + "\n" for line in told if profile != profiles.DEFAULT)
+
+
 def summary(read, listing, block_size, page, profile):
     kinds = collections.Counter(line[:1] for line in listing.splitlines())
     used, count = used_blocks(read), len(read.blocks)
@@ -128,7 +137,7 @@ def summary(read, listing, block_size, page, profile):
     cause = next(beyond_profile(read, block_size, page, profile), None)
     writable = "no: " + cause if cause else "yes"
     return (f"ok\nfiles {kinds[b'f']}\ndirectories {kinds[b'd']}\nused {used} of {count} blocks\nfree {count - used}\n"
-            f"order {order}\nrecover {recover}\nwritable {writable}\n")
+            f"order {order}\n{superblock_lines(read, profile)}recover {recover}\nwritable {writable}\n")
 
 
 # The lines that are true of any other one

@@ -122,9 +122,11 @@ def limit_rows(tool, folder):
     made = run(tool, ["-c", "named", "--board", "esp8266", "--attr-max", "64", "n.img"], "", folder)
     yield "limits in the image", (made, limits_in(folder + "/n.img")), ((0, "", ""), (32, 2147483647, 64))
     other = "writable no: pair 0 1, slot 0: a superblock with other limits than this library writes, name_max 32"
-    for words, line in ([], other), (["--name-max", "32", "--attr-max", "64"], "writable yes"):
+    limits = ["name_max 32", "attr_max 64"]
+    of_options = ([], [], other), (["--name-max", "32", "--attr-max", "64"], limits, "writable yes"), (["--also-2.1"], limits, other)
+    for words, told, line in of_options:
         shown = run(tool, ["--check", "-b", "8192", *words, "n.img"], "", folder)
-        yield " ".join(["a check", *words]), (shown[0], shown[1].splitlines()[-1]), (0, line)
+        yield " ".join(["a check", *words]), (shown[0], shown[1].splitlines()[6:]), (0, [*told, "recover no", line])
 
 
 def limits_in(image):

@@ -15,6 +15,7 @@ use Rattle.lfs_tool.specs.declared.verdict.AcceptedOrders.TheVariants as orders
 use Rattle.lfs_tool.specs.declared.check_result.RefusalReason.{RefusalReason}
 use Rattle.lfs_tool.specs.declared.check_result.RefusalReason.TheVariants as reason
 use Rattle.lfs_tool.specs.declared.verdict.ImageSummary.{ImageSummary}
+use Rattle.lfs_tool.specs.SuperblockLines.{superblock_lines_if_told_of}
 use Rattle.lfs_tool.specs.declared.verdict.WritingProfile.{WritingProfile}
 use Rattle.lfs_tool.specs.declared.verdict.WritingProfile.TheVariants as profile
 use Rattle.lfs_tool.specs.declared.verdict.OtherLimit.{OtherLimit}
@@ -76,10 +77,13 @@ writable_line writable = (codes "writable " ++ writing_profile_text writable) ++
 abbrev pub used_and_free_blocks_text : ImageSummary → List ℕ
 used_and_free_blocks_text s = used_blocks_line s.used s.blocks ++ labelled_number_line (codes "free ") (s.blocks - s.used)
 
+abbrev pub order_and_superblock_text : ImageSummary → AcceptedOrders → List ℕ
+order_and_superblock_text s orders = accepted_name_orders_line orders ++ superblock_lines_if_told_of s.superblock
+
 abbrev pub summary_text : ImageSummary → AcceptedOrders → List ℕ
 summary_text s orders =
     (codes "ok" ++ newline) ++ labelled_number_line (codes "files ") s.files ++ labelled_number_line (codes "directories ") s.directories
-    ++ used_and_free_blocks_text s ++ accepted_name_orders_line orders ++ needs_recovery_line s.recover ++ writable_line s.writable
+    ++ used_and_free_blocks_text s ++ order_and_superblock_text s orders ++ needs_recovery_line s.recover ++ writable_line s.writable
 
 -- ---- why one isn't accepted
 

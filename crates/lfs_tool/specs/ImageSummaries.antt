@@ -1,15 +1,19 @@
 -- What an accepted image has.
-use Rattle.std.specs.Prelude.{◌≡◌, ◌+◌, ◌==◌, ◌||◌, not, Bool, true, false, List, length, count_by}
+use Rattle.std.specs.Prelude.{◌≡◌, ◌≢◌, ◌+◌, ◌==◌, ◌||◌, not, Bool, true, false, List, Option, None, length, count_by, option_map}
 use Rattle.lfs_device.specs.Shown.{disk_with_name_order}
-use Rattle.lfs_model.specs.Disk.{Disk, block_count}
+use Rattle.lfs_model.specs.Disk.{Disk, block_count, default_profile}
 use Rattle.lfs_model.specs.Listing.{PathAndNode, IsWalkOfTree}
+use Rattle.lfs_model.specs.Profile.{superblock_of_image}
 use Rattle.lfs_model.specs.Shown.{tree_on_disk, used_blocks}
 use Rattle.lfs_model.specs.Slots.{Gstate, Struct, Inline, Ctz, Branch, gstate_kind_of_no_move}
 use Rattle.lfs_model.specs.Thread.{Pair, gstate_of_pairs}
 use Rattle.lfs_model.specs.Tree.{Node, FileNode, DirectoryNode}
 use Rattle.lfs_model.specs.View.{IsAcceptedImage}
+use Rattle.lfs_model.specs.declared.limits.Profile.{Profile}
 use Rattle.lfs_model.specs.declared.order.NameOrder.{NameOrder}
 use Rattle.lfs_model.specs.declared.order.NameOrder.TheVariants as order
+use Rattle.lfs_tag.specs.FieldsView.{superblock_view}
+use Rattle.lfs_tag.specs.declared.fields.Superblock.{Superblock}
 use Rattle.lfs_lookup.specs.Items.{owned_struct_view}
 use Rattle.lfs_lookup.specs.declared.walks.TreeItem.{TreeItem}
 use Rattle.lfs_tool.specs.WritingProfiles.{IsWritingProfileOfImage}
@@ -40,6 +44,10 @@ is_file_item i = is_file_struct (owned_struct_view i.structure)
 abbrev pub has_half_done_operation : Gstate → Bool
 has_half_done_operation g = g.sync || not (g.kind == gstate_kind_of_no_move)
 
+-- by the default profile nothing is told of the superblock, and by any other one that with which the root directory begins
+abbrev pub IsSuperblockToldOf : Profile → List Pair → Option Superblock → Type 0
+IsSuperblockToldOf profile ps told = (profile ≡ default_profile → told ≡ None) × (profile ≢ default_profile → option_map superblock_view told ≡ superblock_of_image ps)
+
 -- what the image of these pairs has: all entries beneath its root are files or directories
 pub record HasImageSummary (disk : Disk) (ps : List Pair) (c : ImageSummary) : Type 0 where
   pub entries : List PathAndNode
@@ -49,6 +57,7 @@ pub record HasImageSummary (disk : Disk) (ps : List Pair) (c : ImageSummary) : T
   pub used : c.used ≡ length (used_blocks disk ps)
   pub blocks : c.blocks ≡ block_count disk
   pub recover : c.recover ≡ has_half_done_operation (gstate_of_pairs ps)
+  pub superblock : IsSuperblockToldOf disk.profile ps c.superblock
   pub writable : IsWritingProfileOfImage disk ps c.writable
 
 -- ---- orders of names

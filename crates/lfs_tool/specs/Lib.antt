@@ -54,6 +54,7 @@ pub mod AppliedOperations
 pub mod MadeImages
 pub mod CheckResults
 pub mod CheckedLines
+pub mod SuperblockLines
 pub mod ProgressLines
 pub mod AmountsTold
 pub mod ProgressSteps

@@ -5,11 +5,12 @@ ghost use Rattle.lfs_model.specs.Listing.{newline};
 ghost use Rattle.lfs_model.specs.Slots.{pair_address_of_array};
 ghost use Rattle.std.specs.Fmt.{decimal};
 ghost use Rattle.lfs_tool.specs.declared.verdict.WritingProfile.TheVariants.{EmptyPair, LongInline, OtherLimits};
-ghost use Rattle.lfs_tool.specs.CheckedLines.{block_numbers_of_pair_text, inline_limit_text, other_limit_text, used_and_free_blocks_text, labelled_number_line, finding_text, no_image_text, accepted_name_orders_line, pair_text, named_slot_text, block_out_of_range_text, unaccepted_reason_text, needs_recovery_line, slot_text, wrong_superblock_number_text, summary_text, block_in_pair_and_file_text, block_in_two_files_text, block_in_two_pairs_text, name_behind_name_text, names_in_two_orders_text, no_directory_text, same_directory_text, other_superblock_text, quoted_name_text, used_blocks_line, check_result_text, writable_line, writing_profile_text};
+ghost use Rattle.lfs_tool.specs.CheckedLines.{block_numbers_of_pair_text, inline_limit_text, other_limit_text, used_and_free_blocks_text, labelled_number_line, finding_text, no_image_text, accepted_name_orders_line, order_and_superblock_text, pair_text, named_slot_text, block_out_of_range_text, unaccepted_reason_text, needs_recovery_line, slot_text, wrong_superblock_number_text, summary_text, block_in_pair_and_file_text, block_in_two_files_text, block_in_two_pairs_text, name_behind_name_text, names_in_two_orders_text, no_directory_text, same_directory_text, other_superblock_text, quoted_name_text, used_blocks_line, check_result_text, writable_line, writing_profile_text};
 
 use crate::check_result::{CheckResult, GivenSizes, RefusalReason};
 use crate::escape::push_escaped_path;
 use crate::findings::{Finding, NameBehindName, NamedSlot, WrongNumber};
+use crate::superblock_lines::push_superblock_lines_if_told_of;
 use crate::verdict::{AcceptedOrders, ImageSummary, OtherLimit, WritingProfile};
 use std::alloc::{AllocError, Global};
 use std::io::Write;
@@ -91,6 +92,18 @@ fn push_accepted_name_orders_line(
         AcceptedOrders::ShorterFirst => push_line(text, "order shorter-first"),
         AcceptedOrders::Either => push_line(text, "order either"),
     }
+}
+
+fn push_order_and_superblock(
+    text: &mut Vec<u8>,
+    summary: &ImageSummary,
+    orders: AcceptedOrders,
+) -> Result<(), AllocError>
+    ensures { OnOk result (text.new.items ≡ text.old.items ++ order_and_superblock_text summary.now orders) }
+{
+    push_accepted_name_orders_line(text, orders)?;
+    push_superblock_lines_if_told_of(text, summary.superblock)?;
+    Ok(())
 }
 
 fn push_needs_recovery_line(text: &mut Vec<u8>, recover: bool) -> Result<(), AllocError>
@@ -205,7 +218,7 @@ pub(crate) fn push_summary(
     push_number_line(text, "files ", summary.files)?;
     push_number_line(text, "directories ", summary.directories)?;
     push_used_and_free_blocks(text, summary)?;
-    push_accepted_name_orders_line(text, orders)?;
+    push_order_and_superblock(text, summary, orders)?;
     push_needs_recovery_line(text, summary.recover)?;
     push_writable_line(text, summary.writable)?;
     Ok(())
@@ -234,7 +247,7 @@ const NOT_REACHED: &str = ": no path leads to its directory, and the sync bit is
 const BAD_LIST: &str = " has a list with a wrong size, block or pointer";
 
 // Adds two numbers, each with a text before it.
-fn push_two_labelled_numbers(
+pub(crate) fn push_two_labelled_numbers(
     text: &mut Vec<u8>,
     before: &str,
     first: usize,

@@ -30,7 +30,8 @@ fn is_check_result_accepted(checked: &CheckResult) -> bool
 ///
 /// Of an accepted image the lines are `ok`, `files <n>`, `directories <n>`, `used <n> of <m> blocks`,
 /// `free <n>`, `order <order>`, `recover yes` or `recover no`, and `writable yes` or `writable no` with
-/// its reason. Of another one they are `corrupt`, and one that says why.
+/// its reason. By another profile than that of `Profile::new`, `version 2.1` and limits that aren't littlefs's own
+/// stand behind the order. Of another image the lines are `corrupt`, and one that says why.
 ///
 /// # Errors
 /// - `Input` where the reader failed.

@@ -8,7 +8,7 @@ use crate::Line;
 use lfs_device::Profile;
 
 /// The sizes of an image's blocks and pages in bytes, and what of the image is accepted. By the profile's limits it is also
-/// said whether the image may be changed.
+/// said whether the image may be changed. By another profile than that of `Profile::new` a check says its version and limits.
 #[derive(Clone, Copy, Debug, PartialEq, Eq)]
 pub struct ImageLayout {
     pub block_size: u32,

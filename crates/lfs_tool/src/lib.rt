@@ -66,6 +66,7 @@ mod source_entries;
 mod summaries;
 mod superblock_checks;
 mod superblock_limits;
+mod superblock_lines;
 mod superblock_names;
 mod superblocks;
 mod thread_walk;

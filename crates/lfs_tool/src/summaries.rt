@@ -1,7 +1,8 @@
 // What an accepted image in memory has.
 
-ghost use Rattle.std.specs.Prelude.{◌≡◌, ◌≤◌, IfErr, IfOk, count_by, false, length};
+ghost use Rattle.std.specs.Prelude.{◌≡◌, ◌↔◌, ◌≤◌, IfErr, IfOk, IsTrue, count_by, false, length};
 ghost use Rattle.lfs_model.specs.BlockSets.{AreExactlyTheUsedBlocks};
+ghost use Rattle.lfs_model.specs.Disk.{default_profile};
 ghost use Rattle.lfs_model.specs.Shown.{used_blocks};
 ghost use Rattle.lfs_model.specs.Thread.{pair_count_before_root};
 ghost use Rattle.lfs_model.specs.View.{IsAcceptedImage};
@@ -9,14 +10,14 @@ ghost use Rattle.lfs_tag.specs.FieldsView.{move_view};
 ghost use Rattle.lfs_thread.specs.Steps.{IsThreadOnlyRead};
 ghost use Rattle.lfs_lookup.specs.Items.{owned_struct_view};
 ghost use Rattle.lfs_lookup.specs.Walk.{ArePathsAndStructsOfWalk, tree_items_view};
-ghost use Rattle.lfs_tool.specs.ImageSummaries.{HasImageSummary, is_file_item, is_file_struct, has_half_done_operation};
+ghost use Rattle.lfs_tool.specs.ImageSummaries.{HasImageSummary, IsSuperblockToldOf, is_file_item, is_file_struct, has_half_done_operation};
 ghost use Rattle.lfs_tool.specs.WritingProfiles.{IsWritingProfileOfImage};
 
 use crate::verdict::{ImageSummary, WritingProfile};
 use crate::writing_profiles::writing_profile_of_thread;
-use lfs_device::{Error, Ordered, RamDevice};
-use lfs_lookup::{OwnedStruct, TreeItem, find_root, walk_tree};
-use lfs_tag::MoveState;
+use lfs_device::{Error, Ordered, Profile, RamDevice};
+use lfs_lookup::{OwnedStruct, TreeItem, find_root, superblock, walk_tree};
+use lfs_tag::{MoveState, Superblock};
 use lfs_thread::Thread;
 use std::alloc::Global;
 
@@ -116,6 +117,39 @@ fn writing_profile_of_image(
     }
 }
 
+fn is_default_profile(profile: &Profile) -> bool
+    ensures { IsTrue result ↔ (profile.now ≡ default_profile) }
+{
+    *profile == Profile::new()
+}
+
+// Returns the superblock of the image, where the profile isn't the default one.
+fn superblock_to_tell_of(
+    alloc: Global,
+    thread: &mut Thread<Ordered<RamDevice>>,
+    root: usize,
+) -> Result<Option<Superblock>, Error>
+    requires works { thread.old.failed ≡ false }
+    requires accepted { IsAcceptedImage thread.old.kept.disk thread.old.kept.pairs }
+    requires root { root ≡ pair_count_before_root thread.old.kept.pairs }
+    ensures told { IfOk result (IsSuperblockToldOf thread.old.kept.disk.profile thread.old.kept.pairs) }
+    ensures only { (IsThreadOnlyRead thread.old.kept thread.new.kept) × (thread.new.failed ≡ false) }
+    ensures err { IfErr result (λ e. e ≡ Error.NoMemory) }
+{
+    let geometry = thread.geometry();
+    if is_default_profile(&geometry.profile) {
+        return Ok(None);
+    }
+    match superblock(alloc, thread, root) {
+        Ok(superblock) => Ok(Some(superblock)),
+        Err(error) => {
+            // The device had no fault, so memory ran out.
+            let _device = thread.device();
+            Err(error)
+        }
+    }
+}
+
 // Returns what the image has.
 pub(crate) fn image_summary_of_thread(
     alloc: Global,
@@ -130,6 +164,7 @@ pub(crate) fn image_summary_of_thread(
 {
     let items = tree_items_of_thread(alloc, thread)?;
     let root = root_index_of_thread(alloc, thread)?;
+    let superblock = superblock_to_tell_of(alloc, thread, root)?;
     let writable = writing_profile_of_image(alloc, thread, root)?;
     let files = count_files(&items);
     let state = thread.state();
@@ -139,6 +174,7 @@ pub(crate) fn image_summary_of_thread(
         used: thread.used_count(),
         blocks: thread.geometry().block_count,
         recover: has_unfinished_operation(&state),
+        superblock,
         writable,
     })
 }

@@ -1,6 +1,7 @@
 // The verdict on an image.
 
 use crate::findings::Finding;
+use lfs_tag::Superblock;
 
 /// The orders of names in which an image is accepted.
 #[derive(Clone, Copy, Debug, PartialEq, Eq, Drop)]
@@ -61,6 +62,9 @@ pub struct ImageSummary {
     pub blocks: u32,
     /// Whether a loss of power left something to recover.
     pub recover: bool,
+    /// The superblock with which the root directory begins, where the profile is another one than that of
+    /// `Profile::new`. A check tells of its version and its limits then.
+    pub superblock: Option<Superblock>,
     /// Whether the image may be changed, or why not.
     pub writable: WritingProfile,
 }

@@ -4,7 +4,9 @@ use crate::images::{BELOW, ENTRIES};
 use crate::profile_runs::PROFILE_RUNS;
 use crate::sources::{Items, is_source_read_as_items};
 use lfs_device::Error;
-use lfs_fixtures::{BlockFilling, FixtureEntries, image_with_second_commit};
+use lfs_fixtures::{
+    BlockFilling, FixtureEntries, image_with_first_two_blocks, image_with_second_commit,
+};
 use lfs_tool::{
     EnoughBlocks, Explanation, NeededBlocks, RealPlaces, ToolError, WatchedStream,
     explanation_of_error, read_line, run_and_return_exit_status,
@@ -27,6 +29,8 @@ pub(crate) enum PathBeforeRun {
     Link(&'static str),
     // An image: a second commit of its first block, and its third block.
     Image(FixtureEntries<'static>, BlockFilling<'static>),
+    // An image: its first two blocks.
+    FirstPair([&'static [u8]; 2]),
 }
 
 // What stands at a path behind a run.
@@ -632,6 +636,10 @@ fn make_path_before_run<R: Files + AllocGlobal>(
         PathBeforeRun::Link(original) => symlink(rt, original, path),
         PathBeforeRun::Image(entries, below) => {
             let image = image_with_second_commit(rt.alloc(), entries, &[(2, below)])?;
+            fs::write(rt, path, image.as_slice())
+        }
+        PathBeforeRun::FirstPair([first, second]) => {
+            let image = image_with_first_two_blocks(rt.alloc(), first, second)?;
             fs::write(rt, path, image.as_slice())
         }
     }

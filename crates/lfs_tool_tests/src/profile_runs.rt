@@ -1,13 +1,18 @@
 // Runs of the program with limits, boards and versions.
 
-use crate::checks::LATER_VERSION;
 use crate::files::{LONG, OLD_IMAGE, PathAfterRun, PathBeforeRun, RunsInFolder};
-use crate::images::EMPTY;
+use crate::profiles::{FIRMWARE_FIRST, FIRMWARE_SECOND, FORMATTED_FIRST, FORMATTED_SECOND};
 
-// An image of version 2.1, without a file.
+// An image that firmware has made one of version 2.1.
 const LATER: (&str, PathBeforeRun) = (
     "runs/image",
-    PathBeforeRun::Image(&[(0x2010_0018, LATER_VERSION)], EMPTY),
+    PathBeforeRun::FirstPair([FIRMWARE_FIRST, FIRMWARE_SECOND]),
+);
+
+// One that firmware has formatted in version 2.1.
+const FORMATTED: (&str, PathBeforeRun) = (
+    "runs/image",
+    PathBeforeRun::FirstPair([FORMATTED_FIRST, FORMATTED_SECOND]),
 );
 
 // A file with a longer name than the others.
@@ -15,7 +20,7 @@ const NAMED: (&str, PathBeforeRun) = ("runs/files/name", PathBeforeRun::File("hi
 
 const BOARD_IMAGE: &[(&str, PathAfterRun)] = &[("runs/image", PathAfterRun::Len(65536))];
 
-pub(crate) const PROFILE_RUNS: [RunsInFolder; 15] = [
+pub(crate) const PROFILE_RUNS: [RunsInFolder; 18] = [
     // a board's limits are in its image
     RunsInFolder {
         before: &[],
@@ -36,7 +41,7 @@ pub(crate) const PROFILE_RUNS: [RunsInFolder; 15] = [
             &["--check", "--board", "esp32", "runs/image"],
         ],
         status: 0,
-        out: "ok\nfiles 2\ndirectories 0\nused 2 of 16 blocks\nfree 14\norder either\nrecover no\nwritable yes\n",
+        out: "ok\nfiles 2\ndirectories 0\nused 2 of 16 blocks\nfree 14\norder either\nname_max 64\nrecover no\nwritable yes\n",
         err: "",
         behind: BOARD_IMAGE,
     },
@@ -166,7 +171,7 @@ pub(crate) const PROFILE_RUNS: [RunsInFolder; 15] = [
         before: &[LATER],
         words: &[&["--check", "--also-2.1", "runs/image"]],
         status: 0,
-        out: "ok\nfiles 0\ndirectories 0\nused 2 of 16 blocks\nfree 14\norder either\nrecover no\nwritable yes\n",
+        out: "ok\nfiles 1\ndirectories 0\nused 2 of 16 blocks\nfree 14\norder either\nversion 2.1\nrecover no\nwritable yes\n",
         err: "",
         behind: BOARD_IMAGE,
     },
@@ -175,6 +180,30 @@ pub(crate) const PROFILE_RUNS: [RunsInFolder; 15] = [
         words: &[&["-u", "runs/other", "--board", "rp2040", "runs/image"]],
         status: 0,
         out: "",
+        err: "",
+        behind: BOARD_IMAGE,
+    },
+    RunsInFolder {
+        before: &[FORMATTED],
+        words: &[&["--check", "runs/image"]],
+        status: 1,
+        out: "corrupt\nsuperblock: version 2.1\n",
+        err: "",
+        behind: BOARD_IMAGE,
+    },
+    RunsInFolder {
+        before: &[FORMATTED],
+        words: &[&["-u", "runs/other", "--explain", "runs/image"]],
+        status: 1,
+        out: "",
+        err: "error: Corrupt (84)\ncorrupt\nsuperblock: version 2.1; --also-2.1 reads it\n",
+        behind: BOARD_IMAGE,
+    },
+    RunsInFolder {
+        before: &[FORMATTED],
+        words: &[&["--check", "--board", "micropython", "runs/image"]],
+        status: 0,
+        out: "ok\nfiles 0\ndirectories 0\nused 2 of 16 blocks\nfree 14\norder either\nversion 2.1\nrecover no\nwritable yes\n",
         err: "",
         behind: BOARD_IMAGE,
     },

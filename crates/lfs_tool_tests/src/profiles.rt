@@ -1,7 +1,7 @@
 // Images with other versions and limits, and what is made with other limits.
 
 use crate::checks::{FRESH, LATER_VERSION};
-use crate::images::{HARD_TAIL, PAIR, SHORT_NAMES};
+use crate::images::{FIELDS, HARD_TAIL, PAIR, SHORT_NAMES};
 use crate::sources::{Items, memory_source_of_items};
 use crate::texts::{check_text, list_text, unpack_text, with_error_line};
 use lfs_device::{AcceptedVersions, Error, Geometry, Profile};
@@ -57,10 +57,47 @@ const COMPACTED: BlockFilling<'static> = BlockFilling::Commit(&[
     (0x2010_0018, LATER_VERSION),
 ]);
 
-// The second pair of a superblock's chain, with a superblock of version 2.1, and one with another limit.
+// A superblock of version 2.1 with three other limits.
+const OTHER_NUMBERS: &[u8] = &[
+    1, 0, 2, 0, 0, 16, 0, 0, 16, 0, 0, 0, 64, 0, 0, 0, 0, 1, 0, 0, 100, 0, 0, 0,
+];
+
+// The first two blocks of an image of littlefs 2.11. A file was made in version 2.0, and written twice in version 2.1.
+// Both times the pair was compacted.
+pub(crate) const FIRMWARE_FIRST: &[u8] =
+    b"\x02\0\0\0\xf0\x0f\xff\xf7littlefs\x0f\xe0\x04\x09a \0\0\x1dxxxxxxxxxxxxxxxxxxxxxxxxxxxx\0\0\x04\x04\
+    \x01\0\x02\0\0\x10\0\0\x10\0\0\0\xff\0\0\0\xff\xff\xff\x7f\xfe\x03\0\0\
+    \x7f\xef\xfc\x10\x10\0\0\0\xe59L\xc0\x0f\xf0\0\x07\x13W\xe4\x1b\xff\xff\xff\xff\xff\xff\xff\xff\xff\xff\xff\
+    p\x1f\xf8\x13yyyyyyyyyyyyyyyyyyyyyyyyyyyy\x7f\xef\xf8\x14\x10\0\0\0\xe59L\xc0\x0f\xf0\0\x18\xcb\xd9\xed!";
+
+pub(crate) const FIRMWARE_SECOND: &[u8] =
+    b"\x03\0\0\0\xf0\x0f\xff\xf7littlefs\x0f\xe0\x04\x09a \0\x04\x19\
+    \x01\0\x02\0\0\x10\0\0\x10\0\0\0\xff\0\0\0\xff\xff\xff\x7f\xfe\x03\0\0\0\0\x04\x04\
+    zzzzzzzzzzzzzzzzzzzzzzzzzzzz\x7f\xef\xf8\x14 \0\0\0\xf4T\x93\0\x0f\xf0\0\x17-\xcf\xe9\x16";
+
+// The first two blocks of an image that littlefs 2.11 has formatted in version 2.1.
+pub(crate) const FORMATTED_FIRST: &[u8] =
+    b"\0\0\0\0\xf0\x0f\xff\xf7littlefs/\xe0\0\x10\x01\0\x02\0\0\x10\0\0\x10\0\0\0\xff\0\0\0\xff\xff\xff\x7f\xfe\x03\0\0\
+    \x7f\xef\xfc\x10\0\x01\0\0\xdeWW\x01\x0f\xf0\0\xcc\x89\x1e\xc4\x82";
+
+pub(crate) const FORMATTED_SECOND: &[u8] =
+    b"\x01\0\0\0\xf0\x0f\xff\xf7littlefs/\xe0\0\x10\x01\0\x02\0\0\x10\0\0\x10\0\0\0\xff\0\0\0\xff\xff\xff\x7f\xfe\x03\0\0\
+    \x7f\xef\xfc\x10\0\x01\0\0\xdeWW\x01\x0f\xf0\0\xcc\x06\x90\x17H";
+
+const FIRMWARE_BLOCKS: &[(usize, BlockFilling<'static>)] = &[
+    (0, BlockFilling::Bytes(FIRMWARE_FIRST)),
+    (1, BlockFilling::Bytes(FIRMWARE_SECOND)),
+];
+
+// The second pair of a superblock's chain, with a superblock of version 2.1, one of 2.0, and one with another limit.
 const LATER_ROOT: &[(usize, BlockFilling<'static>)] = &[(
     2,
     BlockFilling::Commit(&[(0x0ff0_0008, b"littlefs"), (0x2010_0018, LATER_VERSION)]),
+)];
+
+const PLAIN_ROOT: &[(usize, BlockFilling<'static>)] = &[(
+    2,
+    BlockFilling::Commit(&[(0x0ff0_0008, b"littlefs"), (0x2010_0018, FIELDS)]),
 )];
 
 const OTHER_ROOT: &[(usize, BlockFilling<'static>)] = &[(
@@ -76,10 +113,19 @@ type Row<'a> = (
     &'a str,
 );
 
-const CHECKED: [Row<'static>; 16] = [
+// The lines of an image of version 2.1 with a file.
+const LATER_FILE: &str =
+    "ok\nfiles 1\ndirectories 0\nused 2 of 16 blocks\nfree 14\norder either\nversion 2.1\nrecover no\nwritable yes\n";
+
+const CHECKED: [Row<'static>; 21] = [
     // versions
     (&[], &[], ALSO, FRESH),
-    (&[(0x2010_0018, LATER_VERSION)], &[], ALSO, FRESH),
+    (
+        &[(0x2010_0018, LATER_VERSION)],
+        &[],
+        ALSO,
+        "ok\nfiles 0\ndirectories 0\nused 2 of 16 blocks\nfree 14\norder either\nversion 2.1\nrecover no\nwritable yes\n",
+    ),
     (
         &[(0x2010_0018, LATER_VERSION)],
         &[],
@@ -96,6 +142,12 @@ const CHECKED: [Row<'static>; 16] = [
     (
         &[(HARD_TAIL, PAIR)],
         LATER_ROOT,
+        ALSO,
+        "ok\nfiles 0\ndirectories 0\nused 4 of 16 blocks\nfree 12\norder either\nversion 2.1\nrecover no\nwritable yes\n",
+    ),
+    (
+        &[(0x2010_0018, LATER_VERSION), (HARD_TAIL, PAIR)],
+        PLAIN_ROOT,
         ALSO,
         "ok\nfiles 0\ndirectories 0\nused 4 of 16 blocks\nfree 12\norder either\nrecover no\nwritable yes\n",
     ),
@@ -118,14 +170,36 @@ const CHECKED: [Row<'static>; 16] = [
         DEFAULT,
         "corrupt\npair 0 1, superblock: version 2.1\n",
     ),
+    (&[], &[(0, COMPACTED)], ALSO, LATER_FILE),
     (
         &[],
-        &[(0, COMPACTED)],
-        ALSO,
-        "ok\nfiles 1\ndirectories 0\nused 2 of 16 blocks\nfree 14\norder either\nrecover no\nwritable yes\n",
+        FIRMWARE_BLOCKS,
+        DEFAULT,
+        "corrupt\npair 0 1, superblock: version 2.1\n",
     ),
+    (&[], FIRMWARE_BLOCKS, ALSO, LATER_FILE),
     // limits
-    (&[(0x2010_0018, SHORT_NAMES)], &[], SHORT, FRESH),
+    (
+        &[(0x2010_0018, SHORT_NAMES)],
+        &[],
+        SHORT,
+        "ok\nfiles 0\ndirectories 0\nused 2 of 16 blocks\nfree 14\norder either\nname_max 32\nrecover no\nwritable yes\n",
+    ),
+    (
+        &[(0x2010_0018, SHORT_FILES)],
+        &[],
+        ALSO,
+        "ok\nfiles 0\ndirectories 0\nused 2 of 16 blocks\nfree 14\norder either\nfile_max 256\nrecover no\n\
+        writable no: pair 0 1, slot 0: a superblock with other limits than this library writes, file_max 256\n",
+    ),
+    (
+        &[(0x2010_0018, OTHER_NUMBERS)],
+        &[],
+        ALSO,
+        "ok\nfiles 0\ndirectories 0\nused 2 of 16 blocks\nfree 14\norder either\n\
+        version 2.1\nname_max 64\nfile_max 256\nattr_max 100\nrecover no\n\
+        writable no: pair 0 1, slot 0: a superblock with other limits than this library writes, name_max 64\n",
+    ),
     (
         &[],
         &[],
@@ -235,7 +309,7 @@ const MADE: [(Items<'static>, Profile, &str); 9] = [
     (
         &[(NAME_32, Some(b""))],
         SHORT,
-        "ok\nfiles 1\ndirectories 0\nused 2 of 16 blocks\nfree 14\norder either\nrecover no\nwritable yes\n",
+        "ok\nfiles 1\ndirectories 0\nused 2 of 16 blocks\nfree 14\norder either\nname_max 32\nrecover no\nwritable yes\n",
     ),
     (&[(NAME_33, Some(b""))], SHORT, NAME_TOO_LONG),
     (&[(NAME_33, None)], SHORT, NAME_TOO_LONG),
@@ -247,7 +321,7 @@ const MADE: [(Items<'static>, Profile, &str); 9] = [
     (
         &[(b"/a", Some(&[7; 1000]))],
         SHORT_FILE,
-        "ok\nfiles 1\ndirectories 0\nused 3 of 16 blocks\nfree 13\norder either\nrecover no\nwritable yes\n",
+        "ok\nfiles 1\ndirectories 0\nused 3 of 16 blocks\nfree 13\norder either\nfile_max 1000\nrecover no\nwritable yes\n",
     ),
     (&[(b"/a", Some(&[7; 1001]))], SHORT_FILE, TOO_BIG),
     // a file that isn't inline takes a block

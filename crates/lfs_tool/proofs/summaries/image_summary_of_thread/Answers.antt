@@ -4,7 +4,7 @@ use Rattle.lfs_model.specs.BlockSets.{BlockStateList, used_count}
 use Rattle.lfs_model.specs.Disk.{Disk, block_count}
 use Rattle.lfs_model.specs.Shown.{used_blocks}
 use Rattle.lfs_model.specs.Thread.{Pair, gstate_of_pairs}
-use Rattle.lfs_tool.specs.ImageSummaries.{is_file_item, has_half_done_operation}
+use Rattle.lfs_tool.specs.ImageSummaries.{IsSuperblockToldOf, is_file_item, has_half_done_operation}
 use Rattle.lfs_tool.specs.WritingProfiles.{IsWritingProfileOfImage}
 use Rattle.lfs_tool.proofs.Counts.{as_many, files_alike}
 use Rattle.lfs_tool.proofs.Judged.{read_on}
@@ -14,13 +14,20 @@ use Rattle.lfs_tool.proofs.summaries.image_summary_of_thread.Goals as goal
 pub returns-in_err-root-clause-only : goal.returns-in_err-root-clause-only
 returns-in_err-root-clause-only c = (read_on _ _ _ c.tree_items_of_thread.ensures.only.0 c.root_index_of_thread.ensures.only.0, c.root_index_of_thread.ensures.only.1)
 
+pub returns-in_err-superblock-clause-only : goal.returns-in_err-superblock-clause-only
+returns-in_err-superblock-clause-only c =
+    let two = read_on _ _ _ c.tree_items_of_thread.ensures.only.0 c.root_index_of_thread.ensures.only.0 in
+    (read_on _ _ _ two c.superblock_to_tell_of.ensures.only.0, c.superblock_to_tell_of.ensures.only.1)
+
 pub returns-in_err-writable-clause-only : goal.returns-in_err-writable-clause-only
 returns-in_err-writable-clause-only c =
-    (read_on _ _ _ (read_on _ _ _ c.tree_items_of_thread.ensures.only.0 c.root_index_of_thread.ensures.only.0) c.writing_profile_of_image.ensures.only.0, c.writing_profile_of_image.ensures.only.1)
+    let two = read_on _ _ _ c.tree_items_of_thread.ensures.only.0 c.root_index_of_thread.ensures.only.0 in
+    (read_on _ _ _ (read_on _ _ _ two c.superblock_to_tell_of.ensures.only.0) c.writing_profile_of_image.ensures.only.0, c.writing_profile_of_image.ensures.only.1)
 
 pub returns-clause-only : goal.returns-clause-only
 returns-clause-only c =
-    (read_on _ _ _ (read_on _ _ _ c.tree_items_of_thread.ensures.only.0 c.root_index_of_thread.ensures.only.0) c.writing_profile_of_image.ensures.only.0, c.writing_profile_of_image.ensures.only.1)
+    let two = read_on _ _ _ c.tree_items_of_thread.ensures.only.0 c.root_index_of_thread.ensures.only.0 in
+    (read_on _ _ _ (read_on _ _ _ two c.superblock_to_tell_of.ensures.only.0) c.writing_profile_of_image.ensures.only.0, c.writing_profile_of_image.ensures.only.1)
 
 pub returns-clause-summary : goal.returns-clause-summary
 returns-clause-summary c =
@@ -28,7 +35,8 @@ returns-clause-summary c =
     let pairs = c.args.thread.now.kept.pairs in
     let items = c.in_ok-items.items.items in
     let two = read_on _ _ _ c.tree_items_of_thread.ensures.only.0 c.root_index_of_thread.ensures.only.0 in
-    let three = read_on _ _ _ two c.writing_profile_of_image.ensures.only.0 in
+    let three = read_on _ _ _ two c.superblock_to_tell_of.ensures.only.0 in
+    let four = read_on _ _ _ three c.writing_profile_of_image.ensures.only.0 in
     let (entries, (walk, shows)) = c.in_ok-items.ensures.walked in
     let count = c.count_files-files.ensures.count ∙ ap (λ xs. count_by is_file_item xs) c.deref.ensures.value in
     let below = c.count_files-files.ensures.below in
@@ -40,9 +48,11 @@ returns-clause-summary c =
       walk = walk;
       files = count ∙ files_alike disk items entries shows;
       all = omega (arith, below, same, many, len);
-      used = c.used_count.ensures ∙ ap (λ (m : BlockStateList). used_count m) three.map ∙ used_count-AreExactlyTheUsedBlocks c.args.thread.now.kept.map (used_blocks disk pairs) c.requires.accepted.owned_once c.requires.used;
-      blocks = c.geometry.ensures.count ∙ ap block_count three.disk;
-      recover = c.has_unfinished_operation.ensures ∙ ap has_half_done_operation (c.state-state.ensures ∙ ap gstate_of_pairs three.pairs);
-      writable = subst (λ (ps : List Pair). IsWritingProfileOfImage disk ps c.in_ok-writable.writable) two.pairs
-          (subst (λ (d : Disk). IsWritingProfileOfImage d c.root_index_of_thread.new.thread.kept.pairs c.in_ok-writable.writable) two.disk c.in_ok-writable.ensures.profile);
+      used = c.used_count.ensures ∙ ap (λ (m : BlockStateList). used_count m) four.map ∙ used_count-AreExactlyTheUsedBlocks c.args.thread.now.kept.map (used_blocks disk pairs) c.requires.accepted.owned_once c.requires.used;
+      blocks = c.geometry.ensures.count ∙ ap block_count four.disk;
+      recover = c.has_unfinished_operation.ensures ∙ ap has_half_done_operation (c.state-state.ensures ∙ ap gstate_of_pairs four.pairs);
+      superblock = subst (λ (ps : List Pair). IsSuperblockToldOf disk.profile ps c.in_ok-superblock.superblock) two.pairs
+          (subst (λ (d : Disk). IsSuperblockToldOf d.profile c.root_index_of_thread.new.thread.kept.pairs c.in_ok-superblock.superblock) two.disk c.in_ok-superblock.ensures.told);
+      writable = subst (λ (ps : List Pair). IsWritingProfileOfImage disk ps c.in_ok-writable.writable) three.pairs
+          (subst (λ (d : Disk). IsWritingProfileOfImage d c.superblock_to_tell_of.new.thread.kept.pairs c.in_ok-writable.writable) three.disk c.in_ok-writable.ensures.profile);
     }

@@ -1,7 +1,7 @@
 -- The programs and erases of a device, and which of them are kept.
 use Rattle.std.specs.Prelude.{ℕ, ◌≡◌, ◌+◌, ◌<◌, ◌^◌, ◌++◌, List, [], ◌∷◌, drop, length, map}
 use Rattle.lfs_model.specs.History.{DeviceCall, DeviceCallEvent}
-use Rattle.lfs_model.specs.History.DeviceCall.{Read, Program, Erase}
+use Rattle.lfs_model.specs.History.DeviceCall.{Read, Program, Erase, Blank}
 use Rattle.littlefs_c.specs.declared.notes.Change.{Change}
 use Rattle.littlefs_c.specs.declared.notes.Change.TheVariants as change
 
@@ -14,6 +14,7 @@ abbrev pub writes_of_call : DeviceCall → List DeviceCall
 writes_of_call (Read block off len) = []
 writes_of_call (Program block off bytes) = Program block off bytes ∷ []
 writes_of_call (Erase block) = Erase block ∷ []
+writes_of_call (Blank block off len) = []
 
 -- the programs and erases of a history, the oldest first
 abbrev pub writes_of_history : List DeviceCallEvent → List DeviceCall

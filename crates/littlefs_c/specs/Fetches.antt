@@ -1,7 +1,7 @@
 -- What C gets of a change.
 use Rattle.std.specs.Prelude.{ℕ, ℤ, ◌≡◌, ◌≤◌, pos, ◌-ℤ◌, IfSome, List, length, Option, None, Some, slice_get}
 use Rattle.lfs_model.specs.History.{DeviceCall}
-use Rattle.lfs_model.specs.History.DeviceCall.{Read, Program, Erase}
+use Rattle.lfs_model.specs.History.DeviceCall.{Read, Program, Erase, Blank}
 use Rattle.lfs_fs.specs.SessionView.{SessionView}
 use Rattle.littlefs_c.specs.Buffers.{buffer_with_bytes_if_they_fit}
 use Rattle.littlefs_c.specs.Changes.{writes_of_history}
@@ -17,12 +17,14 @@ abbrev pub IsShownChange : DeviceCall → ShownChange → Type 0
 IsShownChange (Read block off len) shown = ⊥
 IsShownChange (Program block off bytes) shown = (shown.kind ≡ 1) × (shown.block ≡ block) × (shown.offset ≡ off) × (shown.len ≡ length bytes)
 IsShownChange (Erase block) shown = (shown.kind ≡ 2) × (shown.block ≡ block) × (shown.offset ≡ 0) × (shown.len ≡ 0)
+IsShownChange (Blank block off len) shown = ⊥
 
 -- a buffer with the bytes of a program, if they fit
 abbrev pub buffer_after_change : DeviceCall → List ℕ → List ℕ
 buffer_after_change (Read block off len) buffer = buffer
 buffer_after_change (Program block off bytes) buffer = buffer_with_bytes_if_they_fit bytes buffer
 buffer_after_change (Erase block) buffer = buffer
+buffer_after_change (Blank block off len) buffer = buffer
 
 -- C gets the call of that number, with its bytes, if they fit.
 pub record GetsChange (calls : List DeviceCall) (number : ℕ) (shown : ShownChange) (buffer filled : List ℕ) : Type 0 where

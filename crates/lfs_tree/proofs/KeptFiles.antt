@@ -104,20 +104,21 @@ keeps_then a b c path first second = record {
 }
 
 -- the list of a file whose struct stays, where no block of a list changed
-pub list_stays : (disk new : Disk) (ps qs : List Pair) (path : Path) → IsAcceptedImage disk ps → SameGeometry disk new → KeepsBytesOfSkipListsOfFiles disk ps new → struct_of_path qs path ≡ struct_of_path ps path
-    → skip_list_blocks_of_slot new (slot_of_path qs path) ≡ skip_list_blocks_of_slot disk (slot_of_path ps path)
-list_stays disk new ps qs path accepted geometry keeps same = go (slot_of_path ps path) (slot_of_path qs path) refl same
-  where
-    Stays : List ℕ → Type 0
-    Stays = All (λ b. block_bytes_on_disk new b ≡ block_bytes_on_disk disk b)
+module _ (disk new : Disk) (ps qs : List Pair) (path : Path) (accepted : IsAcceptedImage disk ps) (geometry : SameGeometry disk new) (keeps : KeepsBytesOfSkipListsOfFiles disk ps new) where
+  abbrev Stays : Slot → Type 0
+  Stays s = All (λ b. block_bytes_on_disk new b ≡ block_bytes_on_disk disk b) (skip_list_blocks_of_struct disk s.struct)
 
-    go : (was now : Option Slot) → slot_of_path ps path ≡ was → option_map (λ (u : Slot). u.struct) now ≡ option_map (λ (u : Slot). u.struct) was → skip_list_blocks_of_slot new now ≡ skip_list_blocks_of_slot disk was
-    go None None at e = refl
-    go None (Some u) at e = absurd (cc)
-    go (Some s) None at e = absurd (cc)
-    go (Some s) (Some u) at e =
-        let is : u.struct ≡ s.struct = cc in
-        let stays : Stays (skip_list_blocks_of_struct disk s.struct) = slot_has (λ (x : Slot). Stays (skip_list_blocks_of_struct disk x.struct)) disk ps accepted (recursion_from_All (λ (x : Slot). Stays (skip_list_blocks_of_struct disk x.struct)) (all_slots_not_moved ps) keeps)
-        (λ i d lt. absurd (omega (arith, lt))) path s at in
-        ap (skip_list_blocks_of_struct new) is
-        ∙ file_blocks_same disk new s.struct geometry (recursion_from_All (λ b. block_bytes_on_disk new b ≡ block_bytes_on_disk disk b) (skip_list_blocks_of_struct disk s.struct) stays)
+  stays_at : (s : Slot) → slot_of_path ps path ≡ Some s → Stays s
+  stays_at s at = slot_has Stays disk ps accepted (recursion_from_All Stays (all_slots_not_moved ps) keeps) (λ i d lt. absurd (omega (arith, lt))) path s at
+
+  same_list : (was now : Option Slot) → slot_of_path ps path ≡ was → option_map (λ (u : Slot). u.struct) now ≡ option_map (λ (u : Slot). u.struct) was → skip_list_blocks_of_slot new now ≡ skip_list_blocks_of_slot disk was
+  same_list None None at e = refl
+  same_list None (Some u) at e = absurd (cc)
+  same_list (Some s) None at e = absurd (cc)
+  same_list (Some s) (Some u) at e =
+      let is : u.struct ≡ s.struct = cc in
+      ap (skip_list_blocks_of_struct new) is
+      ∙ file_blocks_same disk new s.struct geometry (recursion_from_All (λ b. block_bytes_on_disk new b ≡ block_bytes_on_disk disk b) (skip_list_blocks_of_struct disk s.struct) (stays_at s at))
+
+  pub list_stays : struct_of_path qs path ≡ struct_of_path ps path → skip_list_blocks_of_slot new (slot_of_path qs path) ≡ skip_list_blocks_of_slot disk (slot_of_path ps path)
+  list_stays same = same_list (slot_of_path ps path) (slot_of_path qs path) refl same

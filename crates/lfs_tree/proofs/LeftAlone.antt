@@ -29,6 +29,7 @@ use Rattle.lfs_operations.proofs.Splicing.{not_used}
 use Rattle.lfs_thread.specs.Kept.{KeptThread}
 use Rattle.lfs_thread.specs.Steps.{ThreadChangesOnlyTheseBlocks, empty_pair_at_anchor, thread_pair_at_index}
 use Rattle.lfs_tree.proofs.Carried.{IsPairsOrFree, apart_files, lists_from}
+use Rattle.lfs_tree.specs.KeptFiles.{KeepsBytesOfSkipListsOfFiles}
 use Rattle.lfs_tree.specs.Stores.{ChangesOnlyPairOfPath}
 
 -- ---- the slot of a path

@@ -15,6 +15,8 @@ each kind, but for long use, whose images are those of N operations each. --jobs
   littlefs, by `-c` with `--name-max` and its kin, and by sessions of that profile;
 - caches: the same for builds of littlefs with caches of 64, 128 and 256 bytes: images by `-c` with `--inline-max` and by sessions of that
   profile. littlefs writes each file in place, adds to it, shortens it and reads it;
+- full: small devices that sessions fill, and builds of littlefs with a small cache behind them. What has no room is answered with
+  NoSpace, and changes nothing: only a new file may be there, empty. littlefs says of a new name without room that it is too long;
 - long use: a logger in the root, and mixed operations, with a `block_cycles` of 3, 20, 100 and 500; an image at each unmount, some
   that a loss of power cut after it, and these when littlefs had gone on with them;
 - version: images written here that littlefs in its default version then wrote to;
@@ -26,7 +28,7 @@ each kind, but for long use, whose images are those of N operations each. --jobs
 Each is shown by littlefs, and compared with the plain tree that the operations make, where that is known. A session, the tool and the
 plain reader (image_reader.py) have to show the same. Of the last three kinds they have to where version 2.1 is accepted, as with
 `--also-2.1`. Where it isn't, an image of version 2.1 has to be refused, and one that wasn't written yet is listed as it was. Without
-SCRIPT and TOOL the reader alone is tried, on images by littlefs. GROUP is random, names, limits, caches, long, version, later or turns.
+SCRIPT and TOOL the reader alone is tried, on images by littlefs. GROUP is random, names, limits, caches, full, long, version, later or turns.
 
 Prints a table: how many images and entries there were; images refused here, with the cause; names that littlefs lists and doesn't find,
 or that it doesn't list; names that it lists twice; older trees that were listed here; and other differences. Cut images of a

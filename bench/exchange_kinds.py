@@ -7,9 +7,9 @@ import shutil
 import subprocess
 import zlib
 
-from exchange_operations import (ANY, Limits, a_few, answers_of, beside_a_log, carry_out, every_file, logging, mixed, scripted, some_changes,
+from exchange_operations import (ANY, Limits, a_few, answers_of, beside_a_log, carry_out, every_file, logging, mixed, scripted, some_changes, some_put,
                                  some_tree, told)
-from littlefs_code import NOT_FOUND, TOO_LONG, Driver, shown, summed
+from littlefs_code import EMPTY, NO_SPACE, NOT_FOUND, TOO_LONG, Driver, shown, summed
 from profiles import ALSO_2_1, DEFAULT, Profile
 
 GEOMETRIES = [(1024, 16, 64), (1024, 128, 64), (1536, 64, 48), (2048, 64, 128), (4096, 256, 64), (4096, 512, 48)]
@@ -18,10 +18,12 @@ WORN = (4096, 256, 64)
 CYCLES = [3, 20, 100, 500]
 EVERY = 250  # operations from an unmount to the next
 GONE_ON = 6
+NO_ROOM = "refused NoSpace 28"  # by a session
 TURNS = 3  # by littlefs and by a session
 # the limits with which littlefs was built: of a name alone, and of all three
 LIMITS = [Profile(name_max=32), Profile(name_max=64, file_max=1000000, attr_max=64)]
 CACHES = [64, 128, 256]
+FULL = [(1024, 128, 32), (1024, 16, 48), (2048, 64, 24), (4096, 256, 16), (8192, 256, 12)]
 CACHED = [(1024, 128, 256), (1024, 16, 256), (2048, 64, 160), (4096, 256, 128), (4096, 512, 128), (8192, 256, 128)]
 
 
@@ -282,6 +284,86 @@ def changed_by_session(options, case, firmware):
     return known(f"{case.kind}, changed by a session", image, case.geometry, plain, wrong=wrong, code=firmware.code)
 
 
+# Devices that are full
+
+
+def full(options):
+    """Small devices that sessions fill, and littlefs with a small cache behind them: what has no room changes nothing."""
+    cache = CACHES[0]
+    code = options.build("exchange_full", cache=cache)
+    firmware = Firmware("full,", code, Profile(inline_max=cache), Limits(near=cache, files=25), every_file, tuple(FULL))
+    made = options.each(lambda number: filled_by_session(options, number, firmware), range(options.count if options.script else 0))
+    yield from [made, options.each(lambda case: changed_when_full(case, firmware), made)]
+
+
+def long_files(rnd, path, block_size):
+    """More of them than there is room for, each of at least two blocks."""
+    return [("put", path + b"%d" % number, rnd.randrange(block_size + 1, 2 * block_size), rnd.choice("uvwxyz")) for number in range(40)]
+
+
+def filled_by_session(options, number, firmware):
+    kind = f"{firmware.name} by sessions"
+    rnd, geometry, image = begin(options, kind, number, firmware.geometries)
+    operations = some_tree(rnd, geometry[0], firmware.limits) + long_files(rnd, b"/full", geometry[0])
+    script = [*opening(firmware.profile), "fresh %d %d %d" % geometry]
+    at, plain, wrong = len(script), {b"": None}, []
+    script += [line for operation in operations for line in scripted(operation)]
+    answers = answers_of(options.script, [*script, "unmount", f"save {image}"])
+    for operation in operations:
+        given, at = answers[at : at + len(scripted(operation))], at + len(scripted(operation))
+        if not is_followed(plain, operation, given):
+            wrong.append(f"a session answers {' and '.join(given)} to {operation[:2]}")
+    if NO_ROOM not in answers:
+        wrong.append("there is room for all")
+    return known(kind, image, geometry, plain, wrong=wrong, code=firmware.code)
+
+
+def is_followed(plain, operation, answers):
+    """Changes the plain tree as a session did. Whether it may answer so: what has no room changes nothing, but a new file may be empty."""
+    not_open, path = ["refused BadFile 9"] * (len(answers) - 1), operation[1]
+    if path.rpartition(b"/")[0] not in plain:
+        return answers == ["refused NoEnt 2", *not_open]
+    if NO_ROOM not in answers:
+        carry_out(plain, operation)
+        return not refusals(answers)
+    if answers[0] == NO_ROOM:
+        return answers[1:] == not_open
+    plain[path] = b""
+    return answers[1:] == [NO_ROOM, "done"]
+
+
+def changed_when_full(case, firmware):
+    """A copy of the image after littlefs changed each file, and made more, as far as there was room."""
+    rnd, image = random.Random(os.path.basename(case.image) + "full"), case.image.replace(".img", "_changed.img")
+    shutil.copy(case.image, image)
+    plain, changed = dict(case.plain), known(f"{case.kind}, changed by littlefs", image, case.geometry, {}, code=firmware.code)
+    operations = list(every_file(rnd, dict(plain), case.geometry[0], firmware.limits))
+    operations += [it for put in long_files(rnd, b"/more", case.geometry[0]) for it in (put, ("read", put[1]))]
+    driver = Driver(firmware.code, image, case.geometry)
+    answers = driver.tell_all([told(operation) for operation in operations])
+    changed.wrong += [f"{it[:2]} is answered with {answer}" for it, answer in zip(operations, answers) if not is_done_or_full(plain, it, answer)]
+    if not {NO_SPACE, TOO_LONG} & set(answers):
+        changed.wrong.append("there is room for all")
+    driver.end(image)
+    changed.plain, changed.tree = plain, summed(plain)
+    return changed
+
+
+def is_done_or_full(plain, operation, answer):
+    """The same of littlefs. Of a new file whose name has no room it says that the name is too long."""
+    what, path = operation[:2]
+    if path not in plain:
+        if answer == 0 and what == "put":
+            carry_out(plain, operation)
+        elif answer == EMPTY and what == "read":
+            plain[path] = b""
+        return answer in ((0, NO_SPACE, TOO_LONG) if what == "put" else (EMPTY, NOT_FOUND))
+    if answer == answer_to(operation, plain):
+        carry_out(plain, operation)
+        return True
+    return what != "read" and answer == NO_SPACE
+
+
 # Long use, with pairs that move as they wear
 
 
@@ -444,5 +526,5 @@ def followed(case, plain, operations, answers):
     return plain
 
 
-GROUPS = {"random": at_random, "names": names, "limits": limits, "caches": caches, "long": long_use, "version": version, "later": later,
+GROUPS = {"random": at_random, "names": names, "limits": limits, "caches": caches, "full": full, "long": long_use, "version": version, "later": later,
           "turns": turns}

@@ -7,7 +7,8 @@ import re
 import subprocess
 import zlib
 
-NOT_FOUND, TOO_LONG = -2, -36
+NOT_FOUND, NO_SPACE, TOO_LONG = -2, -28, -36
+EMPTY = 0xFFFFFFFF  # the checksum of no bytes
 here = os.path.dirname(os.path.abspath(__file__))
 
 

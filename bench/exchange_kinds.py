@@ -143,7 +143,7 @@ def by_sessions(options, kind, stops):
             stop = rnd.choice(["program", "erase"]), 1 + rnd.randrange(60), rnd.choice(["", " torn 1", f" torn {rnd.randrange(2000)}", " whole"])
             script += ["mount %s %d stop%s" % stop, *some_session(rnd, geometry)]
         answers_of(options.script, [*script, "unmount", f"save {image}"])
-        return Case(kind, image, geometry)
+        return Case(kind, image, geometry, cut=stops)
 
     return options.each(made, range(options.count))
 

@@ -121,7 +121,7 @@ remount_answers old now new files (Err e) same none ok broken errors =
     (subst (λ b. IsSessionStepOrFailure old ops.Remount (cond b (Ok (ops.Refused (refusal_of_error e))) (Err e)) (session_view_of_tree_and_files new files)) (sym (no_refusal e errors.errors)) (remount_fails e old new (open_files_view new files) broken errors))
 
 pub mounted_ready : (disk : Disk) (history : List DeviceCallEvent) (new : TreeState) → IsMountedTree disk history new → IsSessionReadyForCalls new []
-mounted_ready disk history new m = record { sound = m.sound; called = has_called history new.history m.called; one = omega arith; idle = λ e. m.none_in_flight; written = tt; read = tt }
+mounted_ready disk history new m = record { sound = m.sound; called = has_called history new.history m.called; one = omega arith; idle = λ e. m.none_in_flight; written = tt; read = tt; known = tt }
 
 -- a session over a fresh disk, whose two blocks were erased
 none_twice : IsDistinct nat_eq []

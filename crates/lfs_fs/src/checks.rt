@@ -82,8 +82,9 @@ pub(crate) fn has_too_few_free_blocks<D: BlockDevice>(
     requires small { need < 16 }
     ensures { result ≡ nat_lt (block_count tree.now.disk) (length (disk_summary_of_tree tree.now).used + blocks_reserved_by_writers tree.now.disk.profile tree.now.disk.block_size files.now + need) }
 {
-    let held = files.reserved_block_count(tree.geometry());
-    (tree.geometry().block_count as u64) < tree.used_count() as u64 + held + need as u64
+    let geometry = tree.geometry();
+    let held = files.reserved_block_count(geometry);
+    (geometry.block_count as u64) < tree.used_count() as u64 + held + need as u64
 }
 
 /// Returns what is at a path, where no check refuses it.
@@ -457,8 +458,9 @@ fn lacks_room_for_writer_blocks<D: BlockDevice>(tree: &Tree<D>, has_turned: bool
     requires { tree.now.failed ≡ false }
     ensures { result ≡ nat_lt (block_count tree.now.disk) (length (disk_summary_of_tree tree.now).used + blocks_reserved_for_size tree.now.disk.profile tree.now.disk.block_size has_turned size) }
 {
-    let held = reserved_block_count_for_size(tree.geometry(), has_turned, size);
-    (tree.geometry().block_count as u64) < tree.used_count() as u64 + held
+    let geometry = tree.geometry();
+    let held = reserved_block_count_for_size(geometry, has_turned, size);
+    (geometry.block_count as u64) < tree.used_count() as u64 + held
 }
 
 /// Checks whether the writer of that number may write the bytes.

@@ -29,6 +29,7 @@ conforming_reads blocks e read = record {
   programs = λ b o bytes is ok. absurd (let k = sym (ap read_count_of_call is) ∙ read.reads in cc);
   others = λ b o bytes is ok. absurd (let k = sym (ap read_count_of_call is) ∙ read.reads in cc);
   erases = λ b is ok. absurd (let k = sym (ap read_count_of_call is) ∙ read.reads in cc);
+  blanks = λ b o n is ok. absurd (let k = sym (ap read_count_of_call is) ∙ read.reads in cc);
 }
 
 abbrev left_by : List DeviceCallEvent → Blocks

@@ -30,7 +30,7 @@ pub(crate) enum PathBeforeRun {
     // An image: a second commit of its first block, and its third block.
     Image(FixtureEntries<'static>, BlockFilling<'static>),
     // An image: its first two blocks.
-    FirstPair([&'static [u8]; 2]),
+    FirstPair(&'static [u8], &'static [u8]),
 }
 
 // What stands at a path behind a run.
@@ -638,7 +638,7 @@ fn make_path_before_run<R: Files + AllocGlobal>(
             let image = image_with_second_commit(rt.alloc(), entries, &[(2, below)])?;
             fs::write(rt, path, image.as_slice())
         }
-        PathBeforeRun::FirstPair([first, second]) => {
+        PathBeforeRun::FirstPair(first, second) => {
             let image = image_with_first_two_blocks(rt.alloc(), first, second)?;
             fs::write(rt, path, image.as_slice())
         }

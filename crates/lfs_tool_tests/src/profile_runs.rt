@@ -6,13 +6,13 @@ use crate::profiles::{FIRMWARE_FIRST, FIRMWARE_SECOND, FORMATTED_FIRST, FORMATTE
 // An image that firmware has made one of version 2.1.
 const LATER: (&str, PathBeforeRun) = (
     "runs/image",
-    PathBeforeRun::FirstPair([FIRMWARE_FIRST, FIRMWARE_SECOND]),
+    PathBeforeRun::FirstPair(FIRMWARE_FIRST, FIRMWARE_SECOND),
 );
 
 // One that firmware has formatted in version 2.1.
 const FORMATTED: (&str, PathBeforeRun) = (
     "runs/image",
-    PathBeforeRun::FirstPair([FORMATTED_FIRST, FORMATTED_SECOND]),
+    PathBeforeRun::FirstPair(FORMATTED_FIRST, FORMATTED_SECOND),
 );
 
 // A file with a longer name than the others.

@@ -1,7 +1,7 @@
 // A benchmark of look-ups in a block of 64 KiB. It holds a thousand files, each created before the
 // others.
 
-use lfs_device::NameOrder;
+use lfs_model::NameOrder;
 use lfs_tag::kinds::{CREATE, FILE_NAME};
 use lfs_tag::{CommitBuilder, Content, Log, Lookup, Tag, find};
 use std::alloc::Global;

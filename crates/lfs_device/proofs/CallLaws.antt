@@ -48,13 +48,4 @@ module _ {D : Type 0} (g : Ghosts D) where
     geometry = geometry;
     at_worst = goes_on began is (λ disk left. left);
   }
-
-  pub ChangesOnlyThisBlock-blank : {old new : D} (changed : ℕ) {b off len : ℕ} {failed : Bool} → g.history new ≡ device_call_event_with_blocks (Blank b off len) (g.blocks old) (g.blocks new) failed ∷ g.history old
-      → g.blocks new ≡ g.blocks old → g.geometry new ≡ g.geometry old → ChangesOnlyThisBlock g changed old new
-  ChangesOnlyThisBlock-blank {old} changed is same geometry = record {
-    others = subst (AreBlocksEqualExceptOne changed (g.blocks old)) (sym same) (AreBlocksEqualExceptOne-refl changed (g.blocks old));
-    elsewhere = AreBytesStillUnprogrammed-blank (changed ∷ []) is;
-    geometry = geometry;
-    at_worst = goes_on began is (λ disk left. subst (AreBlocksEqualExceptOne changed (g.blocks old)) (sym left) (AreBlocksEqualExceptOne-refl changed (g.blocks old)));
-  }
   -- ---- several blocks

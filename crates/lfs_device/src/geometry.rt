@@ -1,10 +1,9 @@
 ghost use Rattle.std.specs.Prelude.{◌≡◌, MatchResult};
 ghost use Rattle.lfs_model.specs.Disk.{pair_capacity, attr_max_of, charged_entry_size_limit_in_pair, default_profile, file_max_of, inline_limit, longest_struct, name_max_of, slots_per_pair_limit};
 ghost use Rattle.lfs_model.specs.Geometry.{IsValidGeometry};
-ghost use Rattle.lfs_model.specs.declared.order.NameOrder.TheVariants.{LongerFirst};
 
 use crate::Error;
-use lfs_model::{NameOrder, Profile};
+use lfs_model::Profile;
 
 /// How a device is divided: into blocks, which are erased whole, and pages, which are programmed
 /// whole. Sizes are in bytes.
@@ -17,22 +16,19 @@ pub struct Geometry {
     pub block_size: u32,
     pub page: u32,
     pub block_count: u32,
-    /// The order of the names in the device's directories. A session uses the order of its image in
-    /// place of it.
-    pub order: NameOrder,
     /// What a mount of the device accepts, and what is written there.
     pub profile: Profile,
     pub ghost valid: { IsValidGeometry block_size page block_count },
 }
 
 impl Geometry {
-    /// Makes a geometry of these sizes in bytes, with the longer names first and the
-    /// profile of `Profile::new`. The call takes no memory.
+    /// Makes a geometry of these sizes in bytes, with the profile of `Profile::new`. The call takes
+    /// no memory.
     ///
     /// Errors: `Invalid` exactly where the sizes are outside the limits.
     pub fn new(block_size: u32, page: u32, block_count: u32) -> Result<Geometry, Error>
         ensures { MatchResult result
-            (λ g. (g.block_size ≡ block_size) × (g.page ≡ page) × (g.block_count ≡ block_count) × (g.order ≡ LongerFirst) × (g.profile ≡ default_profile))
+            (λ g. (g.block_size ≡ block_size) × (g.page ≡ page) × (g.block_count ≡ block_count) × (g.profile ≡ default_profile))
             (λ e. (e ≡ Error.Invalid) × (¬ IsValidGeometry block_size page block_count)) }
     {
         if !matches!(page, 8 | 16 | 32 | 64 | 128 | 256 | 512) {
@@ -55,22 +51,8 @@ impl Geometry {
             block_size,
             page,
             block_count,
-            order: NameOrder::LongerFirst,
             profile: Profile::new(),
         })
-    }
-
-    /// Returns the same geometry with that order of names.
-    pub fn with_name_order(self, order: NameOrder) -> Geometry
-        ensures { result ≡ record self { order = order } }
-    {
-        Geometry {
-            block_size: self.block_size,
-            page: self.page,
-            block_count: self.block_count,
-            order,
-            profile: self.profile,
-        }
     }
 
     /// Returns the same geometry with that profile.
@@ -81,7 +63,6 @@ impl Geometry {
             block_size: self.block_size,
             page: self.page,
             block_count: self.block_count,
-            order: self.order,
             profile,
         }
     }

@@ -3,14 +3,14 @@ use Rattle.std.proofs.Common.{ℕ, ◌≡◌, ◌<◌, ◌∙◌, inl, inr, Bool
 use Rattle.std.specs.Prelude.{All, IfErr, IfOk, OnOk, nat_eq}
 use Rattle.std.specs.List.{IsDistinct}
 use Rattle.std.proofs.lemmas.List.Elements.{All-weaker}
-use Rattle.lfs_device.specs.Shown.{disk_with_name_order, disk_with_profile}
+use Rattle.lfs_device.specs.Shown.{disk_with_profile}
+use Rattle.lfs_model.specs.Disk.{disk_in_order, Disk, block_count}
 use Rattle.lfs_device.specs.declared.device.BlockDevice.{Ghosts}
 use Rattle.lfs_device.specs.declared.error.Error.{Error}
 use Rattle.lfs_device.specs.declared.error.Error.TheVariants.{Corrupt}
 use Rattle.lfs_model.proofs.Histories.{AreCallsSinceOnlyReads-trans}
 use Rattle.lfs_model.proofs.Uniqueness.{one_thread}
 use Rattle.lfs_model.specs.Content.{content_of_pair_at}
-use Rattle.lfs_model.specs.Disk.{Disk, block_count}
 use Rattle.lfs_model.specs.EntryTypes.{SuperblockFields, superblock_fields_of_struct_bytes}
 use Rattle.lfs_model.specs.History.{DeviceCallEvent, AreCallsSinceOnlyReads, fault_count_of_history}
 use Rattle.lfs_model.specs.Profile.{are_usable_limits, profile_with_limits, superblock_of_image}
@@ -111,7 +111,7 @@ same_limits fields profile limits is same =
     go false n f a = refl
 
 -- the pairs don't depend on the order of names or the profile
-pub same_pairs : (disk : Disk) (order other : NameOrder) (from to : Profile) (ps qs : List Pair) → IsAcceptedImage (disk_with_name_order order (disk_with_profile from disk)) ps → IsAcceptedImage (disk_with_name_order other (disk_with_profile to disk)) qs → ps ≡ qs
+pub same_pairs : (disk : Disk) (order other : NameOrder) (from to : Profile) (ps qs : List Pair) → IsAcceptedImage (disk_in_order order (disk_with_profile from disk)) ps → IsAcceptedImage (disk_in_order other (disk_with_profile to disk)) qs → ps ≡ qs
 same_pairs disk order other from to ps qs one two = one_thread (content_of_pair_at disk) (block_count disk) ps qs one.thread two.thread
 
 -- ---- a mounted session that was only read since then
@@ -141,14 +141,14 @@ just_read disk s new just read = record {
 
 -- the device was only read, by calls that didn't fail
 pub record IsDeviceOnlyRead {D : Type 0} (g : Ghosts D) (device back : D) : Type 0 where
-  pub disk : (order : NameOrder) (limits : Profile) → disk_with_name_order order (disk_with_profile limits (disk_of_device g back)) ≡ disk_with_name_order order (disk_with_profile limits (disk_of_device g device))
+  pub disk : (order : NameOrder) (limits : Profile) → disk_in_order order (disk_with_profile limits (disk_of_device g back)) ≡ disk_in_order order (disk_with_profile limits (disk_of_device g device))
   pub reads : AreCallsSinceOnlyReads (g.blocks device) (g.history device) (g.history back)
   pub no_fault : fault_count_of_history (g.history back) ≡ fault_count_of_history (g.history device)
 
 module _ {D : Type 0} (g : Ghosts D) (device : D) (profile : Profile) (s read : SessionView)
-    (begun : IsSessionBegunByMount (disk_with_name_order s.tree.disk.order (disk_with_profile profile (disk_of_device g device))) (g.history device) s) where
+    (begun : IsSessionBegunByMount (disk_in_order s.tree.disk.order (disk_with_profile profile (disk_of_device g device))) (g.history device) s) where
   abbrev below : NameOrder → Profile → Disk
-  below order limits = disk_with_name_order order (disk_with_profile limits (disk_of_device g device))
+  below order limits = disk_in_order order (disk_with_profile limits (disk_of_device g device))
 
   its_profile : s.tree.disk.profile ≡ profile
   its_profile = ap (λ (d : Disk). d.profile) begun.disk_is
@@ -176,14 +176,14 @@ module _ {D : Type 0} (g : Ghosts D) (device : D) (profile : Profile) (s read : 
 
   -- ---- the device of the session
 
-  same_below : (kept : Profile) (back : D) → disk_with_name_order read.tree.disk.order (disk_with_profile kept (disk_of_device g back)) ≡ read.tree.disk → read.tree.disk ≡ s.tree.disk → (order : NameOrder) (limits : Profile) →
-      disk_with_name_order order (disk_with_profile limits (disk_of_device g back)) ≡ below order limits
-  same_below kept back given same order limits = ap (λ (d : Disk). disk_with_name_order order (disk_with_profile limits d)) (given ∙ same ∙ begun.disk_is)
+  same_below : (kept : Profile) (back : D) → disk_in_order read.tree.disk.order (disk_with_profile kept (disk_of_device g back)) ≡ read.tree.disk → read.tree.disk ≡ s.tree.disk → (order : NameOrder) (limits : Profile) →
+      disk_in_order order (disk_with_profile limits (disk_of_device g back)) ≡ below order limits
+  same_below kept back given same order limits = ap (λ (d : Disk). disk_in_order order (disk_with_profile limits d)) (given ∙ same ∙ begun.disk_is)
 
   read_on : read.tree.disk ≡ s.tree.disk → AreCallsSinceOnlyReads s.tree.disk.blocks s.tree.history read.tree.history → AreCallsSinceOnlyReads (g.blocks device) (g.history device) read.tree.history
   read_on same reads = AreCallsSinceOnlyReads-trans begun.reads reads (ap (λ (d : Disk). d.blocks) begun.disk_is)
 
-  pub given_back : (kept : Profile) (inner back : D) → back ≡ inner → disk_with_name_order read.tree.disk.order (disk_with_profile kept (disk_of_device g inner)) ≡ read.tree.disk → g.history inner ≡ read.tree.history → WasWorkingSessionRead s read → IsDeviceOnlyRead g device back
+  pub given_back : (kept : Profile) (inner back : D) → back ≡ inner → disk_in_order read.tree.disk.order (disk_with_profile kept (disk_of_device g inner)) ≡ read.tree.disk → g.history inner ≡ read.tree.history → WasWorkingSessionRead s read → IsDeviceOnlyRead g device back
   given_back kept inner back is disk history only =
       let same = ap (λ (t : TreeState). t.disk) only.tree.same in
       subst (IsDeviceOnlyRead g device) (sym is) (record {
@@ -193,7 +193,7 @@ module _ {D : Type 0} (g : Ghosts D) (device : D) (profile : Profile) (s read : 
       })
 
   -- where its superblock isn't read
-  pub failing_back : (kept : Profile) (inner back : D) (e : Error) → back ≡ inner → disk_with_name_order read.tree.disk.order (disk_with_profile kept (disk_of_device g inner)) ≡ read.tree.disk → g.history inner ≡ read.tree.history → HasSessionFailedByRead s read e →
+  pub failing_back : (kept : Profile) (inner back : D) (e : Error) → back ≡ inner → disk_in_order read.tree.disk.order (disk_with_profile kept (disk_of_device g inner)) ≡ read.tree.disk → g.history inner ≡ read.tree.history → HasSessionFailedByRead s read e →
       ReturnsUnchangedDeviceByAnyProfile g device back e
   failing_back kept inner back e is disk history (inl failed) = absurd (let k = sym failed.0 ∙ begun.works in cc)
   failing_back kept inner back e is disk history (inr (works, broken, error)) =
@@ -208,7 +208,7 @@ module _ {D : Type 0} (g : Ghosts D) (device : D) (profile : Profile) (s read : 
 
   module _ (back : D) (again : IsDeviceOnlyRead g device back) (limits : Profile) where
     abbrev first : NameOrder → Disk
-    first order = disk_with_name_order order (disk_with_profile limits (disk_of_device g back))
+    first order = disk_in_order order (disk_with_profile limits (disk_of_device g back))
 
     begun_earlier : (h : SessionView) → IsSessionBegunByMount (first h.tree.disk.order) (g.history back) h → IsSessionBegunByMount (below h.tree.disk.order limits) (g.history device) h
     begun_earlier h later = record {
@@ -256,7 +256,7 @@ module _ {D : Type 0} (g : Ghosts D) (device : D) (profile : Profile) (s read : 
     corrupt_if_err fields (Ok x) limits_is corrupt = tt
     corrupt_if_err fields (Err e) limits_is corrupt = λ is order ps ok.
         corrupt is order ps (subst (λ d. IsAcceptedImage d ps) (sym (again.disk order limits))
-        (accepted_by (disk_with_name_order order (disk_of_device g device)) profile limits (sym (ap (λ (k : Profile). k.versions) limits_is ∙ same_versions fields profile)) ps ok))
+        (accepted_by (disk_in_order order (disk_of_device g device)) profile limits (sym (ap (λ (k : Profile). k.versions) limits_is ∙ same_versions fields profile)) ps ok))
 
     back_again : (end : D) (e : Error) → ReturnsUnchangedDeviceByAnyProfile g back end e → ReturnsUnchangedDeviceByAnyProfile g device end e
     back_again end e given = record {

@@ -1,10 +1,10 @@
 -- The limits that an image has, and a mount by them.
 use Rattle.std.specs.Prelude.{◌≡◌, ◌≢◌, ◌<◌, ◌⊎◌, true, false, List, Some}
-use Rattle.lfs_device.specs.Shown.{disk_with_name_order, disk_with_profile}
+use Rattle.lfs_device.specs.Shown.{disk_with_profile}
+use Rattle.lfs_model.specs.Disk.{disk_in_order, Disk}
 use Rattle.lfs_device.specs.declared.device.BlockDevice.{Ghosts}
 use Rattle.lfs_device.specs.declared.error.Error.{Error}
 use Rattle.lfs_device.specs.declared.error.Error.TheVariants.{Failed, Io}
-use Rattle.lfs_model.specs.Disk.{Disk}
 use Rattle.lfs_model.specs.EntryTypes.{SuperblockFields}
 use Rattle.lfs_model.specs.History.{DeviceCallEvent, AreCallsSinceOnlyReads, fault_count_of_history}
 use Rattle.lfs_model.specs.Profile.{profile_with_limits, superblock_of_image}
@@ -33,12 +33,12 @@ pub record IsSessionBegunWithLimits (disk : Disk) (history : List DeviceCallEven
   pub fields : SuperblockFields
   pub superblock : superblock_of_image h.tree.pairs ≡ Some fields
   pub limits : h.tree.disk.profile ≡ profile_with_limits fields profile
-  pub begun : IsSessionBegunByMount (disk_with_name_order h.tree.disk.order (disk_with_profile h.tree.disk.profile disk)) history h
+  pub begun : IsSessionBegunByMount (disk_in_order h.tree.disk.order (disk_with_profile h.tree.disk.profile disk)) history h
 
 -- The device comes back with an error. It was only read, and by each order of names and each profile it is the same disk. `Io`
 -- comes with a fault of the device, and any other error with none.
 pub record ReturnsUnchangedDeviceByAnyProfile {D : Type 0} (g : Ghosts D) (old back : D) (error : Error) : Type 0 where
-  pub disk : (order : NameOrder) (profile : Profile) → disk_with_name_order order (disk_with_profile profile (disk_of_device g back)) ≡ disk_with_name_order order (disk_with_profile profile (disk_of_device g old))
+  pub disk : (order : NameOrder) (profile : Profile) → disk_in_order order (disk_with_profile profile (disk_of_device g back)) ≡ disk_in_order order (disk_with_profile profile (disk_of_device g old))
   pub reads : AreCallsSinceOnlyReads (g.blocks old) (g.history old) (g.history back)
   pub fault : error ≡ Io → fault_count_of_history (g.history old) < fault_count_of_history (g.history back)
   pub no_fault : error ≢ Io → fault_count_of_history (g.history back) ≡ fault_count_of_history (g.history old)

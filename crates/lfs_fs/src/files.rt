@@ -373,7 +373,7 @@ impl Files {
         requires { is_some (open_file_at self.old fd) ≡ true }
         ensures { self.new ≡ slice_set self.old fd (option_map (open_file_with_known known) (open_file_at self.old fd)) }
     {
-        note_known_in_table(&mut self.entries, fd as usize, known);
+        note_in_table(&mut self.entries, fd as usize, known);
     }
 
     /// Closes an open file.
@@ -404,7 +404,7 @@ fn seek_file_in_table(entries: &mut Vec<Option<OpenFile>>, index: usize, positio
     }
 }
 
-fn note_known_in_table(entries: &mut Vec<Option<OpenFile>>, index: usize, known: KnownBlocks)
+fn note_in_table(entries: &mut Vec<Option<OpenFile>>, index: usize, known: KnownBlocks)
     requires { index < vec_len entries.old }
     ensures files { entries.new.items ≡ slice_set entries.old.items index (option_map (open_file_with_known known) (option_flatten (slice_get entries.old.items index))) }
     ensures len { vec_len entries.new ≡ vec_len entries.old }

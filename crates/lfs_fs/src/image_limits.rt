@@ -1,7 +1,8 @@
 // A mount by the limits of the image.
 
 ghost use Rattle.std.specs.Prelude.{◌≡◌, ◌↔◌, ◌⊎◌, IsTrue, List, IfErr, IfOk};
-ghost use Rattle.lfs_device.specs.Shown.{disk_with_name_order, disk_with_profile};
+ghost use Rattle.lfs_device.specs.Shown.{disk_with_profile};
+ghost use Rattle.lfs_model.specs.Disk.{disk_in_order};
 ghost use Rattle.lfs_model.specs.RepeatedPowerLoss.{IsJustMounted};
 ghost use Rattle.lfs_model.specs.Thread.{Pair};
 ghost use Rattle.lfs_model.specs.View.{IsAcceptedImage};
@@ -30,10 +31,10 @@ fn mount_with_profile<D: BlockDevice>(
     device: D,
     profile: Profile,
 ) -> Result<Session<Profiled<D>>, (D, Error)>
-    ensures begun { IfOk result (λ s. IsSessionBegunByMount (disk_with_name_order s.tree.disk.order (disk_with_profile profile (disk_of_device D.BlockDevice device))) (D.history device) s) }
-    ensures state { IfOk result (λ s. IsJustMounted (disk_with_name_order s.tree.disk.order (disk_with_profile profile (disk_of_device D.BlockDevice device))) (system_state_of_session_view s)) }
-    ensures longer { IfOk result (λ s. s.tree.disk.order ≡ ShorterFirst → (ps : List Pair) → ¬ IsAcceptedImage (disk_with_name_order LongerFirst (disk_with_profile profile (disk_of_device D.BlockDevice device))) ps) }
-    ensures corrupt { IfErr result (λ e. e.1 ≡ Error.Corrupt → (order : NameOrder) (ps : List Pair) → ¬ IsAcceptedImage (disk_with_name_order order (disk_with_profile profile (disk_of_device D.BlockDevice device))) ps) }
+    ensures begun { IfOk result (λ s. IsSessionBegunByMount (disk_in_order s.tree.disk.order (disk_with_profile profile (disk_of_device D.BlockDevice device))) (D.history device) s) }
+    ensures state { IfOk result (λ s. IsJustMounted (disk_in_order s.tree.disk.order (disk_with_profile profile (disk_of_device D.BlockDevice device))) (system_state_of_session_view s)) }
+    ensures longer { IfOk result (λ s. s.tree.disk.order ≡ ShorterFirst → (ps : List Pair) → ¬ IsAcceptedImage (disk_in_order LongerFirst (disk_with_profile profile (disk_of_device D.BlockDevice device))) ps) }
+    ensures corrupt { IfErr result (λ e. e.1 ≡ Error.Corrupt → (order : NameOrder) (ps : List Pair) → ¬ IsAcceptedImage (disk_in_order order (disk_with_profile profile (disk_of_device D.BlockDevice device))) ps) }
     ensures errors { IfErr result (λ e. (e.1 ≡ Error.Io) ⊎ (e.1 ≡ Error.Corrupt) ⊎ (e.1 ≡ Error.NoMemory)) }
     ensures back { IfErr result (λ e. ReturnsUnchangedDeviceByAnyProfile D.BlockDevice device e.0 e.1) }
 {
@@ -61,9 +62,9 @@ pub fn mount_with_limits<D: BlockDevice>(
     profile: Profile,
 ) -> Result<Session<Profiled<D>>, (D, Error)>
     ensures begun { IfOk result (IsSessionBegunWithLimits (disk_of_device D.BlockDevice device) (D.history device) profile) }
-    ensures state { IfOk result (λ s. IsJustMounted (disk_with_name_order s.tree.disk.order (disk_with_profile s.tree.disk.profile (disk_of_device D.BlockDevice device))) (system_state_of_session_view s)) }
-    ensures longer { IfOk result (λ s. s.tree.disk.order ≡ ShorterFirst → (ps : List Pair) → ¬ IsAcceptedImage (disk_with_name_order LongerFirst (disk_with_profile s.tree.disk.profile (disk_of_device D.BlockDevice device))) ps) }
-    ensures corrupt { IfErr result (λ e. e.1 ≡ Error.Corrupt → (order : NameOrder) (ps : List Pair) → ¬ IsAcceptedImage (disk_with_name_order order (disk_with_profile profile (disk_of_device D.BlockDevice device))) ps) }
+    ensures state { IfOk result (λ s. IsJustMounted (disk_in_order s.tree.disk.order (disk_with_profile s.tree.disk.profile (disk_of_device D.BlockDevice device))) (system_state_of_session_view s)) }
+    ensures longer { IfOk result (λ s. s.tree.disk.order ≡ ShorterFirst → (ps : List Pair) → ¬ IsAcceptedImage (disk_in_order LongerFirst (disk_with_profile s.tree.disk.profile (disk_of_device D.BlockDevice device))) ps) }
+    ensures corrupt { IfErr result (λ e. e.1 ≡ Error.Corrupt → (order : NameOrder) (ps : List Pair) → ¬ IsAcceptedImage (disk_in_order order (disk_with_profile profile (disk_of_device D.BlockDevice device))) ps) }
     ensures errors { IfErr result (λ e. (e.1 ≡ Error.Io) ⊎ (e.1 ≡ Error.Corrupt) ⊎ (e.1 ≡ Error.NoMemory)) }
     ensures back { IfErr result (λ e. ReturnsUnchangedDeviceByAnyProfile D.BlockDevice device e.0 e.1) }
 {

@@ -2,7 +2,7 @@ ghost use Rattle.lfs_model.specs.Operations as ops;
 ghost use Rattle.lfs_model.specs.Operations.{Operation, Reply as Answer};
 ghost use Rattle.lfs_fs.specs.Replies.{reply_from_result};
 ghost use Rattle.std.specs.Prelude.{◌≡◌, ◌⊎◌, ◌++◌, ◌+◌, ◌≤◌, None, Some, false, true, List, [], map, All, IfOk, IfErr, OnOk};
-ghost use Rattle.lfs_model.specs.Disk.{SameGeometry};
+ghost use Rattle.lfs_model.specs.Disk.{SameGeometry, disk_in_order};
 ghost use Rattle.lfs_model.specs.Thread.{Pair, blocks_of_pair_address};
 ghost use Rattle.lfs_model.specs.Fresh.{empty_tree};
 ghost use Rattle.lfs_model.specs.Headline.{IsSessionHealthyWithDiskTree, IsSessionAgreeingWithItsDisk};
@@ -15,14 +15,13 @@ ghost use Rattle.lfs_model.specs.RepeatedPowerLoss.{IsJustMounted, MeetsPremises
 ghost use Rattle.lfs_model.specs.PowerLoss.{IsOperationSurvivingPowerLoss};
 ghost use Rattle.lfs_model.specs.declared.order.NameOrder.{NameOrder};
 ghost use Rattle.lfs_model.specs.declared.order.NameOrder.TheVariants.{LongerFirst, ShorterFirst};
-ghost use Rattle.lfs_device.specs.Shown.{disk_with_name_order};
-ghost use Rattle.lfs_mount.specs.Either.{ReturnsUnchangedDeviceWithError};
-ghost use Rattle.lfs_thread.specs.Kept.{disk_of_device, kept_thread_view};
+ghost use Rattle.lfs_thread.specs.Device.{GivesDeviceBackOnlyReadWithError};
+ghost use Rattle.lfs_thread.specs.Kept.{disk_of_device, kept_thread_in_order};
 ghost use Rattle.lfs_model.specs.Thread.{anchor_pair_address};
 ghost use Rattle.lfs_model.specs.View.{IsAcceptedImage};
 ghost use Rattle.lfs_lookup.specs.Finds.{list_item_view, stat_view};
 ghost use Rattle.lfs_tag.specs.FieldsView.{superblock_view};
-ghost use Rattle.lfs_tree.specs.Formats.{FailedFormatSparesOtherBlocksInBothOrders, IsFreshlyFormatted, WritesFirstTwoBlocks};
+ghost use Rattle.lfs_tree.specs.Formats.{FailedFormatSparesOtherBlocks, IsFreshlyFormatted, WritesFirstTwoBlocks};
 ghost use Rattle.lfs_tree.specs.TreeState.{kept_thread_of_tree_state};
 ghost use Rattle.lfs_fs.specs.GstateView.{reply_of_returned_gstate};
 ghost use Rattle.lfs_fs.specs.ImageLimits.{HasSessionFailedByRead, WasWorkingSessionRead};
@@ -56,10 +55,11 @@ use crate::writers::{
     writer_of_existing_file,
 };
 use bitflags::Flags;
-use lfs_device::{BlockDevice, Error, NameOrder, Ordered};
+use lfs_device::{BlockDevice, Error};
 use lfs_lookup::{ListItem as Item, Stat};
+use lfs_model::NameOrder;
 use lfs_tag::Superblock;
-use lfs_tree::{Tree, mount_in_either_name_order};
+use lfs_tree::Tree;
 use std::alloc::Global;
 use std::marker::Model;
 
@@ -76,7 +76,7 @@ use std::marker::Model;
 /// [`truncate`](Session::truncate).
 #[derive(Drop)]
 pub struct Session<D: BlockDevice> {
-    tree: Tree<Ordered<D>>,
+    tree: Tree<D>,
     files: Files,
 }
 
@@ -571,18 +571,18 @@ impl<D: BlockDevice> Session<D> {
 
     /// Borrows the device, as the last call left it.
     pub fn device(&self) -> &D
-        ensures disk { disk_with_name_order self.now.tree.disk.order (disk_of_device D.BlockDevice result.now) ≡ self.now.tree.disk }
+        ensures disk { disk_in_order self.now.tree.disk.order (disk_of_device D.BlockDevice result.now) ≡ self.now.tree.disk }
         ensures history { D.history result.now ≡ self.now.tree.history }
     {
-        self.tree.device().inner()
+        self.tree.device()
     }
 
     /// Ends the session, and returns the device. Nothing is written.
     pub fn unmount(self) -> D
-        ensures disk { disk_with_name_order self.tree.disk.order (disk_of_device D.BlockDevice result) ≡ self.tree.disk }
+        ensures disk { disk_in_order self.tree.disk.order (disk_of_device D.BlockDevice result) ≡ self.tree.disk }
         ensures history { D.history result ≡ self.tree.history }
     {
-        self.tree.into_device().into_inner()
+        self.tree.into_device()
     }
 
     /// Returns the order in which the image's directories have their names. A list doesn't depend
@@ -590,7 +590,7 @@ impl<D: BlockDevice> Session<D> {
     pub fn order(&self) -> NameOrder
         ensures { result ≡ self.now.tree.disk.order }
     {
-        self.tree.device().order()
+        self.tree.order()
     }
 
     /// Returns the image's superblock: the version, the sizes of the device and the limits that the
@@ -696,14 +696,14 @@ impl<D: BlockDevice> Session<D> {
 /// `Corrupt` exactly where the device has no accepted image in either order. `Io` where a read
 /// failed. `NoMemory` where memory isn't granted. An error comes with the device.
 pub fn mount<D: BlockDevice>(alloc: Global, device: D) -> Result<Session<D>, (D, Error)>
-    ensures begun { IfOk result (λ s. IsSessionBegunByMount (disk_with_name_order s.tree.disk.order (disk_of_device D.BlockDevice device)) (D.history device) s) }
-    ensures state { IfOk result (λ s. IsJustMounted (disk_with_name_order s.tree.disk.order (disk_of_device D.BlockDevice device)) (system_state_of_session_view s)) }
-    ensures longer { IfOk result (λ s. s.tree.disk.order ≡ ShorterFirst → (ps : List Pair) → ¬ IsAcceptedImage (disk_with_name_order LongerFirst (disk_of_device D.BlockDevice device)) ps) }
-    ensures corrupt { IfErr result (λ e. e.1 ≡ Error.Corrupt → (order : NameOrder) (ps : List Pair) → ¬ IsAcceptedImage (disk_with_name_order order (disk_of_device D.BlockDevice device)) ps) }
+    ensures begun { IfOk result (λ s. IsSessionBegunByMount (disk_in_order s.tree.disk.order (disk_of_device D.BlockDevice device)) (D.history device) s) }
+    ensures state { IfOk result (λ s. IsJustMounted (disk_in_order s.tree.disk.order (disk_of_device D.BlockDevice device)) (system_state_of_session_view s)) }
+    ensures longer { IfOk result (λ s. s.tree.disk.order ≡ ShorterFirst → (ps : List Pair) → ¬ IsAcceptedImage (disk_in_order LongerFirst (disk_of_device D.BlockDevice device)) ps) }
+    ensures corrupt { IfErr result (λ e. e.1 ≡ Error.Corrupt → (order : NameOrder) (ps : List Pair) → ¬ IsAcceptedImage (disk_in_order order (disk_of_device D.BlockDevice device)) ps) }
     ensures errors { IfErr result (λ e. (e.1 ≡ Error.Io) ⊎ (e.1 ≡ Error.Corrupt) ⊎ (e.1 ≡ Error.NoMemory)) }
-    ensures back { IfErr result (λ e. ReturnsUnchangedDeviceWithError D.BlockDevice device e.0 e.1) }
+    ensures back { IfErr result (λ e. GivesDeviceBackOnlyReadWithError D.BlockDevice device e.0 e.1) }
 {
-    match mount_in_either_name_order(alloc, device) {
+    match Tree::mount(alloc, device) {
         Ok(tree) => {
             show_conforming_device_calls_to_proof(&tree);
             Ok(Session {
@@ -724,9 +724,9 @@ pub fn mount<D: BlockDevice>(alloc: Global, device: D) -> Result<Session<D>, (D,
 pub fn format<D: BlockDevice>(alloc: Global, device: D) -> Result<Session<D>, (D, Error)>
     ensures formatted { IfOk result (λ s. IsFreshlyFormatted (kept_thread_of_tree_state s.tree)) }
     ensures state { IfOk result (λ s. (system_state_of_session_view s).state ≡ Healthy (session_after_mount empty_tree)) }
-    ensures geometry { IfOk result (λ s. SameGeometry (disk_with_name_order LongerFirst (disk_of_device D.BlockDevice device)) s.tree.disk) }
-    ensures calls { IfOk result (λ s. WritesFirstTwoBlocks (kept_thread_view (disk_with_name_order LongerFirst (disk_of_device D.BlockDevice device)) (D.history device) [] []) (kept_thread_of_tree_state s.tree)) }
-    ensures back { IfErr result (λ e. FailedFormatSparesOtherBlocksInBothOrders D.BlockDevice (blocks_of_pair_address anchor_pair_address) device e.0 e.1) }
+    ensures geometry { IfOk result (λ s. SameGeometry (disk_in_order LongerFirst (disk_of_device D.BlockDevice device)) s.tree.disk) }
+    ensures calls { IfOk result (λ s. WritesFirstTwoBlocks (kept_thread_in_order D.BlockDevice LongerFirst device [] []) (kept_thread_of_tree_state s.tree)) }
+    ensures back { IfErr result (λ e. FailedFormatSparesOtherBlocks D.BlockDevice (blocks_of_pair_address anchor_pair_address) device e.0 e.1) }
 {
     format_ordered(alloc, device, NameOrder::LongerFirst)
 }
@@ -746,11 +746,11 @@ pub fn format_ordered<D: BlockDevice>(
 ) -> Result<Session<D>, (D, Error)>
     ensures formatted { IfOk result (λ s. IsFreshlyFormatted (kept_thread_of_tree_state s.tree)) }
     ensures state { IfOk result (λ s. (system_state_of_session_view s).state ≡ Healthy (session_after_mount empty_tree)) }
-    ensures geometry { IfOk result (λ s. SameGeometry (disk_with_name_order order (disk_of_device D.BlockDevice device)) s.tree.disk) }
-    ensures calls { IfOk result (λ s. WritesFirstTwoBlocks (kept_thread_view (disk_with_name_order order (disk_of_device D.BlockDevice device)) (D.history device) [] []) (kept_thread_of_tree_state s.tree)) }
-    ensures back { IfErr result (λ e. FailedFormatSparesOtherBlocksInBothOrders D.BlockDevice (blocks_of_pair_address anchor_pair_address) device e.0 e.1) }
+    ensures geometry { IfOk result (λ s. SameGeometry (disk_in_order order (disk_of_device D.BlockDevice device)) s.tree.disk) }
+    ensures calls { IfOk result (λ s. WritesFirstTwoBlocks (kept_thread_in_order D.BlockDevice order device [] []) (kept_thread_of_tree_state s.tree)) }
+    ensures back { IfErr result (λ e. FailedFormatSparesOtherBlocks D.BlockDevice (blocks_of_pair_address anchor_pair_address) device e.0 e.1) }
 {
-    match Tree::format(alloc, Ordered::new(device, order)) {
+    match Tree::format(alloc, device, order) {
         Ok(tree) => {
             show_conforming_device_calls_to_proof(&tree);
             Ok(Session {
@@ -758,6 +758,6 @@ pub fn format_ordered<D: BlockDevice>(
                 files: Files::without_open_files(alloc),
             })
         }
-        Err((device, error)) => Err((device.into_inner(), error)),
+        Err(back) => Err(back),
     }
 }

@@ -1,7 +1,7 @@
 // A session whose device stops in an operation, and the session that is mounted and recovered then.
 
 ghost use Rattle.std.specs.Prelude.{◌≡◌};
-ghost use Rattle.lfs_model.specs.Disk.{Disk};
+ghost use Rattle.lfs_model.specs.Disk.{Disk, disk_in_order};
 ghost use Rattle.lfs_model.specs.Operations as ops;
 ghost use Rattle.lfs_model.specs.PowerLoss.{HasTreeBeforeOrAfterOperation};
 ghost use Rattle.lfs_model.specs.Premises.{IsHistoryMeetingPowerLossPremises};
@@ -9,7 +9,7 @@ ghost use Rattle.lfs_model.specs.RepeatedPowerLoss.{IsJustMounted, HasSameDiskBy
 ghost use Rattle.lfs_model.specs.Tree.{Tree};
 ghost use Rattle.lfs_model.specs.declared.order.NameOrder.{NameOrder};
 ghost use Rattle.lfs_device.specs.RamDevice.{geometry_of_ram_device, ram_blocks};
-ghost use Rattle.lfs_device.specs.Shown.{disk_of_geometry_and_blocks, disk_with_name_order};
+ghost use Rattle.lfs_device.specs.Shown.{disk_of_geometry_and_blocks};
 ghost use Rattle.lfs_fs.specs.SessionView.{system_state_of_session_view};
 ghost use Rattle.lfs_fs_tests.specs.Recovered.{RecoversTreeBeforeOrAfter, RecoversFromStoppedOperation};
 
@@ -35,7 +35,7 @@ fn recover_session(
 
 // A session over a device with an image, with nothing left to recover.
 fn recover_device(alloc: Global, device: RamDevice) -> Result<Session<RamDevice>, Error>
-    ensures { (order : NameOrder) (before after : Tree) → HasTreeBeforeOrAfterOperation (disk_with_name_order order (disk_of_geometry_and_blocks (geometry_of_ram_device device) (ram_blocks device))) before after
+    ensures { (order : NameOrder) (before after : Tree) → HasTreeBeforeOrAfterOperation (disk_in_order order (disk_of_geometry_and_blocks (geometry_of_ram_device device) (ram_blocks device))) before after
         → RecoversTreeBeforeOrAfter before after result }
 {
     match mount(alloc, device) {

@@ -3,10 +3,11 @@ use Rattle.std.proofs.Common.{ℕ, ◌≡◌, ◌≤◌, ◌∙◌, Bool, true, 
 use Rattle.std.specs.Prelude.{is_none}
 use Rattle.std.specs.Option.{option_and_then, option_map, option_or}
 use Rattle.std.proofs.lemmas.Option.{same_Some}
+use Rattle.lfs_model.specs.declared.order.NameOrder.{NameOrder}
 use Rattle.lfs_model.specs.Names.{names_sorted_in_order}
 use Rattle.lfs_model.specs.declared.order.NameOrder.TheVariants.{ShorterFirst}
 use Rattle.lfs_model.specs.TreeEdits.{is_directory, is_file}
-use Rattle.lfs_model.specs.Disk.{Disk}
+use Rattle.lfs_model.specs.Disk.{Disk, disk_in_order}
 use Rattle.lfs_model.specs.Names.{Name}
 use Rattle.lfs_model.specs.Operations as ops
 use Rattle.lfs_model.specs.Session.{refusal_unless_directory, refusal_unless_parents_are_directories}
@@ -41,7 +42,7 @@ use Rattle.lfs_lookup.proofs.Visits.{each_entry}
 abbrev pub SizedLists : Disk → Type 0
 SizedLists disk = (head size : ℕ) → IsSkipListIfCtzStruct disk (Ctz head size) → length (skip_list_bytes_on_disk disk head size) ≡ size
 
-pub sized_on : {D : Type 0} (g : Ghosts D) (d : D) (disk : Disk) (n : ℕ) → disk_of_device g d ≡ disk → 1024 ≤ (g.geometry d).block_size → HasBlocksOfCountAndSize (g.geometry d).block_size n (g.blocks d) → SizedLists disk
+pub sized_on : {D : Type 0} (g : Ghosts D) (d : D) (disk : Disk) (n : ℕ) {order : NameOrder} → disk_in_order order (disk_of_device g d) ≡ disk → 1024 ≤ (g.geometry d).block_size → HasBlocksOfCountAndSize (g.geometry d).block_size n (g.blocks d) → SizedLists disk
 sized_on g d disk n e large shape =
     subst SizedLists e (λ head size list. length-bytes_of_skip_list (g.blocks d) (g.geometry d).block_size n head size large shape list)
 

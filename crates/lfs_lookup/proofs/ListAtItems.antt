@@ -4,7 +4,8 @@ use Rattle.std.proofs.lemmas.List.Elements.{recursion_from_All}
 use Rattle.lfs_device.specs.Bytes.{AreAllBlockElementsBelow256}
 use Rattle.lfs_device.specs.declared.device.BlockDevice.{Ghosts}
 use Rattle.lfs_model.specs.TreeEdits.{names_of_directory_node}
-use Rattle.lfs_model.specs.Disk.{Disk}
+use Rattle.lfs_model.specs.declared.order.NameOrder.{NameOrder}
+use Rattle.lfs_model.specs.Disk.{Disk, disk_in_order}
 use Rattle.lfs_model.specs.Operations as ops
 use Rattle.lfs_model.specs.SlotEdits.{slot_of_path}
 use Rattle.lfs_model.specs.Slots.{Slot, Struct, Inline, Ctz, Branch}
@@ -85,5 +86,5 @@ module _ (t : KeptThread) (path : Path) (ok : IsAcceptedImage t.disk t.pairs) (n
   pub listed_there : (listed : List ops.ListedEntry) → SizedLists t.disk → listed ≡ map listed_item_of_entry shapes → listed ≡ directory_items_at_path (tree_on_disk t.disk t.pairs) path
   listed_there listed lists e = let (slots, (r, is)) = slots_there in e ∙ ap (map listed_item_of_entry) is ∙ items_listed t.disk t.pairs path on.at slots ok on.leads lists r
 
-pub bytes_on : {D : Type 0} (g : Ghosts D) (d : D) (disk : Disk) → disk_of_device g d ≡ disk → AreAllBlockElementsBelow256 (g.blocks d) → AreAllBlockElementsBelow256 disk.blocks
+pub bytes_on : {D : Type 0} (g : Ghosts D) (d : D) (disk : Disk) {order : NameOrder} → disk_in_order order (disk_of_device g d) ≡ disk → AreAllBlockElementsBelow256 (g.blocks d) → AreAllBlockElementsBelow256 disk.blocks
 bytes_on g d disk e h = subst (λ (z : Disk). AreAllBlockElementsBelow256 z.blocks) e h

@@ -13,7 +13,8 @@ ghost use Rattle.lfs_lookup.specs.Halves.{EndsWithoutHardTail, ReadsAtMostBinary
 ghost use Rattle.lfs_lookup.specs.Search.{SearchFindsInDirectory, SearchFindsInPair, SearchFindsWithSlotHidden, HasLogWhoseSlotsHaveNameAndStruct, AreDirectoryNamesInOrder, IsPairCachedIfSlotFound, skipped_id_in_pair};
 
 use crate::entry::{FileOrDirectory, entry_of_struct};
-use lfs_device::{BlockDevice, Error, NameOrder};
+use lfs_device::{BlockDevice, Error};
+use lfs_model::NameOrder;
 use lfs_tag::{Log, Lookup, Steps, find, find_slot_struct};
 use lfs_thread::Thread;
 
@@ -75,7 +76,7 @@ fn find_name_in_pair<D: BlockDevice>(
     ensures reading { OnlyReadsThreadAndReportsErrors thread.old thread.new result }
 {
     thread.load_pair(pair)?;
-    let order = thread.geometry().order;
+    let order = thread.order();
     let log = thread.lend(pair).unwrap();
     Ok(find_name_in_log(&log, order, name, skip))
 }

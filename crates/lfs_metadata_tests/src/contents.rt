@@ -2,7 +2,7 @@
 
 use crate::blocks::{BAD_DELETE, SHIFTING, block_of_commits};
 use lfs_device::Error;
-use lfs_device::NameOrder::{LongerFirst, ShorterFirst};
+use lfs_model::NameOrder::{LongerFirst, ShorterFirst};
 use lfs_tag::kinds::{CREATE, DELETE, FILE_NAME};
 use lfs_tag::{
     CommitBuilder, Content, ContentError, Log, Lookup, MoveState, NameOrStruct, Steps, Summary,

@@ -2,6 +2,7 @@
 use Rattle.std.specs.Prelude.{ℕ, ◌≡◌, ◌≤◌, ◌-◌, ◌/◌, ◌%◌, min, max, List, length}
 use Rattle.lfs_model.specs.Blocks.{Blocks, block_bytes_by_number, cut}
 use Rattle.lfs_model.specs.declared.order.NameOrder.{NameOrder}
+use Rattle.lfs_model.specs.declared.order.NameOrder.TheVariants.{LongerFirst}
 use Rattle.lfs_model.specs.declared.limits.AcceptedVersions.TheVariants.{OnlyTwoZero}
 use Rattle.lfs_model.specs.declared.limits.Profile.{Profile}
 use Rattle.lfs_model.specs.Geometry.{IsValidGeometry}
@@ -22,6 +23,14 @@ block_count disk = length disk.blocks
 
 abbrev pub block_bytes_on_disk : Disk → ℕ → List ℕ
 block_bytes_on_disk disk b = block_bytes_by_number disk.blocks b
+
+-- the same disk, with its names in that order
+abbrev pub disk_in_order : NameOrder → Disk → Disk
+disk_in_order order disk = record disk { order = order }
+
+-- A disk of which nobody knows the order of names yet. It says that the longer names come first, as in littlefs's own code.
+abbrev pub plain_disk : ℕ → ℕ → Profile → Blocks → Disk
+plain_disk block_size page profile blocks = record { block_size = block_size; page = page; order = LongerFirst; profile = profile; blocks = blocks }
 
 -- as many blocks and pages, of the same size, the same order of names, and the same profile
 pub record SameGeometry (disk new : Disk) : Type 0 where

@@ -25,7 +25,7 @@ pub fn bytes_are_unprogrammed_after_erase()
 {}
 
 /// Bytes that the device says are blank are unprogrammed, until they are programmed.
-pub fn blank_bytes_are_unprogrammed()
+pub fn blank_is_unprogrammed()
     ensures bytes { map (is_byte_unprogrammed (blank_event ∷ history_after_read) 1) (0 ∷ 1 ∷ 2 ∷ 3 ∷ []) ≡ false ∷ false ∷ true ∷ true ∷ [] }
     ensures other_block { is_byte_unprogrammed (blank_event ∷ history_after_read) 0 1 ≡ false }
     ensures failed { is_byte_unprogrammed (failed_blank_event ∷ history_after_read) 1 2 ≡ false }

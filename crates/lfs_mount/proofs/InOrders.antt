@@ -1,8 +1,7 @@
 -- What is read of a disk's pairs doesn't depend on the order of its names.
 use Rattle.std.proofs.Common.{ℕ, List, [], ◌∷◌}
-use Rattle.lfs_device.specs.Shown.{disk_with_name_order}
+use Rattle.lfs_model.specs.Disk.{disk_in_order, Disk}
 use Rattle.lfs_model.specs.BlockSets.{BlockStateList}
-use Rattle.lfs_model.specs.Disk.{Disk}
 use Rattle.lfs_model.specs.History.{DeviceCallEvent}
 use Rattle.lfs_model.specs.Slots.{Gstate}
 use Rattle.lfs_model.specs.View.{IsSuperblockStruct}
@@ -12,7 +11,7 @@ use Rattle.lfs_mount.specs.SuperblockChain.{AreHeadersOfDiskThread, HasSuperbloc
 use Rattle.lfs_mount.specs.Members.{IsThreadReadFromDisk}
 
 module _ (order : NameOrder) (disk : Disk) where
-  header_in : (history : List DeviceCallEvent) (h : PairHeader) → IsPairHeaderOnDisk disk history h → IsPairHeaderOnDisk (disk_with_name_order order disk) history h
+  header_in : (history : List DeviceCallEvent) (h : PairHeader) → IsPairHeaderOnDisk disk history h → IsPairHeaderOnDisk (disk_in_order order disk) history h
   header_in history h is = record {
     address = record { apart = is.address.apart; first = is.address.first; second = is.address.second };
     held = is.held;
@@ -28,23 +27,23 @@ module _ (order : NameOrder) (disk : Disk) where
     complete = is.complete;
   }
 
-  headers_in : (history : List DeviceCallEvent) (hs : List PairHeader) → ArePairHeadersOnDisk disk history hs → ArePairHeadersOnDisk (disk_with_name_order order disk) history hs
+  headers_in : (history : List DeviceCallEvent) (hs : List PairHeader) → ArePairHeadersOnDisk disk history hs → ArePairHeadersOnDisk (disk_in_order order disk) history hs
   headers_in history [] are = tt
   headers_in history (h ∷ hs) are = (header_in history h are.0, headers_in history hs are.1)
 
-  pub has_headers_in : (history : List DeviceCallEvent) (hs : List PairHeader) → AreHeadersOfDiskThread disk history hs → AreHeadersOfDiskThread (disk_with_name_order order disk) history hs
+  pub has_headers_in : (history : List DeviceCallEvent) (hs : List PairHeader) → AreHeadersOfDiskThread disk history hs → AreHeadersOfDiskThread (disk_in_order order disk) history hs
   has_headers_in history hs has = record { each = headers_in history hs has.each; thread = has.thread }
 
-  pub kept_in : (history : List DeviceCallEvent) (hs : List PairHeader) (sets : BlockStateList) → IsKeptThreadOnDisk disk history hs sets → IsKeptThreadOnDisk (disk_with_name_order order disk) history hs sets
+  pub kept_in : (history : List DeviceCallEvent) (hs : List PairHeader) (sets : BlockStateList) → IsKeptThreadOnDisk disk history hs sets → IsKeptThreadOnDisk (disk_in_order order disk) history hs sets
   kept_in history hs sets kept = record { each = headers_in history hs kept.each; links = kept.links; distinct = kept.distinct; size = kept.size; used = kept.used }
 
-  pub read_in : (history : List DeviceCallEvent) (hs : List PairHeader) (sets : BlockStateList) (g : Gstate) → IsThreadReadFromDisk disk history hs sets g → IsThreadReadFromDisk (disk_with_name_order order disk) history hs sets g
+  pub read_in : (history : List DeviceCallEvent) (hs : List PairHeader) (sets : BlockStateList) (g : Gstate) → IsThreadReadFromDisk disk history hs sets g → IsThreadReadFromDisk (disk_in_order order disk) history hs sets g
   read_in history hs sets g r = record { kept = kept_in history hs sets r.kept; thread = r.thread; used = r.used; none_in_flight = r.none_in_flight; global = r.global }
 
-  struct_in : (bytes : List ℕ) → IsSuperblockStruct disk bytes → IsSuperblockStruct (disk_with_name_order order disk) bytes
+  struct_in : (bytes : List ℕ) → IsSuperblockStruct disk bytes → IsSuperblockStruct (disk_in_order order disk) bytes
   struct_in bytes s = record { len = s.len; version = s.version; block_size = s.block_size; block_count = s.block_count }
 
-  pub head_in : (hs : List PairHeader) (count : ℕ) → HasSuperblockChainOfLength disk (pairs_of_headers disk hs) count → HasSuperblockChainOfLength (disk_with_name_order order disk) (pairs_of_headers (disk_with_name_order order disk) hs) count
+  pub head_in : (hs : List PairHeader) (count : ℕ) → HasSuperblockChainOfLength disk (pairs_of_headers disk hs) count → HasSuperblockChainOfLength (disk_in_order order disk) (pairs_of_headers (disk_in_order order disk) hs) count
   head_in hs count h = record {
     chain = h.chain;
     p = h.p;

@@ -1,14 +1,31 @@
 -- A thread that was read, with its names in another order.
-use Rattle.std.proofs.Common.{◌≡◌, ◌∙◌, List, ap, ap₂}
+use Rattle.std.proofs.Common.{◌≡◌, ◌∙◌, List, ap, ap₂, subst, sym}
+use Rattle.lfs_device.specs.declared.device.BlockDevice.{Ghosts}
+use Rattle.lfs_device.specs.declared.error.Error.TheVariants.{Corrupt}
 use Rattle.lfs_model.specs.BlockSets.{BlockStateList}
-use Rattle.lfs_model.specs.Disk.{Disk}
-use Rattle.lfs_model.specs.History.{DeviceCallEvent}
+use Rattle.lfs_model.specs.Disk.{Disk, disk_in_order}
+use Rattle.lfs_model.specs.History.{DeviceCallEvent, AreCallsSinceOnlyReads, fault_count_of_history}
+use Rattle.lfs_model.specs.declared.order.NameOrder.TheVariants.{LongerFirst}
 use Rattle.lfs_model.proofs.Histories.{began}
-use Rattle.lfs_thread.specs.Kept.{PairHeader, IsKeptThreadOnDisk, ThreadView, WasKeptThreadOnDisk}
+use Rattle.lfs_thread.specs.Device.{GivesDeviceBackOnlyReadWithError}
+use Rattle.lfs_model.specs.declared.order.NameOrder.{NameOrder}
+use Rattle.lfs_thread.specs.Kept.{KeptThread, PairHeader, IsKeptThreadOnDisk, ThreadView, WasKeptThreadOnDisk, disk_of_device, kept_thread_in_order, kept_thread_of_device}
+use Rattle.lfs_mount.specs.ReadImage.{IsAcceptedInNameOrders}
+use Rattle.lfs_mount.specs.declared.orders.NameOrderSet.{NameOrderSet}
 
-pub was_kept : (disk : Disk) (history : List DeviceCallEvent) (hs : List PairHeader) (sets : BlockStateList) → IsKeptThreadOnDisk disk history hs sets → WasKeptThreadOnDisk disk history hs sets
-was_kept disk history hs sets kept = record { before = history; since = began; each = kept.each; links = kept.links; distinct = kept.distinct; size = kept.size; used = kept.used }
+-- the device of a thread that was read, where the image isn't accepted in the order that is wanted
+pub refused_back : {D : Type 0} (g : Ghosts D) (old back : D) (t : ThreadView) (orders : NameOrderSet) → IsAcceptedInNameOrders (disk_of_device g old) (g.history old) t orders
+    → disk_in_order t.kept.disk.order (disk_of_device g back) ≡ t.kept.disk → g.history back ≡ t.kept.history → GivesDeviceBackOnlyReadWithError g old back Corrupt
+refused_back g old back t orders read disk history = record {
+  disk = ap (disk_in_order LongerFirst) (disk ∙ read.disk_is);
+  reads = subst (AreCallsSinceOnlyReads (g.blocks old) (g.history old)) (sym history) read.reads;
+  fault = λ is. absurd (cc);
+  no_fault = λ other. ap fault_count_of_history history ∙ read.no_fault;
+}
 
-pub one_state : (t u : ThreadView) → t.failed ≡ u.failed → t.kept ≡ u.kept → t.cache ≡ u.cache → t ≡ u
-one_state t u failed kept cache =
-    ap (λ b. record { kept = t.kept; cache = t.cache; failed = b }) failed ∙ ap₂ (λ k c. record { kept = k; cache = c; failed = u.failed }) kept cache
+-- the parts of a thread that was read, whose order is as after a reading
+pub plain_again : {D : Type 0} (g : Ghosts D) (old now : D) (order : NameOrder) (items : List PairHeader) (sets : BlockStateList) (t : KeptThread) → kept_thread_in_order g order now items sets ≡ t → t.disk ≡ disk_of_device g old → kept_thread_of_device g now items sets ≡ t
+plain_again g old now order items sets t same read =
+    ap (λ (k : KeptThread). record k { disk = disk_in_order LongerFirst k.disk }) same
+    ∙ ap (λ (d : Disk). record t { disk = disk_in_order LongerFirst d }) read
+    ∙ ap (λ (d : Disk). record t { disk = d }) (sym read)

@@ -2,7 +2,6 @@ pub mod Orders
 pub mod Reaching
 pub mod Places
 pub mod DirectoryView
-pub mod Either
 pub mod Directories
 pub mod Entries
 pub mod EntryView

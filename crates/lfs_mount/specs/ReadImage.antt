@@ -1,7 +1,6 @@
 -- A thread that was read, and the orders of names in which its image is accepted.
 use Rattle.std.specs.Prelude.{◌≡◌, ◌≤◌, ◌<◌, ◌+◌, true, false, List}
-use Rattle.lfs_device.specs.Shown.{disk_with_name_order}
-use Rattle.lfs_model.specs.Disk.{Disk}
+use Rattle.lfs_model.specs.Disk.{disk_in_order, Disk}
 use Rattle.lfs_model.specs.History.{DeviceCallEvent, AreCallsSinceOnlyReads, fault_count_of_history, read_count_of_history}
 use Rattle.lfs_model.specs.Thread.{Pair}
 use Rattle.lfs_model.specs.View.{IsAcceptedImage}
@@ -13,8 +12,8 @@ use Rattle.lfs_mount.specs.Reads.{mount_read_count}
 use Rattle.lfs_mount.specs.declared.orders.NameOrderSet.{NameOrderSet}
 
 -- the same thread, with that order of names
-abbrev pub thread_view_with_name_order : NameOrder → ThreadView → ThreadView
-thread_view_with_name_order order t = record t { kept = record t.kept { disk = disk_with_name_order order t.kept.disk } }
+abbrev pub thread_view_in_order : NameOrder → ThreadView → ThreadView
+thread_view_in_order order t = record t { kept = record t.kept { disk = disk_in_order order t.kept.disk } }
 
 -- at least one read was made since, and no more than a mount of the image takes
 pub record HasAtMostMountReads (disk : Disk) (history : List DeviceCallEvent) (t : ThreadView) : Type 0 where
@@ -28,6 +27,6 @@ pub record IsAcceptedInNameOrders (disk : Disk) (history : List DeviceCallEvent)
   pub disk_is : t.kept.disk ≡ disk
   pub reads : AreCallsSinceOnlyReads disk.blocks history t.kept.history
   pub no_fault : fault_count_of_history t.kept.history ≡ fault_count_of_history history
-  pub mounted : (order : NameOrder) → includes_name_order order orders ≡ true → IsMountedThread (disk_with_name_order order disk) history (thread_view_with_name_order order t)
+  pub mounted : (order : NameOrder) → includes_name_order order orders ≡ true → IsMountedThread (disk_in_order order disk) history (thread_view_in_order order t)
   pub few : (order : NameOrder) → includes_name_order order orders ≡ true → HasAtMostMountReads disk history t
-  pub refused : (order : NameOrder) → includes_name_order order orders ≡ false → (ps : List Pair) → IsAcceptedImage (disk_with_name_order order disk) ps → ⊥
+  pub refused : (order : NameOrder) → includes_name_order order orders ≡ false → (ps : List Pair) → IsAcceptedImage (disk_in_order order disk) ps → ⊥

@@ -1,14 +1,15 @@
 // A device's image, where it is accepted.
 
-ghost use Rattle.std.specs.Prelude.{ℕ, List, ◌≡◌, ◌≤◌, ◌<◌, ◌+◌, ◌%◌, ◌++◌, ◌∷◌, drop, length, sum_by, true, IfErr, IfNone, IfOk, IfSome, IsErrOf, OnOk};
+ghost use Rattle.std.specs.Prelude.{ℕ, List, ◌≡◌, ◌≤◌, ◌<◌, ◌+◌, ◌%◌, ◌++◌, ◌∷◌, drop, false, length, sum_by, true, IfErr, IfNone, IfOk, IfSome, IsErrOf, OnOk};
 ghost use Rattle.lfs_alloc.specs.Next.{IsNextFreeBlockInCircle};
 ghost use Rattle.lfs_device.specs.Calls.{ReadsOnly};
-ghost use Rattle.lfs_device.specs.Shown.{disk_with_name_order};
+ghost use Rattle.lfs_model.specs.Disk.{disk_in_order};
 ghost use Rattle.lfs_model.specs.BlockSets.{IsBlockFree};
 ghost use Rattle.lfs_model.specs.History.{read_count_of_history};
 ghost use Rattle.lfs_model.specs.Thread.{Pair as ThreadPair};
 ghost use Rattle.lfs_model.specs.View.{IsAcceptedImage};
 ghost use Rattle.lfs_model.specs.declared.order.NameOrder.{NameOrder};
+ghost use Rattle.lfs_model.specs.declared.order.NameOrder.TheVariants.{LongerFirst, ShorterFirst};
 ghost use Rattle.lfs_tag.specs.FieldsView.{move_view};
 ghost use Rattle.lfs_thread.specs.Device.{GivesDeviceBackOnlyReadWithError};
 ghost use Rattle.lfs_thread.specs.Kept.{disk_of_device, pairs_of_headers};
@@ -16,8 +17,8 @@ ghost use Rattle.lfs_mount.specs.Accepted.{HasAcceptedImageIfNameOrderFits, IsIm
 ghost use Rattle.lfs_mount.specs.Device.{IsIoCorruptOrNoMemory, ReportsMountErrorsAndFaults};
 ghost use Rattle.lfs_mount.specs.Members.{AreDirectoryHeadersOfThread, IsThreadReadFromDisk, IsThreadMatchingMapAndDirectoryHeaders, pair_descriptions_of_headers};
 ghost use Rattle.lfs_mount.specs.Orders.{includes_name_order};
-ghost use Rattle.lfs_mount.specs.ReadImage.{IsAcceptedInNameOrders};
-ghost use Rattle.lfs_mount.specs.Reads.{check_read_count, mount_read_count, pair_read_count};
+ghost use Rattle.lfs_mount.specs.ReadImage.{HasAtMostMountReads, IsAcceptedInNameOrders};
+ghost use Rattle.lfs_mount.specs.Reads.{check_read_count, pair_read_count};
 ghost use Rattle.lfs_mount.specs.Start.{allocation_seed, image_number, mixed_number};
 
 use crate::check::check_slots_and_mark_lists_of_thread;
@@ -27,31 +28,63 @@ use crate::orders::NameOrderSet;
 use crate::superblock_chain::superblock_chain_length;
 use lfs_alloc::BlockMap;
 use lfs_device::{BlockDevice, Error};
+use lfs_model::NameOrder;
 use lfs_pair::Pair;
 use lfs_tag::MoveState;
 use lfs_thread::Thread;
 use std::alloc::Global;
 
 /// Reads the image of a device, and keeps its thread where the image is accepted: what littlefs
-/// 2.0 allows (SPEC.md of littlefs), with every file's list well formed, no block owned twice, and
-/// each directory reached once, or not at all where the sync bit is set. Its names are in the order
-/// of the device's geometry, and its version is one of those there. Only reads are made. The map's used blocks are then those of the image's pairs and files, and none is in flight.
+/// allows (SPEC.md of littlefs), with every file's list well formed, no block owned twice, and each
+/// directory reached once, or not at all where the sync bit is set. Its version is one of those of
+/// the device's profile. Only reads are made. The map's used blocks are then those of the image's
+/// pairs and files, and none is in flight.
 ///
-/// `Corrupt` exactly where no image is accepted there. `Io` where a read failed, and `NoMemory` where
-/// memory isn't granted. The device comes back with an error.
+/// The mount finds the order in which the directories have their names. In littlefs's own code the
+/// longer name comes first where one is the beginning of the other (`lfs_dir_find_match`). Where
+/// both orders fit, the call takes that one.
+///
+/// Errors: `Corrupt` exactly where the image is accepted in neither order. `Io` where a read
+/// failed, and `NoMemory` where memory isn't granted. The device comes back with an error.
 pub fn mount<D: BlockDevice>(alloc: Global, device: D) -> Result<Thread<D>, (D, Error)>
-    ensures mounted { IfOk result (IsMountedThread (disk_of_device D.BlockDevice device) (D.history device)) }
-    ensures corrupt { IfErr result (λ e. e.1 ≡ Error.Corrupt → (ps : List ThreadPair) → ¬ IsAcceptedImage (disk_of_device D.BlockDevice device) ps) }
+    ensures mounted { IfOk result (λ t. IsMountedThread (disk_in_order t.kept.disk.order (disk_of_device D.BlockDevice device)) (D.history device) t) }
+    ensures longer { IfOk result (λ t. t.kept.disk.order ≡ ShorterFirst → (ps : List ThreadPair) → ¬ IsAcceptedImage (disk_in_order LongerFirst (disk_of_device D.BlockDevice device)) ps) }
+    ensures corrupt { IfErr result (λ e. e.1 ≡ Error.Corrupt → (order : NameOrder) (ps : List ThreadPair) → ¬ IsAcceptedImage (disk_in_order order (disk_of_device D.BlockDevice device)) ps) }
     ensures errors { IfErr result (λ e. IsIoCorruptOrNoMemory e.1) }
     ensures back { IfErr result (λ e. GivesDeviceBackOnlyReadWithError D.BlockDevice device e.0 e.1) }
-    ensures called { IfOk result (λ t. read_count_of_history (D.history device) < read_count_of_history t.kept.history) }
     // Those of a fetch and one more for each pair, two more, and one for each block of a file's list.
-    ensures few { IfOk result (λ t. read_count_of_history t.kept.history ≤ read_count_of_history (D.history device) + mount_read_count (disk_of_device D.BlockDevice device) t.kept.pairs) }
+    ensures few { IfOk result (HasAtMostMountReads (disk_of_device D.BlockDevice device) (D.history device)) }
 {
-    let (thread, orders) = read_and_check_image(alloc, device)?;
-    if !orders.has_name_order(thread.device().geometry().order) {
+    let (mut thread, orders) = read_and_check_image(alloc, device)?;
+    match orders.preferred() {
+        Some(order) => {
+            thread.set_order(order);
+            Ok(thread)
+        }
+        None => Err((thread.into_device(), Error::Corrupt)),
+    }
+}
+
+/// Mounts the image of a device as [`mount`] does, where its directories have their names in that
+/// order.
+///
+/// Errors: `Corrupt` exactly where the image isn't accepted in that order, and those of [`mount`].
+pub fn mount_in_order<D: BlockDevice>(
+    alloc: Global,
+    device: D,
+    order: NameOrder,
+) -> Result<Thread<D>, (D, Error)>
+    ensures mounted { IfOk result (IsMountedThread (disk_in_order order (disk_of_device D.BlockDevice device)) (D.history device)) }
+    ensures corrupt { IfErr result (λ e. e.1 ≡ Error.Corrupt → (ps : List ThreadPair) → ¬ IsAcceptedImage (disk_in_order order (disk_of_device D.BlockDevice device)) ps) }
+    ensures errors { IfErr result (λ e. IsIoCorruptOrNoMemory e.1) }
+    ensures back { IfErr result (λ e. GivesDeviceBackOnlyReadWithError D.BlockDevice device e.0 e.1) }
+    ensures few { IfOk result (HasAtMostMountReads (disk_of_device D.BlockDevice device) (D.history device)) }
+{
+    let (mut thread, orders) = read_and_check_image(alloc, device)?;
+    if !orders.contains(order) {
         return Err((thread.into_device(), Error::Corrupt));
     }
+    thread.set_order(order);
     Ok(thread)
 }
 
@@ -62,7 +95,7 @@ pub(crate) fn read_and_check_image<D: BlockDevice>(
     device: D,
 ) -> Result<(Thread<D>, NameOrderSet), (D, Error)>
     ensures read { IfOk result (λ r. IsAcceptedInNameOrders (disk_of_device D.BlockDevice device) (D.history device) r.0 r.1) }
-    ensures corrupt { IfErr result (λ e. e.1 ≡ Error.Corrupt → (order : NameOrder) (ps : List ThreadPair) → ¬ IsAcceptedImage (disk_with_name_order order (disk_of_device D.BlockDevice device)) ps) }
+    ensures corrupt { IfErr result (λ e. e.1 ≡ Error.Corrupt → (order : NameOrder) (ps : List ThreadPair) → ¬ IsAcceptedImage (disk_in_order order (disk_of_device D.BlockDevice device)) ps) }
     ensures errors { IfErr result (λ e. IsIoCorruptOrNoMemory e.1) }
     ensures back { IfErr result (λ e. GivesDeviceBackOnlyReadWithError D.BlockDevice device e.0 e.1) }
 {
@@ -91,8 +124,8 @@ fn check_image<D: BlockDevice>(
     state: &MoveState,
 ) -> Result<NameOrderSet, Error>
     requires { IsThreadReadFromDisk (disk_of_device D.BlockDevice device.old) (D.history device.old) pairs.now map.old (move_view state.now) }
-    ensures image { IfOk result (λ orders. (order : NameOrder) → HasAcceptedImageIfNameOrderFits (disk_with_name_order order (disk_of_device D.BlockDevice device.old)) pairs.now (includes_name_order order orders) map.old map.new) }
-    ensures corrupt { IsErrOf result Error.Corrupt → (order : NameOrder) (ps : List ThreadPair) → ¬ IsAcceptedImage (disk_with_name_order order (disk_of_device D.BlockDevice device.old)) ps }
+    ensures image { IfOk result (λ orders. (order : NameOrder) → HasAcceptedImageIfNameOrderFits (disk_in_order order (disk_of_device D.BlockDevice device.old)) pairs.now (includes_name_order order orders) map.old map.new) }
+    ensures corrupt { IsErrOf result Error.Corrupt → (order : NameOrder) (ps : List ThreadPair) → ¬ IsAcceptedImage (disk_in_order order (disk_of_device D.BlockDevice device.old)) ps }
     ensures device { ReadsOnly D.BlockDevice device.old device.new }
     ensures errors { ReportsMountErrorsAndFaults D.BlockDevice device.old device.new result }
     ensures few { IfOk result (λ orders. (order : NameOrder) → includes_name_order order orders ≡ true
@@ -155,11 +188,11 @@ fn check_directories<D: BlockDevice>(
 ) -> Result<NameOrderSet, Error>
     requires { AreDirectoryHeadersOfThread (disk_of_device D.BlockDevice device.old) map.old (move_view state.now) pairs.now }
     ensures ok { IfOk result (λ orders. (order : NameOrder) (chain : List ThreadPair) (p : ThreadPair) (rest : List ThreadPair)
-        → IsThreadMatchingMapAndDirectoryHeaders (disk_with_name_order order (disk_of_device D.BlockDevice device.old)) map.old (move_view state.now) pairs.now chain p rest
-        → IsImageAcceptedIfDirectoriesFitNameOrder (disk_with_name_order order (disk_of_device D.BlockDevice device.old)) (includes_name_order order orders) map.old map.new chain p rest) }
+        → IsThreadMatchingMapAndDirectoryHeaders (disk_in_order order (disk_of_device D.BlockDevice device.old)) map.old (move_view state.now) pairs.now chain p rest
+        → IsImageAcceptedIfDirectoriesFitNameOrder (disk_in_order order (disk_of_device D.BlockDevice device.old)) (includes_name_order order orders) map.old map.new chain p rest) }
     ensures corrupt { IsErrOf result Error.Corrupt → (order : NameOrder) (chain : List ThreadPair) (p : ThreadPair) (rest : List ThreadPair)
-        → IsThreadMatchingMapAndDirectoryHeaders (disk_with_name_order order (disk_of_device D.BlockDevice device.old)) map.old (move_view state.now) pairs.now chain p rest
-        → ¬ IsAcceptedImage (disk_with_name_order order (disk_of_device D.BlockDevice device.old)) (chain ++ p ∷ rest) }
+        → IsThreadMatchingMapAndDirectoryHeaders (disk_in_order order (disk_of_device D.BlockDevice device.old)) map.old (move_view state.now) pairs.now chain p rest
+        → ¬ IsAcceptedImage (disk_in_order order (disk_of_device D.BlockDevice device.old)) (chain ++ p ∷ rest) }
     ensures device { ReadsOnly D.BlockDevice device.old device.new }
     ensures errors { ReportsMountErrorsAndFaults D.BlockDevice device.old device.new result }
     ensures few { OnOk result (read_count_of_history (D.history device.new) ≤ read_count_of_history (D.history device.old) + sum_by (pair_read_count (disk_of_device D.BlockDevice device.old)) (pair_descriptions_of_headers (move_view state.now) true pairs.now)) }

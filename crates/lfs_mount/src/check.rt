@@ -2,7 +2,7 @@
 
 ghost use Rattle.std.specs.Prelude.{List, ◌≡◌, ◌≤◌, ◌+◌, ◌++◌, ◌∷◌, IfOk, OnOk, IsErrOf, sum_by};
 ghost use Rattle.lfs_device.specs.Calls.{ReadsOnly};
-ghost use Rattle.lfs_device.specs.Shown.{disk_with_name_order};
+ghost use Rattle.lfs_model.specs.Disk.{disk_in_order};
 ghost use Rattle.lfs_model.specs.History.{read_count_of_history};
 ghost use Rattle.lfs_model.specs.Thread.{Pair};
 ghost use Rattle.lfs_model.specs.View.{IsAcceptedImage};
@@ -47,11 +47,11 @@ pub(crate) fn check_slots_and_mark_lists_of_thread<D: BlockDevice>(
 ) -> Result<NameOrderSet, Error>
     requires { HasThreadMatchingMapAndPairDescriptions (disk_of_device D.BlockDevice device.old) map.old places.now members.now sync }
     ensures ok { IfOk result (λ orders. (order : NameOrder) (chain : List Pair) (p : Pair) (rest : List Pair)
-        → IsThreadMatchingMapAndPairDescriptions (disk_with_name_order order (disk_of_device D.BlockDevice device.old)) map.old places.now members.now sync chain p rest
-        → IsImageAcceptedIfDirectoriesFitNameOrder (disk_with_name_order order (disk_of_device D.BlockDevice device.old)) (includes_name_order order orders) map.old map.new chain p rest) }
+        → IsThreadMatchingMapAndPairDescriptions (disk_in_order order (disk_of_device D.BlockDevice device.old)) map.old places.now members.now sync chain p rest
+        → IsImageAcceptedIfDirectoriesFitNameOrder (disk_in_order order (disk_of_device D.BlockDevice device.old)) (includes_name_order order orders) map.old map.new chain p rest) }
     ensures corrupt { IsErrOf result Error.Corrupt → (order : NameOrder) (chain : List Pair) (p : Pair) (rest : List Pair)
-        → IsThreadMatchingMapAndPairDescriptions (disk_with_name_order order (disk_of_device D.BlockDevice device.old)) map.old places.now members.now sync chain p rest
-        → ¬ IsAcceptedImage (disk_with_name_order order (disk_of_device D.BlockDevice device.old)) (chain ++ p ∷ rest) }
+        → IsThreadMatchingMapAndPairDescriptions (disk_in_order order (disk_of_device D.BlockDevice device.old)) map.old places.now members.now sync chain p rest
+        → ¬ IsAcceptedImage (disk_in_order order (disk_of_device D.BlockDevice device.old)) (chain ++ p ∷ rest) }
     ensures device { ReadsOnly D.BlockDevice device.old device.new }
     ensures errors { ReportsMountErrorsAndFaults D.BlockDevice device.old device.new result }
     // One read for each pair, and those of the files' lists.

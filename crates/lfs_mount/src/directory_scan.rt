@@ -11,7 +11,8 @@ ghost use Rattle.lfs_mount.specs.Scanned.{directory_scan_after_slots};
 use crate::entry::{NamedStruct, file_or_directory_entry_in_slot};
 use crate::orders::NameOrderSet;
 use crate::reachability::Directory;
-use lfs_device::{Error, NameOrder};
+use lfs_device::Error;
+use lfs_model::NameOrder;
 use lfs_tag::{Slot, Struct, name_cmp};
 use lfs_thread::PairAddressList;
 use std::alloc::Global;
@@ -53,7 +54,7 @@ impl ScannedDirectory {
         ScannedDirectory {
             last: Vec::new(alloc),
             directory: Directory {
-                sound_in: NameOrderSet::both_or_no_name_orders(true),
+                sound_in: NameOrderSet::both_or_none(true),
                 branches: Vec::new(alloc),
             },
         }
@@ -79,12 +80,12 @@ impl ScannedDirectory {
         ensures error { IfErr result (λ e. e ≡ Error.NoMemory) }
     {
         let rises = orders_in_which_name_follows(&self.last, entry.name);
-        self.directory.sound_in = self.directory.sound_in.intersect_name_orders(rises);
+        self.directory.sound_in = self.directory.sound_in.intersect(rises);
         self.set_last_name(entry.name)?;
         if let Struct::Branch(pair) = entry.target {
             match places.find(pair) {
                 Some(place) => self.directory.branches.push(place)?,
-                None => self.directory.sound_in = NameOrderSet::both_or_no_name_orders(false),
+                None => self.directory.sound_in = NameOrderSet::both_or_none(false),
             }
         }
         Ok(())

@@ -10,11 +10,9 @@ mod entry;
 mod lists;
 mod members;
 mod moves;
-mod order_choice;
 mod orders;
 mod pass;
 mod reachability;
 mod superblock_chain;
 
-pub use accepted_images::mount;
-pub use order_choice::mount_with_either_name_order;
+pub use accepted_images::{mount, mount_in_order};

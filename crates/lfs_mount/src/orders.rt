@@ -5,7 +5,7 @@ ghost use Rattle.lfs_model.specs.declared.order.NameOrder.{NameOrder};
 ghost use Rattle.lfs_model.specs.declared.order.NameOrder.TheVariants.{LongerFirst, ShorterFirst};
 ghost use Rattle.lfs_mount.specs.Orders.{includes_name_order};
 
-use lfs_device::NameOrder;
+use lfs_model::NameOrder;
 
 // The orders of names in which something holds.
 #[derive(Clone, Copy, Drop)]
@@ -16,7 +16,7 @@ pub(crate) struct NameOrderSet {
 
 impl NameOrderSet {
     // Returns both orders, or none.
-    pub fn both_or_no_name_orders(both: bool) -> NameOrderSet
+    pub fn both_or_none(both: bool) -> NameOrderSet
         ensures { (order : NameOrder) → includes_name_order order result ≡ both }
     {
         NameOrderSet {
@@ -25,7 +25,7 @@ impl NameOrderSet {
         }
     }
 
-    pub fn has_name_order(self, order: NameOrder) -> bool
+    pub fn contains(self, order: NameOrder) -> bool
         ensures { result ≡ includes_name_order order self }
     {
         match order {
@@ -35,7 +35,7 @@ impl NameOrderSet {
     }
 
     // Returns the orders that are in both sets.
-    pub fn intersect_name_orders(self, other: NameOrderSet) -> NameOrderSet
+    pub fn intersect(self, other: NameOrderSet) -> NameOrderSet
         ensures { (order : NameOrder) → includes_name_order order result ≡ (includes_name_order order self && includes_name_order order other) }
     {
         NameOrderSet {
@@ -46,7 +46,7 @@ impl NameOrderSet {
 
     // Returns the order to take: the longer names first where both orders hold, as in littlefs's
     // own code.
-    pub fn preferred_name_order(self) -> Option<NameOrder>
+    pub fn preferred(self) -> Option<NameOrder>
         ensures holds { IfSome result (λ order. includes_name_order order self ≡ true) }
         ensures longer { result ≡ Some ShorterFirst → includes_name_order LongerFirst self ≡ false }
         ensures none { result ≡ None → (order : NameOrder) → includes_name_order order self ≡ false }

@@ -2,7 +2,7 @@
 
 ghost use Rattle.std.specs.Prelude.{◌≡◌, ◌≤◌, ◌<◌, ◌+◌, All, IfOk, OnOk, IfErr, IsErrOf, None, Some, is_some, map, sum_by};
 ghost use Rattle.lfs_device.specs.Calls.{ReadsOnly};
-ghost use Rattle.lfs_device.specs.Shown.{disk_with_name_order};
+ghost use Rattle.lfs_model.specs.Disk.{disk_in_order};
 ghost use Rattle.lfs_model.specs.BlockSets.{BlockStateList};
 ghost use Rattle.lfs_model.specs.History.{read_count_of_history};
 ghost use Rattle.lfs_model.specs.Names.{Name};
@@ -94,8 +94,8 @@ fn scan_pair_and_mark_lists<D: BlockDevice>(
     member: &PairBeforeSlotsAreRead,
 ) -> Result<(), Error>
     requires { member.now.active < (D.geometry device.old).block_count }
-    ensures taken { OnOk result ((order : NameOrder) → AddsPairToDirectoryScan (disk_with_name_order order (disk_of_device D.BlockDevice device.old)) places.now member.now (directory_scan_view order known.old) map.old (directory_scan_view order known.new) map.new) }
-    ensures corrupt { IsErrOf result Error.Corrupt → (order : NameOrder) (new : Name × DirectoryVertexWithSoundnessAndBranches) (sets : BlockStateList) → ¬ AddsPairToDirectoryScan (disk_with_name_order order (disk_of_device D.BlockDevice device.old)) places.now member.now (directory_scan_view order known.old) map.old new sets }
+    ensures taken { OnOk result ((order : NameOrder) → AddsPairToDirectoryScan (disk_in_order order (disk_of_device D.BlockDevice device.old)) places.now member.now (directory_scan_view order known.old) map.old (directory_scan_view order known.new) map.new) }
+    ensures corrupt { IsErrOf result Error.Corrupt → (order : NameOrder) (new : Name × DirectoryVertexWithSoundnessAndBranches) (sets : BlockStateList) → ¬ AddsPairToDirectoryScan (disk_in_order order (disk_of_device D.BlockDevice device.old)) places.now member.now (directory_scan_view order known.old) map.old new sets }
     ensures device { ReadsOnly D.BlockDevice device.old device.new }
     ensures errors { ReportsMountErrorsAndFaults D.BlockDevice device.old device.new result }
     ensures few { OnOk result (read_count_of_history (D.history device.new) ≤ read_count_of_history (D.history device.old) + pair_read_count (disk_of_device D.BlockDevice device.old) member.now) }
@@ -120,8 +120,8 @@ pub(crate) fn scan_pairs_and_mark_lists<D: BlockDevice>(
     members: &[PairBeforeSlotsAreRead],
 ) -> Result<Vec<Directory>, Error>
     requires { All (λ m. m.active < (D.geometry device.old).block_count) members.now }
-    ensures taken { IfOk result (λ ds. (order : NameOrder) → ScansPairsIntoDirectoryGraph (disk_with_name_order order (disk_of_device D.BlockDevice device.old)) places.now empty_directory_scan map.old members.now (directory_graph_view order ds.items) map.new) }
-    ensures corrupt { IsErrOf result Error.Corrupt → (order : NameOrder) (graph : DirectoryGraph) (end : BlockStateList) → ¬ ScansPairsIntoDirectoryGraph (disk_with_name_order order (disk_of_device D.BlockDevice device.old)) places.now empty_directory_scan map.old members.now graph end }
+    ensures taken { IfOk result (λ ds. (order : NameOrder) → ScansPairsIntoDirectoryGraph (disk_in_order order (disk_of_device D.BlockDevice device.old)) places.now empty_directory_scan map.old members.now (directory_graph_view order ds.items) map.new) }
+    ensures corrupt { IsErrOf result Error.Corrupt → (order : NameOrder) (graph : DirectoryGraph) (end : BlockStateList) → ¬ ScansPairsIntoDirectoryGraph (disk_in_order order (disk_of_device D.BlockDevice device.old)) places.now empty_directory_scan map.old members.now graph end }
     ensures device { ReadsOnly D.BlockDevice device.old device.new }
     ensures errors { ReportsMountErrorsAndFaults D.BlockDevice device.old device.new result }
     ensures few { OnOk result (read_count_of_history (D.history device.new) ≤ read_count_of_history (D.history device.old) + sum_by (pair_read_count (disk_of_device D.BlockDevice device.old)) members.now) }

@@ -10,7 +10,8 @@ ghost use Rattle.lfs_mount.specs.Orders.{includes_name_order};
 ghost use Rattle.lfs_mount.specs.Reaching.{AreMarksOfReachedDirectories, MeetsUnsoundOrRepeatedVertex, FindsNewDirectories, AreMarksOfFoundDirectories};
 
 use crate::orders::NameOrderSet;
-use lfs_device::{Error, NameOrder};
+use lfs_device::Error;
+use lfs_model::NameOrder;
 use std::alloc::Global;
 
 // What is known of a directory by itself.
@@ -67,7 +68,7 @@ fn reached_directories(
     let mut next = 0;
     while next < found.len() {
         let directory = &directories[found[next] as usize];
-        if !directory.sound_in.has_name_order(order) {
+        if !directory.sound_in.contains(order) {
             return Err(Error::Corrupt);
         }
         mark_branches_found(&mut is_found, &mut found, &directory.branches)?;

@@ -3,7 +3,7 @@
 ghost use Rattle.std.specs.Prelude.{ℕ, List, ◌≡◌, ◌↔◌, ◌⊎◌, ◌<◌, ◌≤◌, ◌+◌, length, IsTrue, IfOk, IfErr, IsErrOf, OnOk, None, Some, map};
 ghost use Rattle.std.specs.Option.{option_map};
 ghost use Rattle.lfs_device.specs.Calls.{ReadsOnly, ReportsFaults};
-ghost use Rattle.lfs_device.specs.Shown.{disk_with_name_order};
+ghost use Rattle.lfs_model.specs.Disk.{disk_in_order};
 ghost use Rattle.lfs_model.specs.Blocks.{block_bytes_by_number};
 ghost use Rattle.lfs_model.specs.History.{read_count_of_history};
 ghost use Rattle.lfs_model.specs.View.{BeginsWithLogEntry, IsAcceptedImage, superblock_name_log_entry};
@@ -250,7 +250,7 @@ pub(crate) fn superblock_chain_length<D: BlockDevice>(
 ) -> Result<usize, Error>
     requires { AreHeadersOfDiskThread (disk_of_device D.BlockDevice dev.old) (D.history dev.old) pairs.now }
     ensures head { IfOk result (HasSuperblockChainOfLength (disk_of_device D.BlockDevice dev.old) (pairs_of_headers (disk_of_device D.BlockDevice dev.old) pairs.now)) }
-    ensures corrupt { IsErrOf result Error.Corrupt → (order : NameOrder) → ¬ IsAcceptedImage (disk_with_name_order order (disk_of_device D.BlockDevice dev.old)) (pairs_of_headers (disk_of_device D.BlockDevice dev.old) pairs.now) }
+    ensures corrupt { IsErrOf result Error.Corrupt → (order : NameOrder) → ¬ IsAcceptedImage (disk_in_order order (disk_of_device D.BlockDevice dev.old)) (pairs_of_headers (disk_of_device D.BlockDevice dev.old) pairs.now) }
     ensures device { ReadsOnly D.BlockDevice dev.old dev.new }
     ensures errors { IfErr result (λ e. (e ≡ Error.Corrupt) ⊎ ((e ≡ Error.Io) ⊎ (e ≡ Error.NoMemory))) }
     ensures faults { ReportsFaults D.BlockDevice dev.old dev.new result }

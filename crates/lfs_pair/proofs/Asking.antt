@@ -13,7 +13,7 @@ use Rattle.lfs_model.specs.Content.{RawPairContent}
 use Rattle.lfs_model.specs.Disk.{Disk}
 use Rattle.lfs_model.specs.Thread.{blocks_of_pair_address}
 use Rattle.lfs_pair.specs.declared.pair.Pair.{Pair}
-use Rattle.lfs_pair.specs.Commit.{CanAppendChanges, CannotAppendAndKeepsDisk, IsLogEndKnown, PowerLossLeavesOldOrNewContent}
+use Rattle.lfs_pair.specs.Commit.{CanAppendChanges, CannotAppend, IsLogEndKnown, PowerLossLeavesOldOrNewContent}
 use Rattle.lfs_pair.specs.Writing.{AsksAboutBlankBytes, ChangesOnlyBlocksWithinReadLimit, DiffersOnlyInBlockAsPropertyAllows, SaysBytesAreBlank}
 
 -- what can be appended by a history with no word more, can be by the one before
@@ -100,13 +100,13 @@ module _ {D : Type 0} (g : Ghosts D) where
 
   -- where nothing was appended the disk and its calls are as before
 
-  pub kept_disk : {changes : List PairContentChange} {old new : D} {was now : Pair} (P : Geometry → Blocks → List DeviceCallEvent → Type 0) → CannotAppendAndKeepsDisk g changes old new was now
+  pub kept_disk : {changes : List PairContentChange} {old new : D} {was now : Pair} (P : Geometry → Blocks → List DeviceCallEvent → Type 0) → CannotAppend g changes old new was now
       → P (g.geometry new) (g.blocks new) (g.history new) → P (g.geometry old) (g.blocks old) (g.history old)
   kept_disk {old = old} {new = new} P kept is =
       subst (λ k. P k (g.blocks old) (g.history old)) kept.geometry
       (subst (λ b. P (g.geometry new) b (g.history old)) kept.blocks (subst (P (g.geometry new) (g.blocks new)) kept.history is))
 
-  pub kept_unread : {changes : List PairContentChange} {old new : D} {was now : Pair} (bs : List ℕ) → CannotAppendAndKeepsDisk g changes old new was now → ChangesOnlyBlocksWithinReadLimit g 0 bs old new
+  pub kept_unread : {changes : List PairContentChange} {old new : D} {was now : Pair} (bs : List ℕ) → CannotAppend g changes old new was now → ChangesOnlyBlocksWithinReadLimit g 0 bs old new
   kept_unread {old = old} {new = new} bs kept =
       let asks : AsksAboutBlankBytes g old new = record { same = kept.blocks; geometry = kept.geometry; asked = inl kept.history } in
       record { only = asks_only bs asks; few = let same = asks_reads asks in omega (arith, same) }

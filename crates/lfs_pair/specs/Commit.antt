@@ -129,7 +129,7 @@ pub record AppendsChanges (old : Disk) (before : List DeviceCallEvent) (was : Pa
   pub appended : IsCommitAppended old.page was changes old.blocks disk.blocks before history pair
 
 -- the changes can't be appended; the disk, its calls and the header are as before
-pub record CannotAppendAndKeepsDisk {D : Type 0} (g : Ghosts D) (changes : List PairContentChange) (old new : D) (was now : Pair) : Type 0 where
+pub record CannotAppend {D : Type 0} (g : Ghosts D) (changes : List PairContentChange) (old new : D) (was now : Pair) : Type 0 where
   pub no_room : CanAppendChanges (disk_of_geometry_and_blocks (g.geometry old) (g.blocks old)) (g.history old) (g.history new) was changes → ⊥
   pub blocks : g.blocks new ≡ g.blocks old
   pub geometry : g.geometry new ≡ g.geometry old

@@ -12,7 +12,7 @@ ghost use Rattle.lfs_tag.specs.ContentView.{content_view};
 ghost use Rattle.lfs_model.specs.Content.{RawPairContent};
 ghost use Rattle.lfs_pair.specs.Pair.{IsPairOnDiskAsHeaderSays, pair_address_in_header};
 ghost use Rattle.lfs_pair.specs.ChangeView.{changes_view};
-ghost use Rattle.lfs_pair.specs.Commit.{pair_content_after_changes, AppendsChanges, CanCommit, CommitsChangesToPair, CompactsToContent, CommitFailsKeepingHeader, CannotAppendAndKeepsDisk, IsLogEndBlank, RefusesCommit, IsPairAddressOnDisk, HeaderSaysActiveBlock, PowerLossLeavesOldOrChangedContent, PowerLossLeavesOldOrNewContent};
+ghost use Rattle.lfs_pair.specs.Commit.{pair_content_after_changes, AppendsChanges, CanCommit, CommitsChangesToPair, CompactsToContent, CommitFailsKeepingHeader, CannotAppend, IsLogEndBlank, RefusesCommit, IsPairAddressOnDisk, HeaderSaysActiveBlock, PowerLossLeavesOldOrChangedContent, PowerLossLeavesOldOrNewContent};
 ghost use Rattle.lfs_pair.specs.Writing.{AsksAboutBlankBytes, ChangesOnlyBlocksWithinReadLimit, WritesOnlyTheseBlocks};
 ghost use Rattle.lfs_model.specs.Thread.{blocks_of_pair_address};
 
@@ -117,7 +117,7 @@ pub fn commit_with_block_bytes<'a, 'b: 'a, D: BlockDevice>(
 
 // Tells whether the bytes after a pair's log are unprogrammed. Where the pair was fetched and not
 // written to since then, the device is asked.
-fn is_log_end_blank<D: BlockDevice>(dev: &mut D, pair: &Pair) -> Result<bool, Error>
+fn is_end_blank<D: BlockDevice>(dev: &mut D, pair: &Pair) -> Result<bool, Error>
     requires address { IsPairAddressOnDisk (disk_of_geometry_and_blocks (D.geometry dev.old) (D.blocks dev.old)) (pair_address_in_header pair.now) }
     requires pair { (held : RawPairContent) × IsPairOnDiskAsHeaderSays (disk_of_geometry_and_blocks (D.geometry dev.old) (D.blocks dev.old)) (D.history dev.old) pair.now held }
 
@@ -155,7 +155,7 @@ fn append_changes_to_log<D: BlockDevice>(
 
     ensures done { result ≡ Ok true → AppendsChanges (disk_of_geometry_and_blocks (D.geometry dev.old) (D.blocks dev.old)) (D.history dev.old) pair.old (changes_view changes.now) (content_view content.now)
         (disk_of_geometry_and_blocks (D.geometry dev.new) (D.blocks dev.new)) (D.history dev.new) pair.new }
-    ensures no_room { result ≡ Ok false → CannotAppendAndKeepsDisk D.BlockDevice (changes_view changes.now) dev.old dev.new pair.old pair.new }
+    ensures no_room { result ≡ Ok false → CannotAppend D.BlockDevice (changes_view changes.now) dev.old dev.new pair.old pair.new }
     ensures buf { length buf.new ≡ length buf.old }
     ensures err_pair { OnErr result (pair.new ≡ pair.old) }
     ensures writes { WritesOnlyTheseBlocks D.BlockDevice 1 (blocks_of_pair_address (pair_address_in_header pair.old)) dev.old dev.new result }
@@ -168,7 +168,7 @@ fn append_changes_to_log<D: BlockDevice>(
     if room < builder.end_of_padded_commit() {
         return Ok(false);
     }
-    let is_blank = is_log_end_blank(dev, pair)?;
+    let is_blank = is_end_blank(dev, pair)?;
     if !is_blank {
         return Ok(false);
     }

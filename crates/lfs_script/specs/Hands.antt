@@ -2,7 +2,8 @@
 use Rattle.std.specs.Prelude.{◌≡◌, ◌-◌, ◌^◌, List, Option, Some, None, min}
 use Rattle.lfs_device.specs.FaultDevice.{history_of_fault_device, inner_of_fault_device}
 use Rattle.lfs_device.specs.RamDevice.{ram_blocks, geometry_of_ram_device}
-use Rattle.lfs_device.specs.Shown.{disk_of_geometry_and_blocks, disk_with_name_order}
+use Rattle.lfs_device.specs.Shown.{disk_of_geometry_and_blocks}
+use Rattle.lfs_model.specs.Disk.{disk_in_order}
 use Rattle.lfs_device.specs.declared.ram.RamDevice.{RamDevice}
 use Rattle.lfs_fs.specs.SessionView.{SessionView}
 use Rattle.lfs_fs.specs.declared.run.Reply.TheVariants.{Done}
@@ -15,7 +16,7 @@ use Rattle.lfs_script.specs.declared.hand.ScriptDevice.TheVariants as hand
 
 -- The device shows the session's disk, and has had its calls.
 pub record IsDeviceLeftBySession (session : SessionView) (ram : RamDevice) (calls : List DeviceCallEvent) : Type 0 where
-  pub disk : disk_with_name_order session.tree.disk.order (disk_of_geometry_and_blocks (geometry_of_ram_device ram) (ram_blocks ram)) ≡ session.tree.disk
+  pub disk : disk_in_order session.tree.disk.order (disk_of_geometry_and_blocks (geometry_of_ram_device ram) (ram_blocks ram)) ≡ session.tree.disk
   pub history : calls ≡ session.tree.history
 
 -- how many calls there were, and how many of them failed; no count passes the largest number of 64 bits

@@ -1,6 +1,7 @@
 // The commands of lines.
 
-use lfs_device::{Erased, NameOrder, PlannedFault};
+use lfs_device::{Erased, PlannedFault};
+use lfs_model::NameOrder;
 use lfs_fs::OpenFlags;
 use lfs_model::Profile;
 

@@ -9,7 +9,8 @@ use crate::arguments::{
 };
 use crate::command::ComparisonScope;
 use crate::lines::LineError;
-use lfs_device::{CountedCalls, Erased, FaultExtent, NameOrder, PlannedFault};
+use lfs_device::{CountedCalls, Erased, FaultExtent, PlannedFault};
+use lfs_model::NameOrder;
 
 // Returns how much of two sessions is compared.
 pub(crate) fn comparison_scope_of_words(words: &[&[u8]]) -> Result<ComparisonScope, LineError>

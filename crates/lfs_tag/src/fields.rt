@@ -54,7 +54,7 @@ impl Superblock {
     /// Version 2.0, which is written.
     pub const VERSION: u32 = 0x0002_0000;
 
-    /// Version 2.1, which is only read.
+    /// Version 2.1. It is read and changed where a profile accepts it, and isn't made.
     pub const LATER_VERSION: u32 = 0x0002_0001;
 
     /// Returns the superblock's fields for a fresh image: the on-disk version, the device's

@@ -17,7 +17,7 @@ use crate::search::find_slot_name;
 use crate::slot_count::slot_count;
 use crate::steps::Steps;
 use arrayvec::ArrayVec;
-use lfs_device::NameOrder;
+use lfs_model::NameOrder;
 use std::cmp::Ordering;
 
 /// Where a name is among a log's slots.

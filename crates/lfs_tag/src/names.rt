@@ -4,7 +4,7 @@ ghost use Rattle.std.specs.Prelude.{◌≡◌, ◌==◌, ◌||◌, not};
 ghost use Rattle.std.specs.List.{list_all};
 ghost use Rattle.lfs_model.specs.Names.{is_path_component, is_valid_name, name_cmp_longer_first, name_cmp, same_name, slash_byte};
 
-use lfs_device::NameOrder;
+use lfs_model::NameOrder;
 use std::cmp::Ordering;
 
 /// Returns whether a path may have such a component, of any length. It isn't empty, has neither a

@@ -1,5 +1,6 @@
 pub mod CachedLogs
 pub mod Keeping
+mod InOrder
 pub mod Changing
 pub mod Coming
 pub mod Parting

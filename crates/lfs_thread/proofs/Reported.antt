@@ -1,5 +1,5 @@
 -- What a call says of the device, in the words of the thread.
-use Rattle.std.proofs.Common.{ℕ, List, ◌≡◌, ◌≢◌, ◌⊎◌, ◌∙◌, sym, ap, ap₂, subst, Result, Ok, Err}
+use Rattle.std.proofs.Common.{ℕ, List, ◌≡◌, ◌≢◌, ◌⊎◌, ◌∙◌, refl, sym, ap, ap₂, subst, Result, Ok, Err}
 use Rattle.std.specs.Prelude.{All, IfErr}
 use Rattle.std.proofs.lemmas.List.Elements.{All-drop, All-take}
 use Rattle.lfs_device.specs.declared.device.BlockDevice.{Ghosts}
@@ -10,21 +10,23 @@ use Rattle.lfs_device.specs.Calls.{ChangesOnlyTheseBlocks, ReadsOnly}
 use Rattle.lfs_device.specs.Shown.{disk_of_geometry_and_blocks}
 use Rattle.lfs_model.specs.Blocks.{Blocks, AreBlocksEqualExceptThese}
 use Rattle.lfs_model.specs.BlockSets.{BlockStateList}
+use Rattle.lfs_model.specs.Disk.{disk_in_order}
+use Rattle.lfs_model.specs.declared.order.NameOrder.{NameOrder}
 use Rattle.lfs_model.proofs.Histories.{IsTrueAfterAnyPowerLossSince-weaker, AreBytesStillUnprogrammed-trans, AreBytesStillUnprogrammed-wider, goes_on_by}
 use Rattle.lfs_model.proofs.Overwrites.{AreBlocksEqualExceptThese-trans, AreBlocksEqualExceptThese-wider}
 use Rattle.lfs_pair.specs.declared.pair.Pair.{Pair}
 use Rattle.lfs_pair.specs.Commit.{CommitFailsKeepingHeader}
 use Rattle.lfs_pair.specs.Writing.{ChangesOnlyBlocksWithinReadLimit}
 use Rattle.lfs_thread.specs.Device.{IoMeansFaultNoMemoryWritesNothing, IoMeansFaultNoMemoryKeepsOtherBlocks}
-use Rattle.lfs_thread.specs.Kept.{PairHeader, kept_thread_of_device}
+use Rattle.lfs_thread.specs.Kept.{PairHeader, kept_thread_in_order}
 use Rattle.lfs_thread.specs.Steps.{IoMeantFaultNoMemoryWroteNothing, IoMeantFaultNoMemoryKeptOtherBlocks, IsDeviceOnlyRead, ThreadChangesOnlyTheseBlocks, ThreadChangesOnlyBlocksWithinReadLimit}
 use Rattle.lfs_model.specs.Thread.{blocks_of_pair_address, blocks_of_two_pair_addresses}
 
-module _ {D : Type 0} (g : Ghosts D) (old new : D) (hs now_hs : List PairHeader) (sets now_sets : BlockStateList) where
-  pub unwritten_from : ReadsOnly g old new → IsDeviceOnlyRead (kept_thread_of_device g old hs sets) (kept_thread_of_device g new now_hs now_sets)
-  unwritten_from r = record { disk = ap₂ disk_of_geometry_and_blocks r.geometry r.same; reads = r.reads }
+module _ {D : Type 0} (g : Ghosts D) (order : NameOrder) (old new : D) (hs now_hs : List PairHeader) (sets now_sets : BlockStateList) where
+  pub unwritten_from : ReadsOnly g old new → IsDeviceOnlyRead (kept_thread_in_order g order old hs sets) (kept_thread_in_order g order new now_hs now_sets)
+  unwritten_from r = record { disk = ap₂ (λ k bs. disk_in_order order (disk_of_geometry_and_blocks k bs)) r.geometry r.same; reads = r.reads }
 
-  pub reported_from : {X : Type 0} (result : Result X Error) → IoMeansFaultNoMemoryWritesNothing g old new result → IoMeantFaultNoMemoryWroteNothing (kept_thread_of_device g old hs sets) (kept_thread_of_device g new now_hs now_sets) result
+  pub reported_from : {X : Type 0} (result : Result X Error) → IoMeansFaultNoMemoryWritesNothing g old new result → IoMeantFaultNoMemoryWroteNothing (kept_thread_in_order g order old hs sets) (kept_thread_in_order g order new now_hs now_sets) result
   reported_from result t = record {
     errors = t.errors;
     fault = t.faults.fault;
@@ -32,26 +34,26 @@ module _ {D : Type 0} (g : Ghosts D) (old new : D) (hs now_hs : List PairHeader)
     unwritten = λ (e : result ≡ Err NoMemory). unwritten_from (t.unwritten e);
   }
 
-  pub reported_beside_from : {X : Type 0} (bs : List ℕ) (result : Result X Error) → IoMeansFaultNoMemoryKeepsOtherBlocks g bs old new result → IoMeantFaultNoMemoryKeptOtherBlocks bs (kept_thread_of_device g old hs sets) (kept_thread_of_device g new now_hs now_sets) result
+  pub reported_beside_from : {X : Type 0} (bs : List ℕ) (result : Result X Error) → IoMeansFaultNoMemoryKeepsOtherBlocks g bs old new result → IoMeantFaultNoMemoryKeptOtherBlocks bs (kept_thread_in_order g order old hs sets) (kept_thread_in_order g order new now_hs now_sets) result
   reported_beside_from bs result t = record { errors = t.errors; fault = t.faults.fault; no_fault = t.faults.no_fault; beside = t.beside }
 
-  pub writes_from : (bs : List ℕ) → ChangesOnlyTheseBlocks g bs old new → ThreadChangesOnlyTheseBlocks bs (kept_thread_of_device g old hs sets) (kept_thread_of_device g new now_hs now_sets)
+  pub writes_from : (bs : List ℕ) → ChangesOnlyTheseBlocks g bs old new → ThreadChangesOnlyTheseBlocks bs (kept_thread_in_order g order old hs sets) (kept_thread_in_order g order new now_hs now_sets)
   writes_from bs w = record {
     others = w.others;
     elsewhere = w.elsewhere;
     shape = record {
       block_size = ap (λ (k : Geometry). k.block_size) w.geometry;
       page = ap (λ (k : Geometry). k.page) w.geometry;
-      order = ap (λ (k : Geometry). k.order) w.geometry;
+      order = refl;
       profile = ap (λ (k : Geometry). k.profile) w.geometry;
       count = w.others.count;
     };
     at_worst = w.at_worst;
   }
 
-module _ {D : Type 0} (g : Ghosts D) (old new : D) (hs now_hs : List PairHeader) (sets now_sets : BlockStateList) where
-  pub reading_from : {most : ℕ} (bs : List ℕ) → ChangesOnlyBlocksWithinReadLimit g most bs old new → ThreadChangesOnlyBlocksWithinReadLimit most bs (kept_thread_of_device g old hs sets) (kept_thread_of_device g new now_hs now_sets)
-  reading_from bs w = record { only = writes_from g old new hs now_hs sets now_sets bs w.only; few = w.few }
+module _ {D : Type 0} (g : Ghosts D) (order : NameOrder) (old new : D) (hs now_hs : List PairHeader) (sets now_sets : BlockStateList) where
+  pub reading_from : {most : ℕ} (bs : List ℕ) → ChangesOnlyBlocksWithinReadLimit g most bs old new → ThreadChangesOnlyBlocksWithinReadLimit most bs (kept_thread_in_order g order old hs sets) (kept_thread_in_order g order new now_hs now_sets)
+  reading_from bs w = record { only = writes_from g order old new hs now_hs sets now_sets bs w.only; few = w.few }
 
 -- ---- two calls, of which the first writes a fresh pair
 

@@ -6,7 +6,7 @@ use Rattle.lfs_device.specs.declared.device.BlockDevice.{Ghosts}
 use Rattle.lfs_device.specs.declared.geometry.Geometry.{Geometry}
 use Rattle.lfs_model.specs.Blocks.{block_bytes_by_number}
 use Rattle.lfs_model.specs.BlockSets.{BlockStateList, IsBlockMarkedUsedInMap}
-use Rattle.lfs_model.specs.Disk.{Disk, block_count}
+use Rattle.lfs_model.specs.Disk.{Disk, block_count, disk_in_order}
 use Rattle.lfs_model.specs.History.{is_byte_unprogrammed}
 use Rattle.lfs_model.specs.Thread.{blocks_of_pairs}
 use Rattle.lfs_thread.specs.Kept.{KeptThread, disk_of_device}
@@ -15,7 +15,6 @@ use Rattle.lfs_thread.specs.Kept.{KeptThread, disk_of_device}
 pub record DiskHasGeometry (geometry : Geometry) (disk : Disk) : Type 0 where
   pub block_size : geometry.block_size ≡ disk.block_size
   pub page : geometry.page ≡ disk.page
-  pub order : geometry.order ≡ disk.order
   pub profile : geometry.profile ≡ disk.profile
   pub count : geometry.block_count ≡ block_count disk
 
@@ -25,7 +24,7 @@ ClosureOnDeviceAndMap F D X = Once F (MutBor D × (MutBor BlockStateList × Unit
 
 -- the device and the map are the thread's
 pub record AreDeviceAndMapOfThread {D : Type 0} (g : Ghosts D) (t : KeptThread) (device : D) (sets : BlockStateList) : Type 0 where
-  pub disk : disk_of_device g device ≡ t.disk
+  pub disk : disk_in_order t.disk.order (disk_of_device g device) ≡ t.disk
   pub history : g.history device ≡ t.history
   pub map : sets ≡ t.map
 
@@ -54,7 +53,8 @@ pub record LeavesUsedBlocksOfPairsUnchangedAndUsed {D : Type 0} (g : Ghosts D) (
   pub size : length later_map ≡ length map
   pub used : (b : ℕ) → Contains (blocks_of_pairs t.pairs) b → IsBlockMarkedUsedInMap map b → IsBlockMarkedUsedInMap later_map b
 
--- The work was called with the thread's device and map, and returned x. The thread has the device and the map that it left.
+-- The work was called with the thread's device and map, and returned x. The thread has the device and the map that it left, and
+-- its names are in the same order.
 pub record HasRunWorkOnDeviceAndMap {F D X : Type 0} (g : Ghosts D) (call : ClosureOnDeviceAndMap F D X) (work : F) (old : KeptThread) (x : X) (new : KeptThread) : Type 0 where
   pub device : D
   pub map : BlockStateList
@@ -62,4 +62,5 @@ pub record HasRunWorkOnDeviceAndMap {F D X : Type 0} (g : Ghosts D) (call : Clos
   pub later_map : BlockStateList
   pub before : AreDeviceAndMapOfThread g old device map
   pub after : AreDeviceAndMapOfThread g new later later_map
+  pub order : new.disk.order ≡ old.disk.order
   pub run : MayClosureOnDeviceAndMapReturn call work device map x later later_map

@@ -6,10 +6,11 @@ use Rattle.lfs_device.specs.Shown.{disk_of_geometry_and_blocks}
 use Rattle.lfs_model.specs.Blocks.{Blocks, block_bytes_by_number}
 use Rattle.lfs_model.specs.BlockSets.{BlockStateList, IsBlockMarkedUsedInMap}
 use Rattle.lfs_model.specs.Cache.{CachedBlocks, cached_bytes_of_block}
-use Rattle.lfs_model.specs.Disk.{Disk, block_count}
+use Rattle.lfs_model.specs.Disk.{Disk, block_count, disk_in_order}
 use Rattle.lfs_model.specs.History.{DeviceCallEvent, AreCallsSinceOnlyReads}
 use Rattle.lfs_model.specs.Slots.{PairContent, zero_gstate}
 use Rattle.lfs_model.specs.Content.{RawPairContent, raw_content_of_pair_at, content_of_pair_at, pair_content_if_slots_complete}
+use Rattle.lfs_model.specs.declared.order.NameOrder.{NameOrder}
 use Rattle.lfs_model.specs.Thread.{Pair, anchor_pair_address, AreLinkedByTails, blocks_of_pairs}
 use Rattle.lfs_pair.specs.declared.pair.Pair as header
 use Rattle.lfs_pair.specs.Pair.{IsPairOnDiskAsHeaderSays, pair_address_in_header}
@@ -81,13 +82,17 @@ pub record WasKeptThreadOnDisk (disk : Disk) (history : List DeviceCallEvent) (h
 abbrev pub IsCacheCurrent : Blocks → CachedBlocks → Type 0
 IsCacheCurrent blocks cache = (b : ℕ) (bytes : List ℕ) → cached_bytes_of_block cache b ≡ Some bytes → bytes ≡ block_bytes_by_number blocks b
 
--- ---- the same of a device
+-- ---- the same of a device, whose order of names is not known
 
 abbrev pub disk_of_device : {D : Type 0} → Ghosts D → D → Disk
 disk_of_device g device = disk_of_geometry_and_blocks (g.geometry device) (g.blocks device)
 
 abbrev pub kept_thread_of_device : {D : Type 0} → Ghosts D → D → List PairHeader → BlockStateList → KeptThread
 kept_thread_of_device g device headers sets = kept_thread_view (disk_of_device g device) (g.history device) headers sets
+
+-- what is kept of a thread over a device, with its names in that order
+abbrev pub kept_thread_in_order : {D : Type 0} → Ghosts D → NameOrder → D → List PairHeader → BlockStateList → KeptThread
+kept_thread_in_order g order device headers sets = kept_thread_view (disk_in_order order (disk_of_device g device)) (g.history device) headers sets
 
 abbrev pub IsKeptThreadOnDevice : {D : Type 0} → Ghosts D → D → List PairHeader → BlockStateList → Type 0
 IsKeptThreadOnDevice g device headers sets = IsKeptThreadOnDisk (disk_of_device g device) (g.history device) headers sets

@@ -3,12 +3,15 @@
 use lfs_alloc::BlockMap;
 use lfs_cache::Cache;
 use lfs_device::BlockDevice;
+use lfs_model::NameOrder;
 use lfs_pair::Pair;
 
 /// The parts of a [`Thread`](crate::Thread).
 #[derive(Drop)]
 pub struct ThreadParts<D: BlockDevice> {
     pub device: D,
+    /// The order of the names in the directories.
+    pub order: NameOrder,
     /// The cache of the blocks that were read last.
     pub cache: Cache,
     /// The headers of the pairs, in the thread's order.

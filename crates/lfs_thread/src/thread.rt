@@ -1,6 +1,7 @@
 ghost use Rattle.std.specs.Prelude.{ℕ, ◌+◌, ◌*◌, ◌≤◌, if◌then◌else◌, None, Some, List, ◌↔◌, IfOk, ◌≡◌, IsTrue, true, ◌⊎◌, ◌<◌, length, false, is_err, [], replicate, slice_set, IfErr, IfNone, IfSome, IsSome, OnOk, ◌-◌, min, take, drop, slice_range};
 ghost use Rattle.std.specs.Option.{option_map};
 ghost use Rattle.lfs_model.specs.Content.{content_of_pair_at, current_block_of_pair_at};
+ghost use Rattle.lfs_model.specs.Disk.{disk_in_order};
 ghost use Rattle.lfs_model.specs.BlockSets.{IsBlockFree, IsBlockInFlight, IsBlockMarkedUsedInMap, used_count};
 ghost use Rattle.lfs_model.specs.BlockSets.BlockState.{Free, InFlight};
 ghost use Rattle.lfs_ctz.specs.Known.{AreKnownListBlocks, ReadsKnownList};
@@ -14,7 +15,7 @@ ghost use Rattle.lfs_tag.specs.FieldsView.{move_view};
 ghost use Rattle.lfs_pair.specs.ChangeView.{changes_view};
 ghost use Rattle.lfs_thread.specs.Beside.{CanCallClosureOnDeviceAndMap, HasRunWorkOnDeviceAndMap, DiskHasGeometry, LeavesUsedBlocksOfPairsUnchangedAndUsed, MayClosureOnDeviceAndMapReturn, AreDeviceAndMapOfThread};
 ghost use Rattle.lfs_thread.specs.Device.{GivesDeviceBackOnlyReadWithError, PowerLossLeavesSuchBlocksAfterCleanErases};
-ghost use Rattle.lfs_thread.specs.Kept.{IsCacheCurrent, IsKeptThreadOnDevice, WasKeptThreadOnDevice, disk_of_device, kept_thread_of_device};
+ghost use Rattle.lfs_thread.specs.Kept.{IsCacheCurrent, IsKeptThreadOnDevice, WasKeptThreadOnDevice, disk_of_device, kept_thread_in_order};
 ghost use Rattle.lfs_thread.specs.CachedLog.{IsLogBlockOfContent, cached_log, cache_after_load, read_count_unless_cached};
 ghost use Rattle.lfs_thread.specs.Reading.{IsThreadReadFromDevice};
 ghost use Rattle.lfs_thread.specs.Steps.{CanSplitPairAtIndex, CanChangePair, CanDropNextPair, CanThreadInFreshPair, IoMeantFaultNoMemoryWroteNothing, IoMeantFaultNoMemoryKeptOtherBlocks, IsThreadingInRefused, IsFreshPairThreadedIn, PowerLossLeavesPairOldOrThreadedIn, IsPairChanged, IsPairAfterIndexDropped, PowerLossLeavesPairOldOrChanged, PowerLossLeavesPairOldOrSplit, IsThreadOnlyRead, IsCommitRefused, IsPairSplitInTwo, ThreadChangesOnlyBlocksWithinReadLimit, thread_pair_at_index};
@@ -30,6 +31,7 @@ use lfs_alloc::BlockMap;
 use lfs_cache::Cache;
 use lfs_ctz::{KnownBlocks, read_at};
 use lfs_device::{BlockDevice, Error, Geometry};
+use lfs_model::NameOrder;
 use lfs_pair::{Change, Outcome, Pair};
 use lfs_tag::{Log, MoveState, Tail, has_hard_tail};
 use std::alloc::Global;
@@ -44,6 +46,8 @@ use std::marker::Model;
 #[derive(Drop)]
 pub struct Thread<D: BlockDevice> {
     device: D,
+    // The order of the names in the directories. Nothing here depends on it.
+    order: NameOrder,
     cache: Cache,
     pairs: Vec<Pair>,
     map: BlockMap,
@@ -52,12 +56,12 @@ pub struct Thread<D: BlockDevice> {
 
 impl<D: BlockDevice> Model for Thread<D> {
     ghost use Rattle.std.specs.Prelude.{◌≡◌, false};
-    ghost use Rattle.lfs_thread.specs.Kept.{IsCacheCurrent, IsKeptThreadOnDevice, ThreadView, kept_thread_of_device};
+    ghost use Rattle.lfs_thread.specs.Kept.{IsCacheCurrent, IsKeptThreadOnDevice, ThreadView, kept_thread_in_order};
 
     ghost Value = { ThreadView };
 
     ghost view = { λ t. record {
-      kept = kept_thread_of_device D.BlockDevice t.device t.pairs.items t.map;
+      kept = kept_thread_in_order D.BlockDevice t.order t.device t.pairs.items t.map;
       cache = t.cache;
       failed = t.has_failed;
     } };
@@ -71,6 +75,9 @@ impl<D: BlockDevice> Thread<D> {
     /// before it names (SPEC.md of littlefs, "The metadata tree"). Each block of a pair is read
     /// once, and nothing is written. In the map the blocks of the pairs are used then, and all
     /// others are free.
+    ///
+    /// The names are taken to be in the order of littlefs's own code, until
+    /// [`set_order`](Thread::set_order) says otherwise.
     ///
     /// Errors: `Corrupt` exactly where the device has no thread. Then an address is out of range, a
     /// block comes twice, or a pair holds no content whose slots each have a name and a struct.
@@ -91,6 +98,7 @@ impl<D: BlockDevice> Thread<D> {
         match read_thread_headers(alloc, &mut device, &mut pairs, &mut map) {
             Ok(()) => Ok(Thread {
                 device,
+                order: NameOrder::LongerFirst,
                 cache,
                 pairs,
                 map,
@@ -105,30 +113,32 @@ impl<D: BlockDevice> Thread<D> {
     pub fn into_parts(self) -> ThreadParts<D>
         requires works { self.failed ≡ false }
         ensures kept { IsKeptThreadOnDevice D.BlockDevice result.device result.pairs.items result.map }
-        ensures same { kept_thread_of_device D.BlockDevice result.device result.pairs.items result.map ≡ self.kept }
+        ensures same { kept_thread_in_order D.BlockDevice result.order result.device result.pairs.items result.map ≡ self.kept }
         ensures current { IsCacheCurrent (D.blocks result.device) result.cache }
         ensures cache { result.cache ≡ self.cache }
     {
         ThreadParts {
             device: self.device,
+            order: self.order,
             cache: self.cache,
             pairs: self.pairs,
             map: self.map,
         }
     }
 
-    /// Makes a thread of its parts. The headers are those of the device's thread, as they were read
+    /// Makes a thread of its parts, with the names in that order. The headers are those of the device's thread, as they were read
     /// at some time, and the device was only read since then. The map has the blocks of the pairs
     /// as used. Each block of the cache has the bytes that the device has.
     pub fn from_parts(parts: ThreadParts<D>) -> Thread<D>
         requires kept { WasKeptThreadOnDevice D.BlockDevice parts.device parts.pairs.items parts.map }
         requires current { IsCacheCurrent (D.blocks parts.device) parts.cache }
         ensures works { result.failed ≡ false }
-        ensures kept { result.kept ≡ kept_thread_of_device D.BlockDevice parts.device parts.pairs.items parts.map }
+        ensures kept { result.kept ≡ kept_thread_in_order D.BlockDevice parts.order parts.device parts.pairs.items parts.map }
         ensures cache { result.cache ≡ parts.cache }
     {
         Thread {
             device: parts.device,
+            order: parts.order,
             cache: parts.cache,
             pairs: parts.pairs,
             map: parts.map,
@@ -138,16 +148,30 @@ impl<D: BlockDevice> Thread<D> {
 
     /// Returns the device, as the last call left it. A failed thread returns it, too.
     pub fn device(&self) -> &D
-        ensures disk { disk_of_device D.BlockDevice result.now ≡ self.now.kept.disk }
+        ensures disk { disk_in_order self.now.kept.disk.order (disk_of_device D.BlockDevice result.now) ≡ self.now.kept.disk }
         ensures history { D.history result.now ≡ self.now.kept.history }
     {
         &self.device
     }
 
+    /// Returns the order of the names in the directories.
+    pub fn order(&self) -> NameOrder
+        ensures { result ≡ self.now.kept.disk.order }
+    {
+        self.order
+    }
+
+    /// Says in which order the names are. Nothing else of the thread depends on it.
+    pub fn set_order(&mut self, order: NameOrder)
+        ensures { self.new ≡ record self.old { kept = record self.old.kept { disk = disk_in_order order self.old.kept.disk } } }
+    {
+        self.order = order;
+    }
+
     /// Ends the thread, and returns the device as the last call left it. A failed thread returns
     /// it, too.
     pub fn into_device(self) -> D
-        ensures disk { disk_of_device D.BlockDevice result ≡ self.kept.disk }
+        ensures disk { disk_in_order self.kept.disk.order (disk_of_device D.BlockDevice result) ≡ self.kept.disk }
         ensures history { D.history result ≡ self.kept.history }
     {
         self.device
@@ -510,10 +534,11 @@ impl<D: BlockDevice> Thread<D> {
     /// Makes a failed thread of its parts. Nothing is known of what its device holds.
     pub fn failed_thread_of_parts(parts: ThreadParts<D>) -> Thread<D>
         ensures failed { result.failed ≡ true }
-        ensures kept { result.kept ≡ kept_thread_of_device D.BlockDevice parts.device parts.pairs.items parts.map }
+        ensures kept { result.kept ≡ kept_thread_in_order D.BlockDevice parts.order parts.device parts.pairs.items parts.map }
     {
         Thread {
             device: parts.device,
+            order: parts.order,
             cache: parts.cache,
             pairs: parts.pairs,
             map: parts.map,

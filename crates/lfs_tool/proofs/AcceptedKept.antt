@@ -5,9 +5,8 @@ use Rattle.std.specs.List.{IsDistinct}
 use Rattle.std.proofs.lemmas.Bool.{cases_lt}
 use Rattle.std.proofs.lemmas.List.Elements.{All-head, All-map, All-tail, All-weaker}
 use Rattle.std.proofs.lemmas.Option.{same_Some, slice_get-map}
-use Rattle.lfs_device.specs.Shown.{disk_with_name_order}
+use Rattle.lfs_model.specs.Disk.{disk_in_order, Disk, block_count}
 use Rattle.lfs_model.specs.Content.{current_block_of_pair_at}
-use Rattle.lfs_model.specs.Disk.{Disk, block_count}
 use Rattle.lfs_model.specs.Names.{name_cmp}
 use Rattle.lfs_model.specs.Shown.{IsDirectoryAddressReachedBySomePath, all_slots_not_moved, directories_in_thread}
 use Rattle.lfs_model.specs.Slots.{Inline, Slot, same_pair}
@@ -75,7 +74,7 @@ move_without ps h = subst (HasValidMoveOrNone (pairs_without_attributes ps)) (sy
 
 -- ---- the rules on slots
 
-module _ (disk : Disk) (order : NameOrder) (ps : List Pair) (ok : IsAcceptedImage (disk_with_name_order order disk) ps) where
+module _ (disk : Disk) (order : NameOrder) (ps : List Pair) (ok : IsAcceptedImage (disk_in_order order disk) ps) where
   chain_pair : (index : ℕ) (p : Pair) → slice_get ps index ≡ Some p → index ≤ pair_count_before_root ps → HasSuperblockIfAnySlot disk.profile.versions ok.superblock.0 p.content.slots
   chain_pair index p there l =
       holds_in_take (λ (q : Pair). HasSuperblockIfAnySlot disk.profile.versions ok.superblock.0 q.content.slots) ps (pair_count_before_root ps + 1) index p ok.superblock.1.1 there (omega (arith, l))
@@ -149,7 +148,7 @@ module _ (disk : Disk) (order : NameOrder) (ps : List Pair) (ok : IsAcceptedImag
   }
 
 -- the pairs of an accepted image keep all rules without their attributes
-pub accepted_is_kept : (disk : Disk) (order : NameOrder) (ps : List Pair) → IsAcceptedImage (disk_with_name_order order disk) ps → KeepsAllRules disk order (pairs_without_attributes ps)
+pub accepted_is_kept : (disk : Disk) (order : NameOrder) (ps : List Pair) → IsAcceptedImage (disk_in_order order disk) ps → KeepsAllRules disk order (pairs_without_attributes ps)
 accepted_is_kept disk order ps ok = record {
   blocks = blocks_are disk order ps ok;
   pairs = record {

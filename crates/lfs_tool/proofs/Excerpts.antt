@@ -5,7 +5,8 @@ use Rattle.lfs_model.specs.declared.limits.Profile.{Profile}
 use Rattle.lfs_tool.specs.declared.image_layout.ImageLayout.{ImageLayout}
 use Rattle.lfs_device.specs.declared.error.Error.{Error}
 use Rattle.lfs_device.specs.declared.error.Error.TheVariants.{Corrupt, NoMemory}
-use Rattle.lfs_device.specs.Shown.{disk_of_geometry_and_blocks as shown, disk_with_name_order}
+use Rattle.lfs_device.specs.Shown.{disk_of_geometry_and_blocks as shown}
+use Rattle.lfs_model.specs.Disk.{disk_in_order, Disk, IsImageOfWholeBlocks, disk_of_image}
 use Rattle.lfs_tool.specs.declared.block_excerpt.BlockExcerpt.{BlockExcerpt}
 use Rattle.lfs_tool.specs.declared.excerpt.ExcerptDevice.{ExcerptDevice}
 use Rattle.lfs_tool.specs.ExcerptBlocks.{AreExcerptsOfBlocksWithSize, blocks_of_excerpts}
@@ -13,7 +14,6 @@ use Rattle.lfs_tool.specs.ExcerptView.{blocks_of_excerpt_filled_up, geometry_of_
 use Rattle.lfs_tool.specs.Excerpt.{AreExcerptsKeepingSizesPointersAndLogs, IsDiskOfExcerptsKeepingSizesPointersAndLogs}
 use Rattle.lfs_tool.specs.ExcerptShape.{blocks_of_excerpts_have_size}
 use Rattle.lfs_model.specs.Blocks.{cut}
-use Rattle.lfs_model.specs.Disk.{Disk, IsImageOfWholeBlocks, disk_of_image}
 use Rattle.lfs_model.specs.Geometry.{IsValidGeometry}
 use Rattle.lfs_model.specs.Listing.{IsListingOfTree}
 use Rattle.lfs_model.specs.Thread.{Pair}
@@ -58,7 +58,7 @@ abbrev pub AreListedAlike : Type 0
 AreListedAlike = (disk excerpt : Disk) (view : DiskView) → IsDiskOfExcerptsKeepingSizesPointersAndLogs disk excerpt → HasDiskView excerpt view → (whole : DiskView) × (HasDiskView disk whole × ((text : List ℕ) → IsListingOfTree view.tree text → IsListingOfTree whole.tree text))
 
 pub lists_by_excerpt : AreListedAlike → (layout : ImageLayout) (bytes text : List ℕ) (blocks : List BlockExcerpt) (e : ExcerptDevice) → AreExcerptsOfAllBlocksOfImageBytes layout.block_size bytes blocks → IsValidGeometry layout.block_size layout.page (length blocks)
-    → AreExcerptsOfBlocksWithSize layout.block_size blocks → DeviceOfExcerptHasTheseBlocksAndSizes layout blocks e → (order : NameOrder) → IsListingTextOfDisk (disk_with_name_order order (shown (geometry_of_excerpt_device e) (blocks_of_excerpt_filled_up e))) text → IsListingTextOfImage layout bytes text
+    → AreExcerptsOfBlocksWithSize layout.block_size blocks → DeviceOfExcerptHasTheseBlocksAndSizes layout blocks e → (order : NameOrder) → IsListingTextOfDisk (disk_in_order order (shown (geometry_of_excerpt_device e) (blocks_of_excerpt_filled_up e))) text → IsListingTextOfImage layout bytes text
 lists_by_excerpt alike layout bytes text blocks e are geometry have is order lines =
     let found = listed_from (disk_with layout.block_size layout.page layout.profile order blocks) text (sizes_of layout.block_size layout.page layout.profile order blocks geometry.no_smaller have) (subst (λ d. IsListingTextOfDisk d text) (is.disk order) lines) in
     let (view, (shows, listing)) = found in

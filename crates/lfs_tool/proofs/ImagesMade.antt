@@ -39,7 +39,7 @@ use Rattle.lfs_tool.proofs.Refusing.{IsFromFresh, anywhere, comes, has_carried}
 
 -- ---- the geometry
 
-pub begins : (g : Geometry) (d : NewImageDevice) (h : SessionView) → geometry_of_new_image_device d ≡ g → IsFreshDisk h.tree.disk → (system_state_of_session_view h).state ≡ Healthy (session_after_mount empty_tree) → SameGeometry (device.disk_with_name_order g.order (device.disk_of_geometry_and_blocks (geometry_of_new_image_device d) (blocks_of_new_image_device d))) h.tree.disk
+pub begins : (g : Geometry) (d : NewImageDevice) (h : SessionView) → geometry_of_new_image_device d ≡ g → IsFreshDisk h.tree.disk → (system_state_of_session_view h).state ≡ Healthy (session_after_mount empty_tree) → SameGeometry (device.disk_in_order g.order (device.disk_of_geometry_and_blocks (geometry_of_new_image_device d) (blocks_of_new_image_device d))) h.tree.disk
     → SessionBeginsOnFreshDisk g (system_state_of_session_view h)
 begins g d h is fresh state same = record {
   fresh = fresh;
@@ -75,7 +75,7 @@ some_bytes g = let least : 1024 ≤ g.block_size = g.valid.no_smaller in omega (
 
 -- what the run left in the device
 pub left : (g : Geometry) (from to : SystemState) (es : List SourceEntry) (d : NewImageDevice) (bytes : List ℕ) → SessionBeginsOnFreshDisk g from → AreOperationsApplied from (copying_operations_of_entries es) to
-    → device.disk_with_name_order to.disk.order (device.disk_of_geometry_and_blocks (geometry_of_new_image_device d) (blocks_of_new_image_device d)) ≡ to.disk
+    → device.disk_in_order to.disk.order (device.disk_of_geometry_and_blocks (geometry_of_new_image_device d) (blocks_of_new_image_device d)) ≡ to.disk
     → bytes ≡ bytes_of_new_image_device d → AreImageBytesOfEntries g es bytes
 left g from to es d bytes b c shown is =
     let same = session_steps_geometry (copying_operations_of_entries es) c.replies from to c.session_steps in

@@ -5,9 +5,8 @@ use Rattle.std.specs.List.{IsDistinct}
 use Rattle.std.proofs.lemmas.Bool.{and_parts, cases_lt}
 use Rattle.std.proofs.lemmas.List.Elements.{All-from_recursion, All-weaker}
 use Rattle.std.proofs.lemmas.Option.{same_Some, slice_get-get_or, slice_get-map}
-use Rattle.lfs_device.specs.Shown.{disk_with_name_order}
+use Rattle.lfs_model.specs.Disk.{disk_in_order, Disk, block_count}
 use Rattle.lfs_model.specs.Content.{content_of_pair_at, current_block_of_pair_at}
-use Rattle.lfs_model.specs.Disk.{Disk, block_count}
 use Rattle.lfs_model.specs.Names.{name_cmp}
 use Rattle.lfs_model.specs.Shown.{IsDirectoryAddressReachedBySomePath, all_slots_not_moved, directories_in_thread}
 use Rattle.lfs_model.specs.Slots.{Inline, Slot, is_superblock}
@@ -121,7 +120,7 @@ module _ (disk : Disk) (order : NameOrder) (ps : List Pair) (kept : KeepsAllRule
 
   -- ---- all rules
 
-  thread_is : AreFirstThreadPairsUpToAddress disk ps None → IsThreadOfMetadataPairs (content_of_pair_at (disk_with_name_order order disk)) (block_count disk) ps
+  thread_is : AreFirstThreadPairsUpToAddress disk ps None → IsThreadOfMetadataPairs (content_of_pair_at (disk_in_order order disk)) (block_count disk) ps
   thread_is begins = record {
     links = links_to_end (Some (0, 1)) ps begins.links;
     contents = All-from_recursion (λ p. content_of_pair_at disk p.at ≡ Some p.content) ps begins.contents;
@@ -129,7 +128,7 @@ module _ (disk : Disk) (order : NameOrder) (ps : List Pair) (kept : KeepsAllRule
     distinct = subst (IsDistinct nat_eq) (blocks_alike ps) kept.blocks.distinct;
   }
 
-  struct_is : IsSuperblockStruct (disk_with_name_order order disk) kept.pairs.superblocks.bytes
+  struct_is : IsSuperblockStruct (disk_in_order order disk) kept.pairs.superblocks.bytes
   struct_is = let s = kept.pairs.superblocks.struct in record { len = s.len; version = s.version; block_size = s.block_size; block_count = s.block_count }
 
   all_reached : (gstate_of_pairs ps).sync ≡ false → All (λ d. IsDirectoryAddressReachedBySomePath ps d.at) (directories_in_thread ps)
@@ -139,13 +138,13 @@ module _ (disk : Disk) (order : NameOrder) (ps : List Pair) (kept : KeepsAllRule
       All-weaker bare (λ d. IsDirectoryAddressReachedBySomePath ps d.at) (λ d. reached_with ps d.at) (directories_in_thread ps)
       (of_each directory_without_attributes bare (directories_in_thread ps) (subst (All bare) (directories_in_thread_alike ps) each))
 
-  all_lists : All (λ s. IsSkipListIfCtzStruct (disk_with_name_order order disk) s.struct) (all_slots_not_moved ps)
+  all_lists : All (λ s. IsSkipListIfCtzStruct (disk_in_order order disk) s.struct) (all_slots_not_moved ps)
   all_lists =
       of_each slot_without_attributes (λ (s : Slot). IsSkipListIfCtzStruct disk s.struct) (all_slots_not_moved ps)
       (subst (All (λ s. IsSkipListIfCtzStruct disk s.struct)) (all_not_moved_alike ps) kept.files.lists)
 
 -- the pairs of an image whose rules are all kept, in that order of names
-pub kept_is_accepted : (disk : Disk) (order : NameOrder) (ps : List Pair) → AreFirstThreadPairsUpToAddress disk ps None → KeepsAllRules disk order (pairs_without_attributes ps) → IsAcceptedImage (disk_with_name_order order disk) ps
+pub kept_is_accepted : (disk : Disk) (order : NameOrder) (ps : List Pair) → AreFirstThreadPairsUpToAddress disk ps None → KeepsAllRules disk order (pairs_without_attributes ps) → IsAcceptedImage (disk_in_order order disk) ps
 kept_is_accepted disk order ps begins kept = record {
   thread = thread_is disk order ps kept begins;
   first = subst (λ at. BeginsWithLogEntry (current_block_of_pair_at disk at) superblock_name_log_entry) (with_slots_address_alike ps) kept.first;

@@ -2,7 +2,7 @@
 use Rattle.std.proofs.Common.{ℕ, ◌≡◌, ◌⊎◌, ◌∙◌, inl, inr, List, [], ◌∷◌, Option, Some, None, Result, Ok, Err, ap, ap₂, map, refl, subst, sym, take}
 use Rattle.std.specs.Prelude.{◌≢◌, IfErr, IfSome, OnErr, OnOk}
 use Rattle.lfs_tool.specs.declared.image_layout.ImageLayout.{ImageLayout}
-use Rattle.lfs_model.specs.Disk.{Disk, IsImageOfWholeBlocks, disk_of_image}
+use Rattle.lfs_model.specs.Disk.{Disk, IsImageOfWholeBlocks, disk_of_image, disk_in_order}
 use Rattle.lfs_model.specs.Listing.{UnpackingAction, PathAndNode, unpacking_action_of_node, unpacking_action_of_entry}
 use Rattle.lfs_model.specs.Slots.{Branch, Ctz, Inline, Struct}
 use Rattle.lfs_model.specs.Thread.{Pair}
@@ -12,7 +12,6 @@ use Rattle.lfs_model.specs.declared.order.NameOrder.{NameOrder}
 use Rattle.lfs_model.proofs.ListSizes.{length-bytes_of_skip_list}
 use Rattle.lfs_device.specs.declared.error.Error.TheVariants.{Corrupt, Invalid, NoMemory}
 use Rattle.lfs_device.specs.declared.error.Error.{Error}
-use Rattle.lfs_device.specs.Shown.{disk_with_name_order}
 use Rattle.lfs_lookup.specs.Items.{owned_struct_view}
 use Rattle.lfs_lookup.specs.Walk.{ArePathsAndStructsOfTreeEntries, ArePathsAndStructsOfWalk, PathAndStruct, IsPathAndStructOfTreeEntry, IsNodeOfStruct, tree_items_view}
 use Rattle.lfs_lookup.specs.declared.walks.TreeItem.{TreeItem}
@@ -67,29 +66,29 @@ amounts_shown disk sizes (x ∷ xs) lists = ap₂ (λ a more. a ∷ more) (amoun
 
 -- ---- of a disk
 
-module _ (disk now : Disk) (order : NameOrder) (ps : List Pair) (places : List PathAndStruct) (same : now ≡ disk_with_name_order order disk) (accepted : IsAcceptedImage (disk_with_name_order order disk) ps) (walked : ArePathsAndStructsOfWalk (disk_with_name_order order disk) ps places) where
-  unpacks : AreActionsUnpackingDisk disk (unpacking_actions_for_tree_entries (disk_with_name_order order disk) places)
+module _ (disk now : Disk) (order : NameOrder) (ps : List Pair) (places : List PathAndStruct) (same : now ≡ disk_in_order order disk) (accepted : IsAcceptedImage (disk_in_order order disk) ps) (walked : ArePathsAndStructsOfWalk (disk_in_order order disk) ps places) where
+  unpacks : AreActionsUnpackingDisk disk (unpacking_actions_for_tree_entries (disk_in_order order disk) places)
   unpacks =
       let (entries, (walk, shows)) = walked in
-      (view_of_disk (disk_with_name_order order disk) ps, ((order, (ps, (accepted, refl))), (entries, (walk, actions_shown (disk_with_name_order order disk) places entries shows))))
+      (view_of_disk (disk_in_order order disk) ps, ((order, (ps, (accepted, refl))), (entries, (walk, actions_shown (disk_in_order order disk) places entries shows))))
 
   pub done_of : (old new : Option (List UnpackingAction)) → HasDoneTheseFurtherUnpackingActions old new (unpacking_actions_for_tree_entries now places) → HasUnpackedDisk disk old new
-  done_of old new h = (unpacking_actions_for_tree_entries (disk_with_name_order order disk) places, (unpacks, subst (λ d. HasDoneTheseFurtherUnpackingActions old new (unpacking_actions_for_tree_entries d places)) same h))
+  done_of old new h = (unpacking_actions_for_tree_entries (disk_in_order order disk) places, (unpacks, subst (λ d. HasDoneTheseFurtherUnpackingActions old new (unpacking_actions_for_tree_entries d places)) same h))
 
   pub begun_of : (old new : Option (List UnpackingAction)) → HasDoneBeginningOfUnpackingActions old new (unpacking_actions_for_tree_entries now places) → HasBegunUnpackingDisk disk old new
-  begun_of old new h = (unpacking_actions_for_tree_entries (disk_with_name_order order disk) places, (unpacks, subst (λ d. HasDoneBeginningOfUnpackingActions old new (unpacking_actions_for_tree_entries d places)) same h))
+  begun_of old new h = (unpacking_actions_for_tree_entries (disk_in_order order disk) places, (unpacks, subst (λ d. HasDoneBeginningOfUnpackingActions old new (unpacking_actions_for_tree_entries d places)) same h))
 
 -- the order of names isn't in the sizes
-sizes_in_order : (disk : Disk) (order : NameOrder) → HasSizes disk → HasSizes (disk_with_name_order order disk)
+sizes_in_order : (disk : Disk) (order : NameOrder) → HasSizes disk → HasSizes (disk_in_order order disk)
 sizes_in_order disk order sizes = record { enough = sizes.enough; count = sizes.count; divided = sizes.divided }
 
 -- what a follower was told of the items of an accepted disk
-module _ (disk now : Disk) (order : NameOrder) (ps : List Pair) (items : List TreeItem) (sizes : HasSizes disk) (same : now ≡ disk_with_name_order order disk) (accepted : IsAcceptedImage (disk_with_name_order order disk) ps) (walked : ArePathsAndStructsOfWalk (disk_with_name_order order disk) ps (tree_items_view items)) where
+module _ (disk now : Disk) (order : NameOrder) (ps : List Pair) (items : List TreeItem) (sizes : HasSizes disk) (same : now ≡ disk_in_order order disk) (accepted : IsAcceptedImage (disk_in_order order disk) ps) (walked : ArePathsAndStructsOfWalk (disk_in_order order disk) ps (tree_items_view items)) where
   abbrev actions_of_items : List UnpackingAction
-  actions_of_items = unpacking_actions_for_tree_entries (disk_with_name_order order disk) (tree_items_view items)
+  actions_of_items = unpacking_actions_for_tree_entries (disk_in_order order disk) (tree_items_view items)
 
   amounts_same : amounts_of_tree_items items ≡ amounts_of_unpacking_actions actions_of_items
-  amounts_same = sym (amounts_shown (disk_with_name_order order disk) (sizes_in_order disk order sizes) items (lists_walked (disk_with_name_order order disk) (disk_with_name_order order disk) ps (tree_items_view items) refl walked))
+  amounts_same = sym (amounts_shown (disk_in_order order disk) (sizes_in_order disk order sizes) items (lists_walked (disk_in_order order disk) (disk_in_order order disk) ps (tree_items_view items) refl walked))
 
   told_begun : (was is : Option (List UnpackingAction)) (old new : Option (List ProgressCall)) → IsToldOfBeginningOfTreeItems now items was is old new → (actions : List UnpackingAction) × (AreActionsUnpackingDisk disk actions × IsToldOfBeginningOfActions was is old new actions)
   told_begun was is old new (n, (h, told)) = (
@@ -134,7 +133,7 @@ fails_begun disk old new was now (Err e) begun h to reports = absurd reports
 
 -- the disk is that of the bytes, in each order of names
 abbrev IsDiskOf : ImageLayout → List ℕ → Disk → Type 0
-IsDiskOf layout image disk = (order : NameOrder) → disk_with_name_order order disk ≡ disk_of_image layout.block_size layout.page layout.profile order image
+IsDiskOf layout image disk = (order : NameOrder) → disk_in_order order disk ≡ disk_of_image layout.block_size layout.page layout.profile order image
 
 unpacks_image : (layout : ImageLayout) (image : List ℕ) (disk : Disk) (actions : List UnpackingAction) → IsImageOfWholeBlocks layout.block_size layout.page image → IsDiskOf layout image disk → AreActionsUnpackingDisk disk actions → AreActionsUnpackingImage layout image actions
 unpacks_image layout image disk actions is same (view, ((order, shows), unpacking)) = (is, (view, ((order, subst (λ d. HasDiskView d view) (same order) shows), unpacking)))

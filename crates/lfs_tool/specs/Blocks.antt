@@ -4,7 +4,8 @@ use Rattle.std.specs.Io.KnownBytes.{Consumes, IsAtEnd}
 use Rattle.lfs_tool.specs.declared.image_layout.ImageLayout.{ImageLayout}
 use Rattle.lfs_tool.specs.declared.block_excerpt.BlockExcerpt.{BlockExcerpt}
 use Rattle.lfs_tool.specs.ExcerptBlocks.{block_of_excerpt, blocks_of_excerpts}
-use Rattle.lfs_device.specs.Shown.{disk_of_geometry_and_blocks, disk_with_name_order}
+use Rattle.lfs_device.specs.Shown.{disk_of_geometry_and_blocks}
+use Rattle.lfs_model.specs.Disk.{disk_in_order}
 use Rattle.lfs_tool.specs.declared.excerpt.ExcerptDevice.{ExcerptDevice}
 use Rattle.lfs_tool.specs.ExcerptView.{blocks_of_excerpt_filled_up, geometry_of_excerpt_device}
 use Rattle.lfs_tool.specs.Excerpt.{AreExcerptsKeepingSizesPointersAndLogs, IsExcerptKeepingSizePointersAndLog}
@@ -31,4 +32,4 @@ pub record IsExcerptPushed (block : List ℕ) (old new : List BlockExcerpt) : Ty
 
 -- the device shows these blocks, of that size and in such pages, with the names in any order
 pub record DeviceOfExcerptHasTheseBlocksAndSizes (layout : ImageLayout) (blocks : List BlockExcerpt) (e : ExcerptDevice) : Type 0 where
-  pub disk : (order : NameOrder) → disk_with_name_order order (disk_of_geometry_and_blocks (geometry_of_excerpt_device e) (blocks_of_excerpt_filled_up e)) ≡ record { block_size = layout.block_size; page = layout.page; order = order; profile = layout.profile; blocks = blocks_of_excerpts blocks }
+  pub disk : (order : NameOrder) → disk_in_order order (disk_of_geometry_and_blocks (geometry_of_excerpt_device e) (blocks_of_excerpt_filled_up e)) ≡ record { block_size = layout.block_size; page = layout.page; order = order; profile = layout.profile; blocks = blocks_of_excerpts blocks }

@@ -1,8 +1,7 @@
 -- What holds with the names in one of the two orders.
 use Rattle.std.specs.Prelude.{ℕ, List}
 use Rattle.lfs_tool.specs.declared.image_layout.ImageLayout.{ImageLayout}
-use Rattle.lfs_device.specs.Shown.{disk_with_name_order}
-use Rattle.lfs_model.specs.Disk.{Disk, disk_of_image}
+use Rattle.lfs_model.specs.Disk.{disk_in_order, Disk, disk_of_image}
 use Rattle.lfs_model.specs.View.{HasDiskView, DiskView}
 use Rattle.lfs_model.specs.declared.order.NameOrder.{NameOrder}
 
@@ -12,4 +11,4 @@ IsViewOfImageInSomeNameOrder layout image view = (order : NameOrder) × HasDiskV
 
 -- the same of a disk, whatever its own order
 abbrev pub IsViewOfDiskInSomeNameOrder : Disk → DiskView → Type 0
-IsViewOfDiskInSomeNameOrder disk view = (order : NameOrder) × HasDiskView (disk_with_name_order order disk) view
+IsViewOfDiskInSomeNameOrder disk view = (order : NameOrder) × HasDiskView (disk_in_order order disk) view

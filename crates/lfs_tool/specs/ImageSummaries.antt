@@ -1,7 +1,6 @@
 -- What an accepted image has.
 use Rattle.std.specs.Prelude.{◌≡◌, ◌≢◌, ◌+◌, ◌==◌, ◌||◌, not, Bool, true, false, List, Option, None, length, count_by, option_map}
-use Rattle.lfs_device.specs.Shown.{disk_with_name_order}
-use Rattle.lfs_model.specs.Disk.{Disk, block_count, default_profile}
+use Rattle.lfs_model.specs.Disk.{disk_in_order, Disk, block_count, default_profile}
 use Rattle.lfs_model.specs.Listing.{PathAndNode, IsWalkOfTree}
 use Rattle.lfs_model.specs.Profile.{superblock_of_image}
 use Rattle.lfs_model.specs.Shown.{tree_on_disk, used_blocks}
@@ -63,7 +62,7 @@ pub record HasImageSummary (disk : Disk) (ps : List Pair) (c : ImageSummary) : T
 -- ---- orders of names
 
 abbrev pub IsAcceptedInNameOrder : NameOrder → Disk → Type 0
-IsAcceptedInNameOrder o disk = (ps : List Pair) × IsAcceptedImage (disk_with_name_order o disk) ps
+IsAcceptedInNameOrder o disk = (ps : List Pair) × IsAcceptedImage (disk_in_order o disk) ps
 
 -- the image is accepted in these orders of names, and in no other
 abbrev pub HasAcceptedNameOrders : Disk → AcceptedOrders → Type 0

@@ -3,8 +3,7 @@ use Rattle.std.specs.Prelude.{ℕ, ◌≡◌, false, List, ◌++◌, Option, Som
 use Rattle.std.specs.List.{flat_map}
 use Rattle.std.specs.Fmt.{decimal}
 use Rattle.lfs_tool.specs.declared.image_layout.ImageLayout.{ImageLayout}
-use Rattle.lfs_device.specs.Shown.{disk_with_name_order}
-use Rattle.lfs_model.specs.Disk.{Disk, IsImageOfWholeBlocks}
+use Rattle.lfs_model.specs.Disk.{disk_in_order, Disk, IsImageOfWholeBlocks}
 use Rattle.lfs_model.specs.Thread.{Pair}
 use Rattle.lfs_model.specs.View.{IsAcceptedImage, DiskView}
 use Rattle.lfs_model.specs.declared.order.NameOrder.{NameOrder}
@@ -51,12 +50,12 @@ IsListingTextOfDisk disk text = (ps : List Pair) × (IsAcceptedImage disk ps × 
 -- the thread is that of the disk, accepted in the thread's order of names, and these are the places of its tree's walk
 pub record IsThreadWithEntriesOfTreeWalk (disk : Disk) (t : ThreadView) (places : List PathAndStruct) : Type 0 where
   pub works : t.failed ≡ false
-  pub disk_is : t.kept.disk ≡ disk_with_name_order t.kept.disk.order disk
-  pub accepted : IsAcceptedImage (disk_with_name_order t.kept.disk.order disk) t.kept.pairs
-  pub walked : ArePathsAndStructsOfWalk (disk_with_name_order t.kept.disk.order disk) t.kept.pairs places
+  pub disk_is : t.kept.disk ≡ disk_in_order t.kept.disk.order disk
+  pub accepted : IsAcceptedImage (disk_in_order t.kept.disk.order disk) t.kept.pairs
+  pub walked : ArePathsAndStructsOfWalk (disk_in_order t.kept.disk.order disk) t.kept.pairs places
 
 -- why a disk in memory isn't mounted or walked: it isn't accepted in either order of names, or memory ran out
 abbrev pub IsMountErrorOfDisk : Disk → Error → Type 0
-IsMountErrorOfDisk disk Corrupt = (order : NameOrder) (ps : List Pair) → ¬ IsAcceptedImage (disk_with_name_order order disk) ps
+IsMountErrorOfDisk disk Corrupt = (order : NameOrder) (ps : List Pair) → ¬ IsAcceptedImage (disk_in_order order disk) ps
 IsMountErrorOfDisk disk NoMemory = Unit {0}
 IsMountErrorOfDisk disk other = ⊥

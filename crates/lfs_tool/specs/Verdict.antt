@@ -1,7 +1,6 @@
 -- What a verdict means for a disk.
 use Rattle.std.specs.Prelude.{List}
-use Rattle.lfs_device.specs.Shown.{disk_with_name_order}
-use Rattle.lfs_model.specs.Disk.{Disk}
+use Rattle.lfs_model.specs.Disk.{disk_in_order, Disk}
 use Rattle.lfs_model.specs.Thread.{Pair}
 use Rattle.lfs_model.specs.View.{IsAcceptedImage}
 use Rattle.lfs_model.specs.declared.order.NameOrder.{NameOrder}
@@ -16,13 +15,13 @@ use Rattle.lfs_tool.specs.declared.verdict.ImageVerdict.TheVariants as verdict
 pub record IsAcceptedWithSummary (disk : Disk) (summary : ImageSummary) (orders : AcceptedOrders) : Type 0 where
   pub order : NameOrder
   pub pairs : List Pair
-  pub accepted : IsAcceptedImage (disk_with_name_order order disk) pairs
-  pub has : HasImageSummary (disk_with_name_order order disk) pairs summary
+  pub accepted : IsAcceptedImage (disk_in_order order disk) pairs
+  pub has : HasImageSummary (disk_in_order order disk) pairs summary
   pub fits : HasAcceptedNameOrders disk orders
 
 -- it is accepted in neither order of names
 abbrev pub IsAcceptedInNoNameOrder : Disk → Type 0
-IsAcceptedInNoNameOrder disk = (order : NameOrder) (ps : List Pair) → ¬ IsAcceptedImage (disk_with_name_order order disk) ps
+IsAcceptedInNoNameOrder disk = (order : NameOrder) (ps : List Pair) → ¬ IsAcceptedImage (disk_in_order order disk) ps
 
 -- it is accepted in one of them
 abbrev pub IsAcceptedInSomeNameOrder : Disk → Type 0

@@ -2,8 +2,8 @@
 
 ghost use Rattle.std.specs.Prelude.{◌≡◌, ◌<◌, ◌/◌, ◌%◌, ◌^◌, [], List, IfErr, IfOk, OnOk, length};
 ghost use Rattle.lfs_device.specs.RamDevice.{ram_blocks, geometry_of_ram_device, history_of_ram_device};
-ghost use Rattle.lfs_device.specs.Shown.{disk_of_geometry_and_blocks as shown, disk_with_name_order};
-ghost use Rattle.lfs_model.specs.Disk.{IsImageOfWholeBlocks, disk_of_image};
+ghost use Rattle.lfs_device.specs.Shown.{disk_of_geometry_and_blocks as shown};
+ghost use Rattle.lfs_model.specs.Disk.{disk_in_order, IsImageOfWholeBlocks, disk_of_image};
 ghost use Rattle.lfs_model.specs.Geometry.{IsValidGeometry};
 ghost use Rattle.lfs_model.specs.Thread.{Pair};
 ghost use Rattle.lfs_model.specs.View.{IsAcceptedImage};
@@ -43,7 +43,7 @@ fn geometry_of_image_length(len: usize, layout: ImageLayout) -> Result<Geometry,
 pub(crate) fn ram_device_of_image(image: Vec<u8>, layout: ImageLayout) -> Result<RamDevice, Error>
     requires { length image.items < 2 ^ 32 }
     ensures image { OnOk result (IsImageOfWholeBlocks layout.block_size layout.page image.items) }
-    ensures disk { IfOk result (λ d. (order : NameOrder) → disk_with_name_order order (shown (geometry_of_ram_device d) (ram_blocks d)) ≡ disk_of_image layout.block_size layout.page layout.profile order image.items) }
+    ensures disk { IfOk result (λ d. (order : NameOrder) → disk_in_order order (shown (geometry_of_ram_device d) (ram_blocks d)) ≡ disk_of_image layout.block_size layout.page layout.profile order image.items) }
     ensures no_call { IfOk result (λ d. history_of_ram_device d ≡ []) }
     ensures err { IfErr result (λ e. (e ≡ Error.Invalid) × (¬ IsImageOfWholeBlocks layout.block_size layout.page image.items)) }
 {
@@ -74,7 +74,7 @@ pub(crate) fn tree_items_of_device<D: BlockDevice>(
     device: D,
 ) -> Result<(Thread<Ordered<D>>, Vec<TreeItem>), (D, Error)>
     ensures items { IfOk result (λ found. IsThreadWithEntriesOfTreeWalk (disk_of_device D.BlockDevice device) found.0 (tree_items_view found.1.items)) }
-    ensures corrupt { IfErr result (λ e. e.1 ≡ Error.Corrupt → (order : NameOrder) (ps : List Pair) → ¬ IsAcceptedImage (disk_with_name_order order (disk_of_device D.BlockDevice device)) ps) }
+    ensures corrupt { IfErr result (λ e. e.1 ≡ Error.Corrupt → (order : NameOrder) (ps : List Pair) → ¬ IsAcceptedImage (disk_in_order order (disk_of_device D.BlockDevice device)) ps) }
     ensures errors { IfErr result (λ e. IsIoCorruptOrNoMemory e.1) }
     ensures back { IfErr result (λ e. ReturnsUnchangedDeviceWithError D.BlockDevice device e.0 e.1) }
 {

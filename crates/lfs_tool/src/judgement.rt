@@ -2,7 +2,8 @@
 
 ghost use Rattle.std.specs.Prelude.{◌≡◌, ◌↔◌, IfErr, IfOk, IsTrue, false};
 ghost use Rattle.lfs_device.specs.RamDevice.{ram_blocks, geometry_of_ram_device};
-ghost use Rattle.lfs_device.specs.Shown.{disk_of_geometry_and_blocks, disk_with_name_order};
+ghost use Rattle.lfs_device.specs.Shown.{disk_of_geometry_and_blocks};
+ghost use Rattle.lfs_model.specs.Disk.{disk_in_order};
 ghost use Rattle.lfs_tool.specs.Findings.{IsTrueFindingOfDisk};
 ghost use Rattle.lfs_tool.specs.ImageSummaries.{HasAcceptedNameOrders, IsAcceptedInNameOrder};
 ghost use Rattle.lfs_tool.specs.Verdict.{IsAcceptedInNoNameOrder, IsVerdictOnDisk};
@@ -16,7 +17,8 @@ use crate::findings::Finding;
 use crate::searches::find_broken_rule_on_device;
 use crate::summaries::image_summary_of_thread;
 use crate::verdict::{AcceptedOrders, ImageVerdict};
-use lfs_device::{Error, NameOrder, Ordered, RamDevice};
+use lfs_device::{Error, Ordered, RamDevice};
+use lfs_model::NameOrder;
 use lfs_mount::{mount, mount_with_either_name_order};
 use lfs_thread::Thread;
 use std::alloc::Global;
@@ -102,7 +104,7 @@ fn judge_thread(
 ///
 /// Errors: `NoMemory` where memory isn't granted.
 pub fn judge_image_on_device(alloc: Global, device: RamDevice) -> Result<ImageVerdict, Error>
-    ensures verdict { IfOk result (λ verdict. (order : NameOrder) → IsVerdictOnDisk (disk_with_name_order order (disk_of_geometry_and_blocks (geometry_of_ram_device device) (ram_blocks device))) verdict) }
+    ensures verdict { IfOk result (λ verdict. (order : NameOrder) → IsVerdictOnDisk (disk_in_order order (disk_of_geometry_and_blocks (geometry_of_ram_device device) (ram_blocks device))) verdict) }
     ensures err { IfErr result (λ e. e ≡ Error.NoMemory) }
 {
     match mount_with_either_name_order(alloc, device) {

@@ -2,8 +2,8 @@ ghost use Rattle.std.specs.Prelude.{◌≡◌, ◌<◌, ◌^◌, List, ℕ, IfEr
 ghost use Rattle.std.specs.Io.KnownBytes.{Appends};
 ghost use Rattle.lfs_tool.specs.ExcerptBlocks.{AreExcerptsOfBlocksWithSize};
 ghost use Rattle.lfs_tool.specs.ExcerptView.{blocks_of_excerpt_filled_up, geometry_of_excerpt_device};
-ghost use Rattle.lfs_device.specs.Shown.{disk_of_geometry_and_blocks as shown, disk_with_name_order};
-ghost use Rattle.lfs_model.specs.Disk.{IsImageOfWholeBlocks};
+ghost use Rattle.lfs_device.specs.Shown.{disk_of_geometry_and_blocks as shown};
+ghost use Rattle.lfs_model.specs.Disk.{disk_in_order, IsImageOfWholeBlocks};
 ghost use Rattle.lfs_model.specs.Geometry.{IsValidGeometry};
 ghost use Rattle.lfs_model.specs.declared.order.NameOrder.{NameOrder};
 ghost use Rattle.lfs_tool.specs.Blocks.{AreExcerptsOfAllBlocksOfImageBytes};
@@ -25,7 +25,7 @@ use std::alloc::Global;
 
 // Returns the lines of an excerpt.
 fn listing_lines_of_excerpt(alloc: Global, device: ExcerptDevice) -> Result<Vec<u8>, Error>
-    ensures lines { IfOk result (λ text. (order : NameOrder) × IsListingTextOfDisk (disk_with_name_order order (shown (geometry_of_excerpt_device device) (blocks_of_excerpt_filled_up device))) text.items) }
+    ensures lines { IfOk result (λ text. (order : NameOrder) × IsListingTextOfDisk (disk_in_order order (shown (geometry_of_excerpt_device device) (blocks_of_excerpt_filled_up device))) text.items) }
     ensures err { IfErr result (IsMountErrorOfDisk (shown (geometry_of_excerpt_device device) (blocks_of_excerpt_filled_up device))) }
 {
     let (_thread, items) = tree_items_of_excerpt(alloc, device)?;

@@ -13,7 +13,7 @@ ghost use Rattle.lfs_tool.specs.OwnedSlotView.{owned_pairs_view};
 use crate::entry_places::{EntryPlace, named_slot_at_place, slot_at_place};
 use crate::findings::{Finding, NameBehindName};
 use crate::owned_parts::OwnedPair;
-use lfs_device::NameOrder;
+use lfs_model::NameOrder;
 use lfs_tag::name_cmp;
 use std::alloc::{AllocError, Global};
 

@@ -17,7 +17,7 @@ use crate::findings::{Finding, NameBehindName};
 use crate::order_checks::{are_names_in_order, name_behind_name};
 use crate::owned_parts::OwnedPair;
 use crate::reached_directories::ReachedDirectory;
-use lfs_device::NameOrder;
+use lfs_model::NameOrder;
 use lfs_tag::MoveState;
 use std::alloc::{AllocError, Global};
 

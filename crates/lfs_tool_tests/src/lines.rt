@@ -1,7 +1,8 @@
 // Command lines, and what is shown of those that are refused.
 
 use crate::texts::report_of;
-use lfs_device::{AcceptedVersions, Error, NameOrder, Profile};
+use lfs_device::{AcceptedVersions, Error, Profile};
+use lfs_model::NameOrder;
 use lfs_tool::{Fault, Line, LineError, Mode, ToolError, read_line};
 use std::alloc::{AllocError, Global};
 use std::test::Fail;

@@ -15,7 +15,8 @@ use Rattle.lfs_model.specs.Blocks.{Blocks}
 use Rattle.lfs_model.specs.BlockSets.{AreExactlyTheInFlightBlocks, AreExactlyTheUsedBlocks, BlockStateList, BlockState, Free, InFlight, IsBlockFree, Used}
 use Rattle.lfs_model.specs.Changes.{PairContentChange, raw_pair_content_after_changes}
 use Rattle.lfs_model.specs.Content.{pair_content_if_slots_complete, has_commit, current_block_of_two, current_block_of_pair_at, is_later_revision, empty_raw_pair_content, raw_content_of_pair_at}
-use Rattle.lfs_model.specs.Disk.{Disk, block_bytes_on_disk, block_count}
+use Rattle.lfs_model.specs.declared.order.NameOrder.{NameOrder}
+use Rattle.lfs_model.specs.Disk.{Disk, block_bytes_on_disk, block_count, disk_in_order}
 use Rattle.lfs_model.specs.Fresh.{content_of_fresh_disk, only_pair_of_fresh_disk, superblock_struct_bytes}
 use Rattle.lfs_model.specs.Geometry.{IsValidGeometry}
 use Rattle.lfs_model.specs.History.{DeviceCallEvent}
@@ -31,7 +32,7 @@ use Rattle.lfs_model.proofs.BlockSets.{Contains-cons, Contains-head, Contains-ta
 use Rattle.lfs_pair.specs.Commit.{IsPairAddressOnDisk}
 use Rattle.lfs_pair.specs.Fresh as pair
 use Rattle.lfs_pair.specs.Writing.{HasContentInOneCommit}
-use Rattle.lfs_thread.specs.Kept.{AreAllBlocksUsed, PairHeader, KeptThread, WasKeptThreadOnDisk, pair_on_disk_at, pairs_of_headers, kept_thread_view, kept_thread_of_device}
+use Rattle.lfs_thread.specs.Kept.{AreAllBlocksUsed, PairHeader, KeptThread, WasKeptThreadOnDisk, pair_on_disk_at, pairs_of_headers, kept_thread_view, kept_thread_in_order}
 use Rattle.lfs_thread.specs.Steps.{ThreadChangesOnlyTheseBlocks}
 use Rattle.lfs_tree.specs.Formats.{IsBlockMapAfterFormat, IsHeaderOfEmptyRoot, IsThreadOfEmptyRoot, IsFreshlyFormatted, IsWritableImageWithEmptyRoot, superblock_slot_changes, content_with_superblock_only}
 
@@ -195,9 +196,9 @@ pub empty_kept : (disk : Disk) (history : List DeviceCallEvent) (hs : List PairH
 empty_kept disk history hs sets n count thread map =
     subst (λ z. WasKeptThreadOnDisk disk history z sets) (sym thread.only) (kept disk history thread.first sets thread.root (subst (λ k. IsBlockMapAfterFormat k sets) (sym count) map))
 
-pub empty_formatted : (disk : Disk) (history : List DeviceCallEvent) (hs : List PairHeader) (sets : BlockStateList) (n : ℕ) → block_count disk ≡ n → IsThreadOfEmptyRoot disk history hs → IsBlockMapAfterFormat n sets → IsFreshlyFormatted (kept_thread_view disk history hs sets)
-empty_formatted disk history hs sets n count thread map = record {
-  fresh = thread.root.fresh;
+pub empty_formatted : (order : NameOrder) (disk : Disk) (history : List DeviceCallEvent) (hs : List PairHeader) (sets : BlockStateList) (n : ℕ) → block_count disk ≡ n → IsThreadOfEmptyRoot disk history hs → IsBlockMapAfterFormat n sets → IsFreshlyFormatted (kept_thread_view (disk_in_order order disk) history hs sets)
+empty_formatted order disk history hs sets n count thread map = record {
+  fresh = record { geometry = thread.root.fresh.geometry; content = thread.root.fresh.content; first = thread.root.fresh.first };
   first = thread.root.first;
   second = thread.root.second;
   pairs = ap (pairs_of_headers disk) thread.only ∙ pairs_are disk history thread.first thread.root;
@@ -214,14 +215,14 @@ shows_empty t h = record {
 }
 
 -- what was written of the device, in the words of the thread
-pub wrote : {D : Type 0} (g : Ghosts D) {old new : D} (hs : List PairHeader) (sets : BlockStateList) (bs : List ℕ) → ChangesOnlyTheseBlocks g bs old new → ThreadChangesOnlyTheseBlocks bs (kept_thread_of_device g old [] []) (kept_thread_of_device g new hs sets)
-wrote g hs sets bs w = record {
+pub wrote : {D : Type 0} (g : Ghosts D) (order : NameOrder) {old new : D} (hs : List PairHeader) (sets : BlockStateList) (bs : List ℕ) → ChangesOnlyTheseBlocks g bs old new → ThreadChangesOnlyTheseBlocks bs (kept_thread_in_order g order old [] []) (kept_thread_in_order g order new hs sets)
+wrote g order hs sets bs w = record {
   others = w.others;
   elsewhere = w.elsewhere;
   shape = record {
     block_size = ap (λ (k : Geometry). k.block_size) w.geometry;
     page = ap (λ (k : Geometry). k.page) w.geometry;
-    order = ap (λ (k : Geometry). k.order) w.geometry;
+    order = refl;
     profile = ap (λ (k : Geometry). k.profile) w.geometry;
     count = w.others.count;
   };

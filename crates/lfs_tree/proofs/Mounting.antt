@@ -4,10 +4,9 @@ use Rattle.std.specs.List.{IsDistinct}
 use Rattle.std.specs.Prelude.{◌↔◌, IsTrue}
 use Rattle.lfs_device.specs.declared.device.BlockDevice.{Ghosts}
 use Rattle.lfs_device.specs.declared.error.Error.{Error}
-use Rattle.lfs_device.specs.Shown.{disk_with_name_order}
+use Rattle.lfs_model.specs.Disk.{disk_in_order, Disk, block_count}
 use Rattle.lfs_device.specs.declared.error.Error.TheVariants.{Io}
 use Rattle.lfs_model.specs.BlockSets.{AreExactlyTheInFlightBlocks, AreExactlyTheUsedBlocks, BlockStateList}
-use Rattle.lfs_model.specs.Disk.{Disk, block_count}
 use Rattle.lfs_model.specs.History.{DeviceCallEvent, AreCallsSinceOnlyReads, fault_count_of_history, read_count_of_history}
 use Rattle.lfs_model.specs.Thread.{Pair, pair_count_before_root}
 use Rattle.lfs_model.specs.View.{IsAcceptedImage, DiskView}
@@ -16,8 +15,8 @@ use Rattle.lfs_model.specs.Shown.{used_blocks}
 use Rattle.lfs_model.proofs.BlockSets.{in_flight_block_count-AreExactlyTheInFlightBlocks}
 use Rattle.lfs_model.proofs.Histories.{AreCallsSinceOnlyReads-trans, read_count_of_history-since}
 use Rattle.lfs_mount.specs.Accepted.{IsMountedThread}
-use Rattle.lfs_mount.specs.Either.{ReturnsUnchangedDeviceWithError}
 use Rattle.lfs_model.specs.declared.order.NameOrder.{NameOrder}
+use Rattle.lfs_model.specs.declared.order.NameOrder.TheVariants.{LongerFirst}
 use Rattle.lfs_thread.specs.Device.{GivesDeviceBackOnlyReadWithError}
 use Rattle.lfs_thread.specs.Kept.{KeptThread, ThreadView, disk_of_device}
 use Rattle.lfs_thread.specs.Steps.{IsThreadOnlyRead}
@@ -69,21 +68,11 @@ module _ (disk : Disk) (history : List DeviceCallEvent) (a b : ThreadView) (root
   }
 
 -- the device comes back with the error of a read
-pub read_back : {D X : Type 0} (g : Ghosts D) (old back : D) (a b : ThreadView) (r : Result X Error) (e : Error)
-    → IsMountedThread (disk_of_device g old) (g.history old) a → r ≡ Err e → OnlyReadsThreadAndReportsErrors a b r → disk_of_device g back ≡ b.kept.disk → g.history back ≡ b.kept.history → GivesDeviceBackOnlyReadWithError g old back e
-read_back {X = X} g old back a b r e m is read same later = record {
-  disk = same ∙ read.only.disk ∙ m.disk_is;
-  reads = subst (λ (h : List DeviceCallEvent). AreCallsSinceOnlyReads (g.blocks old) (g.history old) h) (sym later) (AreCallsSinceOnlyReads-trans m.reads read.only.reads (ap (λ (d : Disk). d.blocks) m.disk_is));
-  fault = λ io. (let k = read.reported.fault (is ∙ ap Err io) in let n = m.no_fault in let l = ap fault_count_of_history later in omega (arith, k, n, l));
-  no_fault = λ other. ap fault_count_of_history later ∙ read.reported.no_fault (λ z. other (same_error e Io (sym is ∙ z))) ∙ m.no_fault;
-}
-
--- the same of a device whose names are in an order that was found
-pub given_back_either : {D X : Type 0} (g : Ghosts D) (old back : D) (order : NameOrder) (a b : ThreadView) (r : Result X Error) (e : Error)
-    → IsMountedThread (disk_with_name_order a.kept.disk.order (disk_of_device g old)) (g.history old) a → r ≡ Err e → OnlyReadsThreadAndReportsErrors a b r → disk_with_name_order order (disk_of_device g back) ≡ b.kept.disk → g.history back ≡ b.kept.history
-    → ReturnsUnchangedDeviceWithError g old back e
-given_back_either {X = X} g old back order a b r e m is read same later = record {
-  disk = λ other. ap (disk_with_name_order other) (same ∙ read.only.disk ∙ m.disk_is);
+pub read_back : {D X : Type 0} (g : Ghosts D) (old back : D) (order now : NameOrder) (a b : ThreadView) (r : Result X Error) (e : Error)
+    → IsMountedThread (disk_in_order order (disk_of_device g old)) (g.history old) a → r ≡ Err e → OnlyReadsThreadAndReportsErrors a b r → disk_in_order now (disk_of_device g back) ≡ b.kept.disk → g.history back ≡ b.kept.history
+    → GivesDeviceBackOnlyReadWithError g old back e
+read_back {X = X} g old back order now a b r e m is read same later = record {
+  disk = ap (disk_in_order LongerFirst) (same ∙ read.only.disk ∙ m.disk_is);
   reads = subst (λ (h : List DeviceCallEvent). AreCallsSinceOnlyReads (g.blocks old) (g.history old) h) (sym later) (AreCallsSinceOnlyReads-trans m.reads read.only.reads (ap (λ (d : Disk). d.blocks) m.disk_is));
   fault = λ io. (let k = read.reported.fault (is ∙ ap Err io) in let n = m.no_fault in let l = ap fault_count_of_history later in omega (arith, k, n, l));
   no_fault = λ other. ap fault_count_of_history later ∙ read.reported.no_fault (λ z. other (same_error e Io (sym is ∙ z))) ∙ m.no_fault;

@@ -4,14 +4,13 @@ use Rattle.lfs_device.specs.declared.device.BlockDevice.{Ghosts}
 use Rattle.lfs_device.specs.declared.error.Error.{Error}
 use Rattle.lfs_device.specs.declared.error.Error.TheVariants.{Io, NoMemory}
 use Rattle.lfs_device.specs.Calls.{ChangesOnlyTheseBlocks}
-use Rattle.lfs_device.specs.Shown.{disk_with_name_order}
+use Rattle.lfs_model.specs.Disk.{disk_in_order, Disk, SameGeometry, block_bytes_on_disk, block_count}
 use Rattle.lfs_model.specs.Blocks.{AreBlocksEqualExceptThese}
 use Rattle.lfs_model.specs.declared.order.NameOrder.{NameOrder}
 use Rattle.lfs_model.specs.BlockSets.{AreExactlyTheInFlightBlocks, AreExactlyTheUsedBlocks, BlockStateList}
 use Rattle.lfs_model.specs.Changes.{PairContentChange, Create, PutStruct}
 use Rattle.lfs_model.specs.Content.{RawPairContent, has_commit}
 use Rattle.lfs_model.specs.EntryTypes.{inline_struct_type, superblock_name_type}
-use Rattle.lfs_model.specs.Disk.{Disk, SameGeometry, block_bytes_on_disk, block_count}
 use Rattle.lfs_model.specs.Fresh.{IsFreshDisk, empty_tree, only_pair_of_fresh_disk, superblock_struct_bytes}
 use Rattle.lfs_model.specs.History.{ArePossibleBlocksAfterPowerLossInCall, DeviceCallEvent, IsTrueAfterAnyPowerLossSince, AreBytesStillUnprogrammed, erase_count_of_history, fault_count_of_history}
 use Rattle.lfs_model.specs.Slots.{zero_gstate}
@@ -89,17 +88,6 @@ pub record WritesFirstTwoBlocks (old new : KeptThread) : Type 0 where
 pub record FailedFormatSparesOtherBlocks {D : Type 0} (g : Ghosts D) (bs : List ℕ) (old back : D) (error : Error) : Type 0 where
   pub errors : (error ≡ Io) ⊎ (error ≡ NoMemory)
   pub writes : ChangesOnlyTheseBlocks g bs old back
-  pub unwritten : error ≡ NoMemory → back ≡ old
-  pub fault : error ≡ Io → fault_count_of_history (g.history old) < fault_count_of_history (g.history back)
-  pub no_fault : error ≢ Io → fault_count_of_history (g.history back) ≡ fault_count_of_history (g.history old)
-
--- The same of a device, in either order of names.
-pub record FailedFormatSparesOtherBlocksInBothOrders {D : Type 0} (g : Ghosts D) (bs : List ℕ) (old back : D) (error : Error) : Type 0 where
-  pub errors : (error ≡ Io) ⊎ (error ≡ NoMemory)
-  pub others : AreBlocksEqualExceptThese bs (g.blocks old) (g.blocks back)
-  pub elsewhere : AreBytesStillUnprogrammed bs (g.history old) (g.history back)
-  pub geometry : (order : NameOrder) → SameGeometry (disk_with_name_order order (disk_of_device g old)) (disk_with_name_order order (disk_of_device g back))
-  pub at_worst : IsTrueAfterAnyPowerLossSince ArePossibleBlocksAfterPowerLossInCall (g.history old) (g.history back) (AreBlocksEqualExceptThese bs (g.blocks old))
   pub unwritten : error ≡ NoMemory → back ≡ old
   pub fault : error ≡ Io → fault_count_of_history (g.history old) < fault_count_of_history (g.history back)
   pub no_fault : error ≢ Io → fault_count_of_history (g.history back) ≡ fault_count_of_history (g.history old)

@@ -6,13 +6,14 @@ ghost use Rattle.lfs_model.specs.History.{erase_count_of_history};
 ghost use Rattle.lfs_model.specs.Thread.{anchor_pair_address, blocks_of_pair_address};
 ghost use Rattle.lfs_pair.specs.ChangeView.{changes_view};
 ghost use Rattle.lfs_pair.specs.Fresh.{LeavesDeviceUntouchedAtNoMemory};
-ghost use Rattle.lfs_thread.specs.Kept.{disk_of_device, kept_thread_of_device};
+ghost use Rattle.lfs_thread.specs.Kept.{disk_of_device, kept_thread_in_order};
 ghost use Rattle.lfs_thread.specs.Steps.{ThreadChangesOnlyTheseBlocks};
 ghost use Rattle.lfs_tree.specs.Formats.{FailedFormatSparesOtherBlocks, ErasesTwoBlocks, IsBlockMapAfterFormat, IsHeaderOfEmptyRoot, IsThreadOfEmptyRoot, IsFreshlyFormatted, IsWritableImageWithEmptyRoot, superblock_slot_changes};
 
 use lfs_alloc::BlockMap;
 use lfs_cache::Cache;
 use lfs_device::{BlockDevice, Error};
+use lfs_model::NameOrder;
 use lfs_pair::{Change, Pair};
 use lfs_tag::kinds::{INLINE_STRUCT, SUPERBLOCK_NAME};
 use lfs_tag::{Superblock, superblock_bytes};
@@ -97,18 +98,23 @@ fn make_cache_and_block_map(alloc: Global, block_count: u32) -> Result<(Cache, B
 /// LFS_TYPE_SUPERBLOCK"). The superblock gives version 2.0, the device's block size in bytes and
 /// its block count. It also gives the limits of the device's profile, in bytes: the longest name,
 /// file and attribute. These are 255, 2,147,483,647 and 1,022 where the profile has no lower ones.
-/// The root directory is empty then, and the image may be written.
+/// The root directory is empty then, and the image may be written. The directories will have their
+/// names in that order, which isn't stored: a mount finds it by the names.
 ///
 /// No other block is written. A loss of power during the call leaves each other block as it was.
 ///
 /// Errors: `Io` where a call of the device failed; the two blocks may hold any bytes then.
 /// `NoMemory` where memory for the map, the headers and a block isn't granted; nothing is written
 /// then. An error comes with the device.
-pub fn format<D: BlockDevice>(alloc: Global, mut device: D) -> Result<Thread<D>, (D, Error)>
+pub fn format<D: BlockDevice>(
+    alloc: Global,
+    mut device: D,
+    order: NameOrder,
+) -> Result<Thread<D>, (D, Error)>
     ensures works { IfOk result (λ t. t.failed ≡ false) }
     ensures formatted { IfOk result (λ t. IsFreshlyFormatted t.kept) }
     ensures shows { IfOk result (λ t. IsWritableImageWithEmptyRoot t.kept) }
-    ensures writes { IfOk result (λ t. ThreadChangesOnlyTheseBlocks (blocks_of_pair_address anchor_pair_address) (kept_thread_of_device D.BlockDevice device [] []) t.kept) }
+    ensures writes { IfOk result (λ t. ThreadChangesOnlyTheseBlocks (blocks_of_pair_address anchor_pair_address) (kept_thread_in_order D.BlockDevice order device [] []) t.kept) }
     ensures calls { IfOk result (λ t. ErasesTwoBlocks (D.history device) t.kept.history) }
     ensures back { IfErr result (λ e. FailedFormatSparesOtherBlocks D.BlockDevice (blocks_of_pair_address anchor_pair_address) device e.0 e.1) }
 {
@@ -121,6 +127,7 @@ pub fn format<D: BlockDevice>(alloc: Global, mut device: D) -> Result<Thread<D>,
     match write_thread_of_root_pair(alloc, &mut device, &mut pairs) {
         Ok(()) => Ok(Thread::from_parts(ThreadParts {
             device,
+            order,
             cache,
             pairs,
             map,

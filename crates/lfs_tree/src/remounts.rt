@@ -39,12 +39,14 @@ pub(crate) fn mount_again<D: BlockDevice>(
     ensures errors { IfErr result.1 (IsMountErrorWithCause tree result.0) }
 {
     let is_writable = tree.is_writable;
+    let order = tree.order();
     let SpareThreadParts { alloc, cache, map } = spare;
-    match Tree::mount(alloc, tree.into_device()) {
+    match Tree::mount_in_order(alloc, tree.into_device(), order) {
         Ok(tree) => (tree, Ok(())),
         Err((device, error)) => {
             let thread = Thread::failed_thread_of_parts(ThreadParts {
                 device,
+                order,
                 cache,
                 pairs: Vec::new(alloc),
                 map,

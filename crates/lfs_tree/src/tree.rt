@@ -11,12 +11,14 @@ ghost use Rattle.lfs_model.specs.Profile.{superblock_of_image};
 ghost use Rattle.lfs_model.specs.Slots.{zero_gstate};
 ghost use Rattle.lfs_model.specs.Thread.{Pair, anchor_pair_address, gstate_of_pairs, blocks_of_pair_address};
 ghost use Rattle.lfs_model.specs.View.{IsAcceptedImage};
-ghost use Rattle.lfs_model.specs.Disk.{SameGeometry, block_count};
+ghost use Rattle.lfs_model.specs.Disk.{SameGeometry, block_count, disk_in_order};
+ghost use Rattle.lfs_model.specs.declared.order.NameOrder.{NameOrder};
+ghost use Rattle.lfs_model.specs.declared.order.NameOrder.TheVariants.{LongerFirst, ShorterFirst};
 ghost use Rattle.lfs_model.specs.Effects.{directory_items_at_path};
 ghost use Rattle.lfs_mount.specs.Device.{IsIoCorruptOrNoMemory};
 ghost use Rattle.lfs_tag.specs.FieldsView.{move_view, superblock_view};
 ghost use Rattle.lfs_thread.specs.Device.{GivesDeviceBackOnlyReadWithError};
-ghost use Rattle.lfs_thread.specs.Kept.{disk_of_device, kept_thread_of_device};
+ghost use Rattle.lfs_thread.specs.Kept.{disk_of_device, kept_thread_in_order};
 ghost use Rattle.lfs_tree.specs.Permissions.{CanCreateFileAtPath, CanMakeDirectoryAtPath, CanRemoveEntryAtPath, CanRemoveAttrAtPath, CanSetAttrAtPath};
 ghost use Rattle.lfs_lookup.specs.CachedPairs.{AreFewDirectoriesOfOnePairEach};
 ghost use Rattle.lfs_tree.specs.CreationPaths.{IsLookupResultAtCreationPath};
@@ -44,6 +46,7 @@ use lfs_lookup::{
     find_if_path_has_entries, find_node_at_path, find_total_size_of_attributes_at_path,
     list_directory_at_path,
 };
+use lfs_model::NameOrder;
 use lfs_tag::{MoveState, Superblock};
 use lfs_thread::Thread;
 use std::alloc::Global;
@@ -74,13 +77,15 @@ impl<D: BlockDevice> Model for Tree<D> {
 }
 
 impl<D: BlockDevice> Tree<D> {
-    /// Reads the image of a device. Only reads are made.
+    /// Reads the image of a device, in the order of names that it has. Where both orders fit, the
+    /// longer names come first. Only reads are made.
     ///
-    /// Errors: `Corrupt` exactly where the device has no accepted image. `Io` where a read failed.
-    /// `NoMemory` where memory isn't granted. An error comes with the device.
+    /// Errors: `Corrupt` exactly where the device has no accepted image in either order. `Io` where
+    /// a read failed. `NoMemory` where memory isn't granted. An error comes with the device.
     pub fn mount(alloc: Global, device: D) -> Result<Tree<D>, (D, Error)>
-        ensures mounted { IfOk result (IsMountedTree (disk_of_device D.BlockDevice device) (D.history device)) }
-        ensures corrupt { IfErr result (λ e. e.1 ≡ Error.Corrupt → (ps : List Pair) → ¬ IsAcceptedImage (disk_of_device D.BlockDevice device) ps) }
+        ensures mounted { IfOk result (λ t. IsMountedTree (disk_in_order t.disk.order (disk_of_device D.BlockDevice device)) (D.history device) t) }
+        ensures longer { IfOk result (λ t. t.disk.order ≡ ShorterFirst → (ps : List Pair) → ¬ IsAcceptedImage (disk_in_order LongerFirst (disk_of_device D.BlockDevice device)) ps) }
+        ensures corrupt { IfErr result (λ e. e.1 ≡ Error.Corrupt → (order : NameOrder) (ps : List Pair) → ¬ IsAcceptedImage (disk_in_order order (disk_of_device D.BlockDevice device)) ps) }
         ensures errors { IfErr result (λ e. IsIoCorruptOrNoMemory e.1) }
         ensures back { IfErr result (λ e. GivesDeviceBackOnlyReadWithError D.BlockDevice device e.0 e.1) }
     {
@@ -95,18 +100,40 @@ impl<D: BlockDevice> Tree<D> {
         }
     }
 
+    // Reads the image of a device, whose names are in that order.
+    pub(crate) fn mount_in_order(
+        alloc: Global,
+        device: D,
+        order: NameOrder,
+    ) -> Result<Tree<D>, (D, Error)>
+        ensures mounted { IfOk result (IsMountedTree (disk_in_order order (disk_of_device D.BlockDevice device)) (D.history device)) }
+        ensures corrupt { IfErr result (λ e. e.1 ≡ Error.Corrupt → (ps : List Pair) → ¬ IsAcceptedImage (disk_in_order order (disk_of_device D.BlockDevice device)) ps) }
+        ensures errors { IfErr result (λ e. IsIoCorruptOrNoMemory e.1) }
+        ensures back { IfErr result (λ e. GivesDeviceBackOnlyReadWithError D.BlockDevice device e.0 e.1) }
+    {
+        let mut thread = lfs_mount::mount_in_order(alloc, device, order)?;
+        match find_root_and_writing_profile(alloc, &mut thread) {
+            Ok((root, is_writable)) => Ok(Tree {
+                thread,
+                root,
+                is_writable,
+            }),
+            Err(error) => Err((thread.into_device(), error)),
+        }
+    }
+
     /// Makes an empty file system on a device, as [`format`](crate::format) does.
     ///
     /// Errors are those of that call.
-    pub fn format(alloc: Global, device: D) -> Result<Tree<D>, (D, Error)>
+    pub fn format(alloc: Global, device: D, order: NameOrder) -> Result<Tree<D>, (D, Error)>
         ensures works { IfOk result (λ t. (t.failed ≡ false) × (t.writable ≡ true)) }
         ensures sound { IfOk result IsSoundTreeState }
         ensures formatted { IfOk result (λ t. IsFreshlyFormatted (kept_thread_of_tree_state t)) }
-        ensures geometry { IfOk result (λ t. SameGeometry (disk_of_device D.BlockDevice device) t.disk) }
-        ensures calls { IfOk result (λ t. WritesFirstTwoBlocks (kept_thread_of_device D.BlockDevice device [] []) (kept_thread_of_tree_state t)) }
+        ensures geometry { IfOk result (λ t. SameGeometry (disk_in_order order (disk_of_device D.BlockDevice device)) t.disk) }
+        ensures calls { IfOk result (λ t. WritesFirstTwoBlocks (kept_thread_in_order D.BlockDevice order device [] []) (kept_thread_of_tree_state t)) }
         ensures back { IfErr result (λ e. FailedFormatSparesOtherBlocks D.BlockDevice (blocks_of_pair_address anchor_pair_address) device e.0 e.1) }
     {
-        match format(alloc, device) {
+        match format(alloc, device, order) {
             Ok(thread) => Ok(Tree {
                 thread,
                 root: 0,
@@ -135,7 +162,7 @@ impl<D: BlockDevice> Tree<D> {
 
     /// Borrows the device, as the last call left it, after an error too.
     pub fn device(&self) -> &D
-        ensures disk { disk_of_device D.BlockDevice result.now ≡ self.now.disk }
+        ensures disk { disk_in_order self.now.disk.order (disk_of_device D.BlockDevice result.now) ≡ self.now.disk }
         ensures history { D.history result.now ≡ self.now.history }
     {
         self.thread.device()
@@ -143,10 +170,17 @@ impl<D: BlockDevice> Tree<D> {
 
     /// Returns the device, as the last call left it, also from a tree that has failed.
     pub fn into_device(self) -> D
-        ensures disk { disk_of_device D.BlockDevice result ≡ self.disk }
+        ensures disk { disk_in_order self.disk.order (disk_of_device D.BlockDevice result) ≡ self.disk }
         ensures history { D.history result ≡ self.history }
     {
         self.thread.into_device()
+    }
+
+    /// Returns the order of the names in the image's directories.
+    pub fn order(&self) -> NameOrder
+        ensures { result ≡ self.now.disk.order }
+    {
+        self.thread.order()
     }
 
     /// Returns whether a call failed.

@@ -25,10 +25,10 @@ module _ {D : Type 0} (g : Ghosts D) (t : KeptThread) (device : D) (map : BlockS
   size_here = ap (λ (d : Disk). d.block_size) shows.disk
 
   pub divided_here : DiskHasGeometry (g.geometry device) t.disk
-  divided_here = record { block_size = size_here; page = ap (λ (d : Disk). d.page) shows.disk; order = ap (λ (d : Disk). d.order) shows.disk; profile = ap (λ (d : Disk). d.profile) shows.disk; count = sym shape.count ∙ ap length blocks_here }
+  divided_here = record { block_size = size_here; page = ap (λ (d : Disk). d.page) shows.disk; profile = ap (λ (d : Disk). d.profile) shows.disk; count = sym shape.count ∙ ap length blocks_here }
 
   pub geometry_here : (x : Geometry) → DiskHasGeometry x t.disk → g.geometry device ≡ x
-  geometry_here x of_disk = geometry_is (g.geometry device) x (size_here ∙ sym of_disk.block_size) (divided_here.page ∙ sym of_disk.page) (divided_here.order ∙ sym of_disk.order) (divided_here.profile ∙ sym of_disk.profile) (divided_here.count ∙ sym of_disk.count)
+  geometry_here x of_disk = geometry_is (g.geometry device) x (size_here ∙ sym of_disk.block_size) (divided_here.page ∙ sym of_disk.page) (divided_here.profile ∙ sym of_disk.profile) (divided_here.count ∙ sym of_disk.count)
 
   pub stands_here : (contents : WriterContents) → AreContentsConsistentWithThread t contents → AreContentsConsistentWithMapAndDisk map (g.blocks device) (g.geometry device) contents
   stands_here contents is =

@@ -40,8 +40,8 @@ FetchesChange calls number fetched.NoneYet old new buffer filled = (length calls
 FetchesChange calls number fetched.NotKept old new buffer filled = (new ≡ old) × (filled ≡ buffer)
 
 -- the number of the next change, if there are numbers
-abbrev pub IsNumberOfNextChange : List DeviceCall → Option ℕ → Type 0
-IsNumberOfNextChange calls number = IfSome number (λ n. n ≡ length calls)
+abbrev pub IsNextChange : List DeviceCall → Option ℕ → Type 0
+IsNextChange calls number = IfSome number (λ n. n ≡ length calls)
 
 -- ---- answers
 
@@ -64,4 +64,4 @@ IsFetchAnswer number shown after buffer filled code old new = AnswersWithCode {X
 
 -- the number of a session's next change
 abbrev pub IsNoteAnswer : ℤ → SessionView → SessionView → Type 0
-IsNoteAnswer code old new = AnswersWithCode {X = Option ℕ} code_of_change_number (λ s number. IsNumberOfNextChange (writes_of_history s.tree.history) number) code old new
+IsNoteAnswer code old new = AnswersWithCode {X = Option ℕ} code_of_change_number (λ s number. IsNextChange (writes_of_history s.tree.history) number) code old new

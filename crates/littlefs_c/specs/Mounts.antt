@@ -3,10 +3,10 @@ use Rattle.std.specs.Prelude.{ℕ, ℤ, ◌≡◌, ◌⊎◌, ◌*◌, List, [],
 use Rattle.lfs_device.specs.declared.error.Error.{Error}
 use Rattle.lfs_device.specs.declared.error.Error.TheVariants.{Busy, Invalid, NoMemory}
 use Rattle.lfs_device.specs.RamDevice.{geometry_of_ram_device, history_of_ram_device, ram_blocks}
-use Rattle.lfs_device.specs.Shown.{disk_of_geometry_and_blocks, disk_with_name_order}
+use Rattle.lfs_device.specs.Shown.{disk_of_geometry_and_blocks}
+use Rattle.lfs_model.specs.Disk.{disk_in_order, Disk, SameGeometry}
 use Rattle.lfs_device.specs.declared.ram.RamDevice.{RamDevice}
 use Rattle.lfs_model.specs.Blocks.{AreBlocksEqualExceptThese, cut}
-use Rattle.lfs_model.specs.Disk.{Disk, SameGeometry}
 use Rattle.lfs_model.specs.EntryTypes.{SuperblockFields}
 use Rattle.lfs_model.specs.Fresh.{IsFreshDisk, empty_tree}
 use Rattle.lfs_model.specs.Geometry.{IsValidGeometry}
@@ -60,7 +60,7 @@ pub record GiveDisk (config : Config) (count : ℕ) : Type 0 where
 -- A device in memory that has the blank disk, and has had no call.
 pub record IsBlankDevice (config : Config) (count : ℕ) (d : RamDevice) : Type 0 where
   pub given : GiveDisk config count
-  pub disk : disk_with_name_order (name_order_of_config config) (disk_of_geometry_and_blocks (geometry_of_ram_device d) (ram_blocks d)) ≡ blank_disk config count
+  pub disk : disk_in_order (name_order_of_config config) (disk_of_geometry_and_blocks (geometry_of_ram_device d) (ram_blocks d)) ≡ blank_disk config count
   pub no_call : history_of_ram_device d ≡ []
 
 -- A session over a new image: its disk is a fresh one, whose blocks but the first two are blank.

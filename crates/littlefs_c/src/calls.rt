@@ -17,7 +17,8 @@ use crate::reads::{
     attribute_bytes_at_path_in_image, directory_items_of_image, read_part_of_file_in_image,
 };
 use bitflags::Flags;
-use lfs_device::{Error, NameOrder};
+use lfs_device::Error;
+use lfs_model::NameOrder;
 use lfs_fs::{Op, OpenFlags, format_ordered};
 use std::alloc::Global;
 

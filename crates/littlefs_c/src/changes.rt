@@ -3,7 +3,7 @@
 ghost use Rattle.std.specs.Prelude.{◌≡◌, ◌<◌, ◌^◌, IfSome, List};
 ghost use Rattle.lfs_model.specs.History.{DeviceCall};
 ghost use Rattle.littlefs_c.specs.Changes.{AreNoted, call_of_change, writes_of_history};
-ghost use Rattle.littlefs_c.specs.Fetches.{FetchesChange, IsFetchAnswer, IsNoteAnswer, IsNumberOfNextChange, IsShownChange, buffer_after_change, code_of_change_number, code_of_fetched};
+ghost use Rattle.littlefs_c.specs.Fetches.{FetchesChange, IsFetchAnswer, IsNoteAnswer, IsNextChange, IsShownChange, buffer_after_change, code_of_change_number, code_of_fetched};
 ghost use Rattle.littlefs_c.specs.Sessions.{CallsSession};
 
 use crate::buffers::copy_to_buffer_if_bytes_fit;
@@ -111,7 +111,7 @@ fn fetch_session_change(
 
 // Keeps the changes of a session's image from the next one on. Returns its number.
 fn next_change_number(session: &Session<HeldDevice>) -> Option<u64>
-    ensures number { IsNumberOfNextChange (writes_of_history session.now.tree.history) result }
+    ensures number { IsNextChange (writes_of_history session.now.tree.history) result }
     ensures small { IfSome result (λ n. n < 2 ^ 63) }
 {
     session.device().inner().notes().begin()

@@ -3,7 +3,8 @@
 ghost use Rattle.std.specs.Prelude.{◌≡◌, ◌↔◌, IsTrue};
 ghost use Rattle.littlefs_c.specs.Configs.{IsValidConfig, name_order_of_config, profile_of_config};
 
-use lfs_device::{AcceptedVersions, NameOrder, Profile};
+use lfs_device::{AcceptedVersions, Profile};
+use lfs_model::NameOrder;
 
 /// How an image is divided, what is accepted of it, and what is written there. Sizes are in bytes.
 #[repr(C)]

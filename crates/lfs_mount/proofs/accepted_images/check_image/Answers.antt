@@ -1,8 +1,8 @@
 use Rattle.std.proofs.Common.{◌≡◌, ◌≤◌, ◌+◌, Err, List, true, sym, ap, ap₂, subst, subst₂, arith}
 use Rattle.std.specs.Prelude.{sum_by}
 use Rattle.std.proofs.lemmas.Result.{err_from_is_err_and}
-use Rattle.lfs_device.specs.Shown.{disk_of_geometry_and_blocks, disk_with_name_order}
-use Rattle.lfs_model.specs.Disk.{Disk}
+use Rattle.lfs_device.specs.Shown.{disk_of_geometry_and_blocks}
+use Rattle.lfs_model.specs.Disk.{disk_in_order, Disk}
 use Rattle.lfs_model.specs.History.{read_count_of_history}
 use Rattle.lfs_model.specs.Slots.{Gstate}
 use Rattle.lfs_tag.specs.FieldsView.{move_view}
@@ -23,7 +23,7 @@ pub returns-in_err-count-clause-corrupt : goal.returns-in_err-count-clause-corru
 returns-in_err-count-clause-corrupt g c = λ is order.
     let disk : Disk = disk_of_device g.D.BlockDevice c.args.device.now in
     let e = err_from_is_err_and c.from_residual.result c.from_residual.ensures.1 in
-    none_accepted (disk_with_name_order order disk) (pairs_of_headers disk c.args.pairs.now) c.requires.thread (c.in_err-count.ensures.corrupt (ap Err (same_error e.1 e.2 is)) order)
+    none_accepted (disk_in_order order disk) (pairs_of_headers disk c.args.pairs.now) c.requires.thread (c.in_err-count.ensures.corrupt (ap Err (same_error e.1 e.2 is)) order)
 
 pub pairs_from_index-directories-requires : goal.pairs_from_index-directories-requires
 pairs_from_index-directories-requires g c =
@@ -36,7 +36,7 @@ returns-in_err-check_move-clause-corrupt g c = λ is order.
     let disk : Disk = disk_of_device g.D.BlockDevice c.args.device.now in
     let history = g.D.BlockDevice.history c.args.device.now in
     let state : Gstate = move_view c.args.state.now in
-    move_refuses (disk_with_name_order order disk) history c.args.pairs.now c.args.map.now state c.in_ok-count.count (read_in order disk history c.args.pairs.now c.args.map.now state c.requires)
+    move_refuses (disk_in_order order disk) history c.args.pairs.now c.args.map.now state c.in_ok-count.count (read_in order disk history c.args.pairs.now c.args.map.now state c.requires)
     (head_in order disk c.args.pairs.now c.in_ok-count.count c.in_ok-count.ensures.head)
     c.pairs_from_index-directories.result.now c.pairs_from_index-directories.ensures c.in_err-check_move.ensures.refused
 
@@ -60,9 +60,9 @@ returns-in_err-orders-clause-corrupt g c = λ is order.
     let read = c.in_ok-count.ensures.device in
     let e = err_from_is_err_and c.from_residual-in_err-orders.result c.from_residual-in_err-orders.ensures.1 in
     let state : Gstate = move_view c.args.state.now in
-    pairs_refuse (disk_with_name_order order disk) history c.args.pairs.now c.args.map.now state c.in_ok-count.count (read_in order disk history c.args.pairs.now c.args.map.now state c.requires)
+    pairs_refuse (disk_in_order order disk) history c.args.pairs.now c.args.map.now state c.in_ok-count.count (read_in order disk history c.args.pairs.now c.args.map.now state c.requires)
     (head_in order disk c.args.pairs.now c.in_ok-count.count c.in_ok-count.ensures.head)
-    (disk_with_name_order order now) (ap (disk_with_name_order order) (ap₂ disk_of_geometry_and_blocks read.geometry read.same)) c.pairs_from_index-directories.result.now c.pairs_from_index-directories.ensures (c.in_err-orders.ensures.corrupt (ap Err (same_error e.1 e.2 is)) order)
+    (disk_in_order order now) (ap (disk_in_order order) (ap₂ disk_of_geometry_and_blocks read.geometry read.same)) c.pairs_from_index-directories.result.now c.pairs_from_index-directories.ensures (c.in_err-orders.ensures.corrupt (ap Err (same_error e.1 e.2 is)) order)
 
 pub returns-in_err-orders-clause-device : goal.returns-in_err-orders-clause-device
 returns-in_err-orders-clause-device g c = then_reads c.in_ok-count.ensures.device c.in_err-orders.ensures.device
@@ -74,10 +74,10 @@ returns-clause-image g c = λ order.
     let history = g.D.BlockDevice.history c.args.device.now in
     let read = c.in_ok-count.ensures.device in
     let state : Gstate = move_view c.args.state.now in
-    subst (HasAcceptedImageIfNameOrderFits (disk_with_name_order order disk) c.args.pairs.now (includes_name_order order c.in_ok-orders.orders) c.args.map.now) (sym c.start_allocation_elsewhere.ensures.same)
-    (has_image (disk_with_name_order order disk) history c.args.pairs.now c.args.map.now state c.in_ok-count.count (read_in order disk history c.args.pairs.now c.args.map.now state c.requires)
+    subst (HasAcceptedImageIfNameOrderFits (disk_in_order order disk) c.args.pairs.now (includes_name_order order c.in_ok-orders.orders) c.args.map.now) (sym c.start_allocation_elsewhere.ensures.same)
+    (has_image (disk_in_order order disk) history c.args.pairs.now c.args.map.now state c.in_ok-count.count (read_in order disk history c.args.pairs.now c.args.map.now state c.requires)
     (head_in order disk c.args.pairs.now c.in_ok-count.count c.in_ok-count.ensures.head)
-    (disk_with_name_order order now) (ap (disk_with_name_order order) (ap₂ disk_of_geometry_and_blocks read.geometry read.same)) c.check_directories.new.map c.pairs_from_index-directories.result.now c.pairs_from_index-directories.ensures
+    (disk_in_order order now) (ap (disk_in_order order) (ap₂ disk_of_geometry_and_blocks read.geometry read.same)) c.check_directories.new.map c.pairs_from_index-directories.result.now c.pairs_from_index-directories.ensures
     c.in_ok-check_move.ensures.right (includes_name_order order c.in_ok-orders.orders) (c.in_ok-orders.ensures.ok order))
 
 pub returns-clause-device : goal.returns-clause-device
@@ -89,11 +89,11 @@ returns-clause-few g c = λ order fits.
     let disk : Disk = disk_of_device g.D.BlockDevice c.args.device.now in
     let history = g.D.BlockDevice.history c.args.device.now in
     let state : Gstate = move_view c.args.state.now in
-    let image : HasAcceptedImageIfNameOrderFits (disk_with_name_order order disk) c.args.pairs.now (includes_name_order order c.in_ok-orders.orders) c.args.map.now c.start_allocation_elsewhere.new.map = returns-clause-image g c order in
+    let image : HasAcceptedImageIfNameOrderFits (disk_in_order order disk) c.args.pairs.now (includes_name_order order c.in_ok-orders.orders) c.args.map.now c.start_allocation_elsewhere.new.map = returns-clause-image g c order in
     let read = c.in_ok-count.ensures.device in
     let first = c.in_ok-count.ensures.reads in
     let rest = subst₂ (λ (d : Disk) (hs : List PairHeader). read_count_of_history (g.D.BlockDevice.history c.check_directories.new.device) ≤ read_count_of_history (g.D.BlockDevice.history c.superblock_chain_length.new.dev) + sum_by (pair_read_count d) (pair_descriptions_of_headers state true hs))
     (ap₂ disk_of_geometry_and_blocks read.geometry read.same) c.pairs_from_index-directories.ensures (c.in_ok-orders.ensures.few) in
-    let most = directories_read (disk_with_name_order order disk) history c.args.pairs.now c.args.map.now state c.in_ok-count.count (read_in order disk history c.args.pairs.now c.args.map.now state c.requires)
+    let most = directories_read (disk_in_order order disk) history c.args.pairs.now c.args.map.now state c.in_ok-count.count (read_in order disk history c.args.pairs.now c.args.map.now state c.requires)
     (head_in order disk c.args.pairs.now c.in_ok-count.count c.in_ok-count.ensures.head) (g.met.D.BlockDevice.bytes c.args.device.now) (image.accepted fits) in
     omega (arith, first, rest, most)

@@ -1,17 +1,18 @@
 use Rattle.std.proofs.Common.{Err, arith, ◌≡◌, ◌≤◌, ◌+◌, sym, ap, subst, ◌∙◌}
-use Rattle.lfs_device.specs.Shown.{disk_with_name_order}
+use Rattle.lfs_model.specs.Disk.{disk_in_order, Disk}
 use Rattle.lfs_model.specs.Blocks.{Blocks}
 use Rattle.lfs_model.specs.History.{AreCallsSinceOnlyReads, fault_count_of_history, read_count_of_history}
-use Rattle.lfs_model.specs.Disk.{Disk}
 use Rattle.lfs_model.specs.Content.{content_of_pair_at}
 use Rattle.lfs_model.specs.Thread.{IsThreadOfMetadataPairs}
 use Rattle.lfs_model.specs.View.{IsAcceptedImage}
 use Rattle.lfs_model.proofs.Histories.{AreCallsSinceOnlyReads-trans, read_count_of_history-since}
 use Rattle.lfs_tag.specs.FieldsView.{move_view}
 use Rattle.lfs_thread.specs.Kept.{IsCacheCurrent, KeptThread, disk_of_device}
-use Rattle.lfs_mount.specs.ReadImage.{thread_view_with_name_order}
+use Rattle.lfs_mount.specs.ReadImage.{thread_view_in_order}
 use Rattle.lfs_mount.specs.Reads.{mount_read_count}
 use Rattle.lfs_mount.proofs.MountReads.{read_count_of_thread_headers-no_fewer, mount_few, some_pair}
+use Rattle.lfs_mount.proofs.ReadImages.{plain_again}
+use Rattle.lfs_model.specs.declared.order.NameOrder.{NameOrder}
 use Rattle.lfs_mount.proofs.Mounted.{disk_now, given_back, is_mounted, kept_again, ok_reports, read_is}
 use Rattle.std.proofs.lemmas.Result.{err_from_is_err_and}
 use Rattle.lfs_mount.proofs.accepted_images.read_and_check_image.Goals as goal
@@ -20,10 +21,11 @@ pub check_image-requires : goal.check_image-requires
 check_image-requires g c =
     let read = c.in_ok-thread.ensures.read in
     let parts = c.into_parts-parts in
+    let same = plain_again g.D.BlockDevice c.args.device parts.result.device parts.result.order parts.result.pairs.items parts.result.map c.in_ok-thread.thread.kept parts.ensures.same read.disk in
     let old : Disk = disk_of_device g.D.BlockDevice c.args.device in
     let disk : Disk = disk_of_device g.D.BlockDevice parts.result.device in
     read_is old disk (g.D.BlockDevice.geometry c.args.device).block_count (g.D.BlockDevice.history parts.result.device) c.deref.result.now parts.result.pairs.items parts.result.map
-    (move_view c.state-state.result) c.in_ok-thread.thread.kept parts.ensures.same c.deref.ensures.value read.disk (g.met.D.BlockDevice.shape c.args.device).count
+    (move_view c.state-state.result) c.in_ok-thread.thread.kept same c.deref.ensures.value read.disk (g.met.D.BlockDevice.shape c.args.device).count
     parts.ensures.kept read.thread read.used read.none_in_flight c.state-state.ensures
 
 pub from_parts-requires-clause-kept : goal.from_parts-requires-clause-kept
@@ -42,6 +44,7 @@ pub returns-in-Ok-clause-read : goal.returns-in-Ok-clause-read
 returns-in-Ok-clause-read g c =
     let read = c.in_ok-thread.ensures.read in
     let parts = c.into_parts-parts in
+    let same = plain_again g.D.BlockDevice c.args.device parts.result.device parts.result.order parts.result.pairs.items parts.result.map c.in_ok-thread.thread.kept parts.ensures.same read.disk in
     let device = c.in-Ok.ensures.device in
     let old : Disk = disk_of_device g.D.BlockDevice c.args.device in
     let disk : Disk = disk_of_device g.D.BlockDevice parts.result.device in
@@ -49,53 +52,55 @@ returns-in-Ok-clause-read g c =
     let first = g.D.BlockDevice.history c.args.device in
     let history = g.D.BlockDevice.history parts.result.device in
     let later = g.D.BlockDevice.history c.check_image.new.device in
-    let from : disk ≡ old = ap (λ (k : KeptThread). k.disk) parts.ensures.same ∙ read.disk in
-    let before : AreCallsSinceOnlyReads old.blocks first history = subst (λ (k : KeptThread). AreCallsSinceOnlyReads old.blocks first k.history) (sym parts.ensures.same) read.only in
-    let quiet : fault_count_of_history later ≡ fault_count_of_history first = ok_reports c.in-Ok.ensures.errors.faults ∙ ap (λ (k : KeptThread). fault_count_of_history k.history) parts.ensures.same ∙ read.no_fault in
+    let from : disk ≡ old = ap (λ (k : KeptThread). k.disk) same ∙ read.disk in
+    let before : AreCallsSinceOnlyReads old.blocks first history = subst (λ (k : KeptThread). AreCallsSinceOnlyReads old.blocks first k.history) (sym same) read.only in
+    let quiet : fault_count_of_history later ≡ fault_count_of_history first = ok_reports c.in-Ok.ensures.errors.faults ∙ ap (λ (k : KeptThread). fault_count_of_history k.history) same ∙ read.no_fault in
     let kept = c.from_parts.ensures.kept in
     record {
       works = c.from_parts.ensures.works;
-      disk_is = ap (λ (k : KeptThread). k.disk) kept ∙ disk_now device ∙ from;
+      disk_is = ap (λ (k : KeptThread). k.disk) kept ∙ ap (λ (o : NameOrder). disk_in_order o now) (ap (λ (k : KeptThread). k.disk.order) parts.ensures.same ∙ ap (λ (d : Disk). d.order) read.disk) ∙ disk_now device ∙ from;
       reads = subst (λ (k : KeptThread). AreCallsSinceOnlyReads old.blocks first k.history) (sym kept) (AreCallsSinceOnlyReads-trans before device.reads (ap (λ (d : Disk). d.blocks) from));
       no_fault = ap (λ (k : KeptThread). fault_count_of_history k.history) kept ∙ quiet;
       mounted = λ order fits.
           let image = c.in-Ok.ensures.image order in
-          is_mounted (disk_with_name_order order old) (disk_with_name_order order disk) (disk_with_name_order order now) first history later
-          parts.result.pairs.items c.deref.result.now parts.result.map c.check_image.new.map (thread_view_with_name_order order c.from_parts.result)
-          (ap (disk_with_name_order order) from) (ap (disk_with_name_order order) (disk_now device)) c.deref.ensures.value before device.reads (image.accepted fits) image.marked
-          parts.ensures.kept.size quiet c.from_parts.ensures.works (ap (λ (k : KeptThread). record k { disk = disk_with_name_order order k.disk }) kept);
+          is_mounted (disk_in_order order old) (disk_in_order order disk) (disk_in_order order now) first history later
+          parts.result.pairs.items c.deref.result.now parts.result.map c.check_image.new.map (thread_view_in_order order c.from_parts.result)
+          (ap (disk_in_order order) from) (ap (disk_in_order order) (disk_now device)) c.deref.ensures.value before device.reads (image.accepted fits) image.marked
+          parts.ensures.kept.size quiet c.from_parts.ensures.works (ap (λ (k : KeptThread). record k { disk = disk_in_order order k.disk }) kept);
       few = λ order fits.
           let some = some_pair c.in_ok-thread.thread.kept.pairs read.thread.links in
           let begun = read.few in
-          let same = ap (λ (k : KeptThread). read_count_of_history k.history) parts.ensures.same in
+          let count = ap (λ (k : KeptThread). read_count_of_history k.history) same in
           let since = read_count_of_history-since device.reads in
           let end = ap (λ (k : KeptThread). read_count_of_history k.history) kept in
           record {
-            called = (let no_fewer = read_count_of_thread_headers-no_fewer old c.in_ok-thread.thread.kept.pairs in omega (arith, some, no_fewer, begun, same, since, end));
+            called = (let no_fewer = read_count_of_thread_headers-no_fewer old c.in_ok-thread.thread.kept.pairs in omega (arith, some, no_fewer, begun, count, since, end));
             few = subst (λ h. read_count_of_history h ≤ read_count_of_history first + mount_read_count old c.from_parts.result.kept.pairs) (sym (ap (λ (k : KeptThread). k.history) kept))
                 (mount_few old disk now parts.result.pairs.items c.deref.result.now c.in_ok-thread.thread.kept.pairs c.from_parts.result.kept.pairs (read_count_of_history first) (read_count_of_history history) (read_count_of_history later)
-                from (disk_now device) c.deref.ensures.value (ap (λ (k : KeptThread). k.pairs) parts.ensures.same) (ap (λ (k : KeptThread). k.pairs) kept)
-                (same ∙ begun) (c.in-Ok.ensures.few order fits));
+                from (disk_now device) c.deref.ensures.value (ap (λ (k : KeptThread). k.pairs) same) (ap (λ (k : KeptThread). k.pairs) kept)
+                (count ∙ begun) (c.in-Ok.ensures.few order fits));
           };
-      refused = λ order unfit ps a. (c.in-Ok.ensures.image order).refused unfit ps (subst (λ (d : Disk). IsAcceptedImage (disk_with_name_order order d) ps) (sym from) a);
+      refused = λ order unfit ps a. (c.in-Ok.ensures.image order).refused unfit ps (subst (λ (d : Disk). IsAcceptedImage (disk_in_order order d) ps) (sym from) a);
     }
 
 pub returns-in-Err-clause-corrupt : goal.returns-in-Err-clause-corrupt
 returns-in-Err-clause-corrupt g c = λ is order ps a.
     let read = c.in_ok-thread.ensures.read in
     let parts = c.into_parts-parts in
-    let from : disk_of_device g.D.BlockDevice parts.result.device ≡ disk_of_device g.D.BlockDevice c.args.device = ap (λ (k : KeptThread). k.disk) parts.ensures.same ∙ read.disk in
-    c.in-Err.ensures.corrupt (ap Err is) order ps (subst (λ (d : Disk). IsAcceptedImage (disk_with_name_order order d) ps) (sym from) a)
+    let same = plain_again g.D.BlockDevice c.args.device parts.result.device parts.result.order parts.result.pairs.items parts.result.map c.in_ok-thread.thread.kept parts.ensures.same read.disk in
+    let from : disk_of_device g.D.BlockDevice parts.result.device ≡ disk_of_device g.D.BlockDevice c.args.device = ap (λ (k : KeptThread). k.disk) same ∙ read.disk in
+    c.in-Err.ensures.corrupt (ap Err is) order ps (subst (λ (d : Disk). IsAcceptedImage (disk_in_order order d) ps) (sym from) a)
 
 pub returns-in-Err-clause-back : goal.returns-in-Err-clause-back
 returns-in-Err-clause-back g c =
     let read = c.in_ok-thread.ensures.read in
     let parts = c.into_parts-parts in
+    let same = plain_again g.D.BlockDevice c.args.device parts.result.device parts.result.order parts.result.pairs.items parts.result.map c.in_ok-thread.thread.kept parts.ensures.same read.disk in
     let old : Disk = disk_of_device g.D.BlockDevice c.args.device in
     given_back g.D.BlockDevice c.args.device parts.result.device c.check_image.new.device c.in-Err.error
-    (ap (λ (k : KeptThread). k.disk) parts.ensures.same ∙ read.disk)
-    (subst (λ (k : KeptThread). AreCallsSinceOnlyReads old.blocks (g.D.BlockDevice.history c.args.device) k.history) (sym parts.ensures.same) read.only)
-    (ap (λ (k : KeptThread). fault_count_of_history k.history) parts.ensures.same ∙ read.no_fault)
+    (ap (λ (k : KeptThread). k.disk) same ∙ read.disk)
+    (subst (λ (k : KeptThread). AreCallsSinceOnlyReads old.blocks (g.D.BlockDevice.history c.args.device) k.history) (sym same) read.only)
+    (ap (λ (k : KeptThread). fault_count_of_history k.history) same ∙ read.no_fault)
     c.in-Err.ensures.device c.in-Err.ensures.errors.faults
 
 pub returns-in_err-thread-clause-corrupt : goal.returns-in_err-thread-clause-corrupt

@@ -1,7 +1,7 @@
 use Rattle.std.proofs.Common.{true, ◌++◌, ◌∷◌, ◌∙◌, ◌<◌, List, Err, length, sym, ap, subst, true≢false}
 use Rattle.std.specs.Prelude.{All}
 use Rattle.std.proofs.lemmas.Result.{err_from_is_err_and}
-use Rattle.lfs_device.specs.Shown.{disk_with_name_order}
+use Rattle.lfs_model.specs.Disk.{disk_in_order}
 use Rattle.lfs_model.specs.Thread.{gstate_of_pairs}
 use Rattle.lfs_thread.specs.Kept.{disk_of_device}
 use Rattle.lfs_mount.specs.DirectoryView.{directory_graph_view}
@@ -17,7 +17,7 @@ use Rattle.lfs_mount.proofs.check.check_slots_and_mark_lists_of_thread.Goals as 
 pub returns-in_err-directories-clause-corrupt : goal.returns-in_err-directories-clause-corrupt
 returns-in_err-directories-clause-corrupt g c = λ is order chain p rest known a.
     let e = err_from_is_err_and c.from_residual.result c.from_residual.ensures.1 in
-    let disk = disk_with_name_order order (disk_of_device g.D.BlockDevice c.args.device.now) in
+    let disk = disk_in_order order (disk_of_device g.D.BlockDevice c.args.device.now) in
     let r = accepted_passes disk chain p rest c.args.members.now c.args.places.now c.args.map.now known.chain_is (g.met.D.BlockDevice.bytes c.args.device.now) known.sets_len known.owns known.described a in
     c.in_err-directories.ensures.corrupt (ap Err (same_error e.1 e.2 is)) order r.0 r.1 r.2
 
@@ -40,7 +40,7 @@ name_orders_that_make_directories_a_tree-requires-clause-within g c =
 
 pub returns-clause-ok : goal.returns-clause-ok
 returns-clause-ok g c = λ order chain p rest known.
-    let disk = disk_with_name_order order (disk_of_device g.D.BlockDevice c.args.device.now) in
+    let disk = disk_in_order order (disk_of_device g.D.BlockDevice c.args.device.now) in
     let graph = directory_graph_view order c.in_ok-directories.directories.items in
     let passes = c.in_ok-directories.ensures.taken order in
     let shows = known_drawn disk c.args.map.now c.args.places.now c.args.members.now c.args.sync chain p rest graph c.scan_pairs_and_mark_lists.new.map known passes in

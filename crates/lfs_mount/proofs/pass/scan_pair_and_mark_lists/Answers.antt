@@ -2,10 +2,10 @@ use Rattle.std.proofs.Common.{ℕ, List, Err, Some, arith, ◌≡◌, ◌≤◌,
 use Rattle.std.specs.Prelude.{sum_by}
 use Rattle.std.proofs.lemmas.Option.{same_Some}
 use Rattle.std.proofs.lemmas.Result.{err_from_is_err_and}
-use Rattle.lfs_device.specs.Shown.{disk_of_geometry_and_blocks, disk_with_name_order}
+use Rattle.lfs_device.specs.Shown.{disk_of_geometry_and_blocks}
+use Rattle.lfs_model.specs.Disk.{disk_in_order, Disk, block_bytes_on_disk}
 use Rattle.lfs_device.specs.declared.geometry.Geometry.{Geometry}
 use Rattle.lfs_model.specs.BlockSets.{BlockStateList}
-use Rattle.lfs_model.specs.Disk.{Disk, block_bytes_on_disk}
 use Rattle.lfs_model.specs.History.{read_count_of_history}
 use Rattle.lfs_model.specs.declared.order.NameOrder.{NameOrder}
 use Rattle.lfs_thread.specs.Kept.{disk_of_device}
@@ -34,10 +34,10 @@ lists_taken disk firsts member known new sets marked held entries content kept t
     (same_Some t.entries entries (sym t.kept ∙ ap (λ (c : RawPairContent). slots_of_pair_without_superblock_and_moved member c.slots) (same_Some t.held held (sym t.content ∙ content)) ∙ kept)) t.lists
 
 -- whatever the order of names
-lists_in_order : (order : NameOrder) (disk : Disk) {old new : BlockStateList} {all : List (ℕ × ℕ)} → MarksFreeBlocksOfLists disk old all new → MarksFreeBlocksOfLists (disk_with_name_order order disk) old all new
+lists_in_order : (order : NameOrder) (disk : Disk) {old new : BlockStateList} {all : List (ℕ × ℕ)} → MarksFreeBlocksOfLists disk old all new → MarksFreeBlocksOfLists (disk_in_order order disk) old all new
 lists_in_order order disk m = record { lists = m.lists; marked = m.marked }
 
-lists_without_order : (order : NameOrder) (disk : Disk) {old new : BlockStateList} {all : List (ℕ × ℕ)} → MarksFreeBlocksOfLists (disk_with_name_order order disk) old all new → MarksFreeBlocksOfLists disk old all new
+lists_without_order : (order : NameOrder) (disk : Disk) {old new : BlockStateList} {all : List (ℕ × ℕ)} → MarksFreeBlocksOfLists (disk_in_order order disk) old all new → MarksFreeBlocksOfLists disk old all new
 lists_without_order order disk m = record { lists = m.lists; marked = m.marked }
 
 pub returns-in_err-mark_lists_of_slots_used-clause-corrupt : goal.returns-in_err-mark_lists_of_slots_used-clause-corrupt
@@ -46,7 +46,7 @@ returns-in_err-mark_lists_of_slots_used-clause-corrupt g c = λ is order new set
     let e = err_from_is_err_and c.from_residual-in_err-mark_lists_of_slots_used.result c.from_residual-in_err-mark_lists_of_slots_used.ensures.1 in
     let content = ap (λ b. content_after_log_entries empty_raw_pair_content (log_entries_of_block b)) (sym (c.read-log.ensures ∙ c.deref.ensures.value ∙ c.in_ok-bytes.ensures.bytes)) ∙ c.in_ok-slots.ensures.content in
     let kept = ap (option_and_then (slots_after_superblock c.args.member.now.has_superblock)) c.in_ok-remove_moved_slot_or_refuse_non_entry.ensures.ok ∙ c.in_ok-remove_superblock_slot.ensures.ok in
-    let lists = lists_taken (disk_with_name_order order disk) c.args.places.now c.args.member.now (directory_scan_view order c.args.known.now) new c.args.map.now sets (content_view c.in_ok-slots.field-0) (map slot_view c.remove_superblock_slot.new.slots.items) content kept t in
+    let lists = lists_taken (disk_in_order order disk) c.args.places.now c.args.member.now (directory_scan_view order c.args.known.now) new c.args.map.now sets (content_view c.in_ok-slots.field-0) (map slot_view c.remove_superblock_slot.new.slots.items) content kept t in
     c.in_err-mark_lists_of_slots_used.ensures.corrupt (ap Err (same_error e.1 e.2 is)) sets
     (subst (λ d. MarksFreeBlocksOfLists d c.args.map.now (file_lists_view c.deref-3.result.now) sets) (sym (ap₂ disk_of_geometry_and_blocks c.in_ok-bytes.ensures.device.geometry c.in_ok-bytes.ensures.device.same))
     (subst (λ ls. MarksFreeBlocksOfLists disk c.args.map.now ls sets) (sym (ap file_lists_view c.deref-3.ensures.value)) (lists_without_order order disk lists)))

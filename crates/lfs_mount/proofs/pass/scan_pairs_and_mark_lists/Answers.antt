@@ -5,8 +5,8 @@ use Rattle.std.proofs.lemmas.Result.{err_from_is_err_and}
 use Rattle.lfs_model.specs.History.{read_count_of_history}
 use Rattle.lfs_thread.specs.Kept.{disk_of_device}
 use Rattle.lfs_mount.specs.Reads.{pair_read_count}
-use Rattle.lfs_device.specs.Shown.{disk_of_geometry_and_blocks, disk_with_name_order}
-use Rattle.lfs_model.specs.Disk.{Disk}
+use Rattle.lfs_device.specs.Shown.{disk_of_geometry_and_blocks}
+use Rattle.lfs_model.specs.Disk.{disk_in_order, Disk}
 use Rattle.lfs_model.specs.declared.order.NameOrder.{NameOrder}
 use Rattle.lfs_mount.specs.DirectoryView.{directory_vertex_view, directory_graph_view}
 use Rattle.lfs_mount.specs.KnownView.{directory_scan_view}
@@ -28,9 +28,9 @@ loop-member-init g c =
     let disk = disk_of_device g.D.BlockDevice c.args.device.now in
     record {
       way = λ order.
-          subst₂ (λ (done : DirectoryGraph) k. IsUnderWay (disk_with_name_order order disk) c.args.places.now c.args.map.now c.args.members.now done k c.args.map.now c.args.members.now)
+          subst₂ (λ (done : DirectoryGraph) k. IsUnderWay (disk_in_order order disk) c.args.places.now c.args.map.now c.args.members.now done k c.args.map.now c.args.members.now)
           (sym (ap (directory_graph_view order) c.new-directories.ensures.items)) (sym (c.begin_directory_scan-known.ensures order))
-          (begun (disk_with_name_order order disk) c.args.places.now c.args.map.now c.args.members.now);
+          (begun (disk_in_order order disk) c.args.places.now c.args.map.now c.args.members.now);
       device = not_read g.D.BlockDevice c.args.device.now;
       quiet = refl;
       few = omega arith;
@@ -39,11 +39,11 @@ loop-member-init g c =
 pub returns-in_err-scan_pair_and_mark_lists-clause-corrupt : goal.returns-in_err-scan_pair_and_mark_lists-clause-corrupt
 returns-in_err-scan_pair_and_mark_lists-clause-corrupt g c = λ is order graph end all.
     let p = err_from_is_err_and c.from_residual.result c.from_residual.ensures.1 in
-    let disk = disk_with_name_order order (disk_of_device g.D.BlockDevice c.args.device.now) in
+    let disk = disk_in_order order (disk_of_device g.D.BlockDevice c.args.device.now) in
     not_taken_at disk c.args.places.now c.args.map.now c.args.members.now (directory_graph_view order c.loop-member.directories.items) (directory_scan_view order c.loop-member.known) c.loop-member.map
     c.loop-member.member-index none c.loop-member-test.true (c.loop-member.invariant.way order)
     (λ new mid takes. c.in_err-scan_pair_and_mark_lists.ensures.corrupt (ap Err (same_error p.1 p.2 is)) order new mid
-    (subst (λ (d : Disk). AddsPairToDirectoryScan (disk_with_name_order order d) c.args.places.now (get_or c.args.members.now c.loop-member.member-index none) (directory_scan_view order c.loop-member.known) c.loop-member.map new mid) (sym (ap₂ disk_of_geometry_and_blocks c.loop-member.invariant.device.geometry c.loop-member.invariant.device.same)) takes))
+    (subst (λ (d : Disk). AddsPairToDirectoryScan (disk_in_order order d) c.args.places.now (get_or c.args.members.now c.loop-member.member-index none) (directory_scan_view order c.loop-member.known) c.loop-member.map new mid) (sym (ap₂ disk_of_geometry_and_blocks c.loop-member.invariant.device.geometry c.loop-member.invariant.device.same)) takes))
     graph end all
 
 pub returns-in_err-scan_pair_and_mark_lists-clause-device : goal.returns-in_err-scan_pair_and_mark_lists-clause-device
@@ -60,24 +60,24 @@ returns-in_err-push-clause-device g c = read_on g.D.BlockDevice c.loop-member.in
 pub loop-member-preserved : goal.loop-member-preserved
 loop-member-preserved g c =
     let disk = disk_of_device g.D.BlockDevice c.args.device.now in
-    let takes : (order : NameOrder) → AddsPairToDirectoryScan (disk_with_name_order order disk) c.args.places.now (get_or c.args.members.now c.loop-member.member-index none) (directory_scan_view order c.loop-member.known) c.loop-member.map (directory_scan_view order c.scan_pair_and_mark_lists.new.known) c.scan_pair_and_mark_lists.new.map =
+    let takes : (order : NameOrder) → AddsPairToDirectoryScan (disk_in_order order disk) c.args.places.now (get_or c.args.members.now c.loop-member.member-index none) (directory_scan_view order c.loop-member.known) c.loop-member.map (directory_scan_view order c.scan_pair_and_mark_lists.new.known) c.scan_pair_and_mark_lists.new.map =
     λ order.
-    subst (λ (d : Disk). AddsPairToDirectoryScan (disk_with_name_order order d) c.args.places.now (get_or c.args.members.now c.loop-member.member-index none) (directory_scan_view order c.loop-member.known) c.loop-member.map (directory_scan_view order c.scan_pair_and_mark_lists.new.known) c.scan_pair_and_mark_lists.new.map)
+    subst (λ (d : Disk). AddsPairToDirectoryScan (disk_in_order order d) c.args.places.now (get_or c.args.members.now c.loop-member.member-index none) (directory_scan_view order c.loop-member.known) c.loop-member.map (directory_scan_view order c.scan_pair_and_mark_lists.new.known) c.scan_pair_and_mark_lists.new.map)
     (ap₂ disk_of_geometry_and_blocks c.loop-member.invariant.device.geometry c.loop-member.invariant.device.same) (c.in_ok-scan_pair_and_mark_lists.ensures.taken order) in
     record {
       way = λ order. elim c.if-not-member.branch [
         | then-not-member+in_ok-push w ↦
-            subst₂ (λ (done : DirectoryGraph) k. IsUnderWay (disk_with_name_order order disk) c.args.places.now c.args.map.now c.args.members.now done k c.scan_pair_and_mark_lists.new.map (drop (c.loop-member.member-index + 1) c.args.members.now))
+            subst₂ (λ (done : DirectoryGraph) k. IsUnderWay (disk_in_order order disk) c.args.places.now c.args.map.now c.args.members.now done k c.scan_pair_and_mark_lists.new.map (drop (c.loop-member.member-index + 1) c.args.members.now))
             (sym (ap (λ ds. directory_graph_view order ds.items) w.directories-is ∙ ap (directory_graph_view order) w.in_ok-push.ensures.items ∙ map-append (directory_vertex_view order) c.loop-member.directories.items (w.take_scanned_directory.result ∷ [])
             ∙ ap (λ (v : DirectoryVertexWithSoundnessAndBranches). directory_graph_view order c.loop-member.directories.items ++ v ∷ []) (w.take_scanned_directory.ensures.directory order)))
             (sym (ap (directory_scan_view order) w.known-is ∙ w.take_scanned_directory.ensures.nothing order))
-            (taken_soft (disk_with_name_order order disk) c.args.places.now c.args.map.now c.args.members.now (directory_graph_view order c.loop-member.directories.items) (directory_scan_view order c.loop-member.known) c.loop-member.map
+            (taken_soft (disk_in_order order disk) c.args.places.now c.args.map.now c.args.members.now (directory_graph_view order c.loop-member.directories.items) (directory_scan_view order c.loop-member.known) c.loop-member.map
             c.loop-member.member-index none c.loop-member-test.true (c.loop-member.invariant.way order) (directory_scan_view order c.scan_pair_and_mark_lists.new.known) c.scan_pair_and_mark_lists.new.map (takes order) w.if-not-member.true)
         | else-not-member w ↦
-            subst₂ (λ (done : DirectoryGraph) k. IsUnderWay (disk_with_name_order order disk) c.args.places.now c.args.map.now c.args.members.now done k c.scan_pair_and_mark_lists.new.map (drop (c.loop-member.member-index + 1) c.args.members.now))
+            subst₂ (λ (done : DirectoryGraph) k. IsUnderWay (disk_in_order order disk) c.args.places.now c.args.map.now c.args.members.now done k c.scan_pair_and_mark_lists.new.map (drop (c.loop-member.member-index + 1) c.args.members.now))
             (sym (ap (λ ds. directory_graph_view order ds.items) w.directories-is))
             (sym (ap (directory_scan_view order) w.known-is))
-            (taken_hard (disk_with_name_order order disk) c.args.places.now c.args.map.now c.args.members.now (directory_graph_view order c.loop-member.directories.items) (directory_scan_view order c.loop-member.known) c.loop-member.map
+            (taken_hard (disk_in_order order disk) c.args.places.now c.args.map.now c.args.members.now (directory_graph_view order c.loop-member.directories.items) (directory_scan_view order c.loop-member.known) c.loop-member.map
             c.loop-member.member-index none c.loop-member-test.true (c.loop-member.invariant.way order) (directory_scan_view order c.scan_pair_and_mark_lists.new.known) c.scan_pair_and_mark_lists.new.map (takes order) w.if-not-member.false)
       ];
       device = read_on g.D.BlockDevice c.loop-member.invariant.device c.in_ok-scan_pair_and_mark_lists.ensures.device;
@@ -92,7 +92,7 @@ loop-member-preserved g c =
 
 pub returns-clause-taken : goal.returns-clause-taken
 returns-clause-taken g c = λ order.
-    let disk = disk_with_name_order order (disk_of_device g.D.BlockDevice c.args.device.now) in
+    let disk = disk_in_order order (disk_of_device g.D.BlockDevice c.args.device.now) in
     all_taken disk c.args.places.now c.args.map.now c.args.members.now (directory_graph_view order c.loop-member.directories.items) (directory_scan_view order c.loop-member.known) c.loop-member.map
     (subst (IsUnderWay disk c.args.places.now c.args.map.now c.args.members.now (directory_graph_view order c.loop-member.directories.items) (directory_scan_view order c.loop-member.known) c.loop-member.map)
     (drop_of_length-le c.args.members.now (omega arith)) (c.loop-member.invariant.way order))

@@ -1,7 +1,7 @@
 use Rattle.std.proofs.Common.{◌≡◌, ◌≤◌, ◌+◌, drop, take}
 use Rattle.std.specs.Prelude.{sum_by}
 use Rattle.lfs_device.specs.Calls.{ReadsOnly}
-use Rattle.lfs_device.specs.Shown.{disk_with_name_order}
+use Rattle.lfs_model.specs.Disk.{disk_in_order}
 use Rattle.lfs_model.specs.History.{fault_count_of_history, read_count_of_history}
 use Rattle.lfs_model.specs.declared.order.NameOrder.{NameOrder}
 use Rattle.lfs_thread.specs.Kept.{disk_of_device}
@@ -14,7 +14,7 @@ use Rattle.lfs_mount.proofs.pass.scan_pairs_and_mark_lists.Given as goal
 abbrev pub invariant-loop-member : goal.invariant-loop-member
 invariant-loop-member g l = record {
   way : (order : NameOrder)
-      → IsUnderWay (disk_with_name_order order (disk_of_device g.D.BlockDevice l.initial.device)) l.places l.initial.map l.members (directory_graph_view order l.directories.items) (directory_scan_view order l.known) l.map (drop l.member-index l.members);
+      → IsUnderWay (disk_in_order order (disk_of_device g.D.BlockDevice l.initial.device)) l.places l.initial.map l.members (directory_graph_view order l.directories.items) (directory_scan_view order l.known) l.map (drop l.member-index l.members);
   device : ReadsOnly g.D.BlockDevice l.initial.device l.device;
   quiet : fault_count_of_history (g.D.BlockDevice.history l.device) ≡ fault_count_of_history (g.D.BlockDevice.history l.initial.device);
   few : read_count_of_history (g.D.BlockDevice.history l.device)

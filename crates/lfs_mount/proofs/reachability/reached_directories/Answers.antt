@@ -29,8 +29,8 @@ bounds-directories-index c =
     let at = slice_get_read c.loop-next.found.items _ c.loop-next.next c.index.result.now refl (omega arith) c.index.ensures in
     omega (arith, marked_within c.loop-next.is_found.items c.loop-next.found.items c.loop-next.invariant.marked c.loop-next.next c.index.result.now at, c.loop-next.invariant.len)
 
-pub returns-then-not-has_name_order-clause-corrupt : goal.returns-then-not-has_name_order-clause-corrupt
-returns-then-not-has_name_order-clause-corrupt c = λ is.
+pub returns-then-not-contains-clause-corrupt : goal.returns-then-not-contains-clause-corrupt
+returns-then-not-contains-clause-corrupt c = λ is.
     let at = slice_get_read c.loop-next.found.items _ c.loop-next.next c.index.result.now refl (omega arith) c.index.ensures in
     let within = marked_within c.loop-next.is_found.items c.loop-next.found.items c.loop-next.invariant.marked c.loop-next.next c.index.result.now at in
     let here = slice_get_read c.args.directories.now _ c.index.result.now c.index-directories-index.result refl (omega (arith, within, c.loop-next.invariant.len)) c.index-directories-index.is in (
@@ -38,7 +38,7 @@ returns-then-not-has_name_order-clause-corrupt c = λ is.
       inr (
         c.index.result.now,
         ap (λ xs. slice_get xs c.loop-next.next) (sym c.loop-next.invariant.found) ∙ at,
-        sound_of c.args.order c.args.directories.now c.index.result.now c.index-directories-index.result here ∙ sym c.has_name_order.ensures ∙ c.if-not-has_name_order.true,
+        sound_of c.args.order c.args.directories.now c.index.result.now c.index-directories-index.result here ∙ sym c.contains.ensures ∙ c.if-not-contains.true,
       ),
     )
 
@@ -77,7 +77,7 @@ loop-next-preserved c =
       len = c.in_ok-mark_branches_found.ensures.found.len ∙ c.loop-next.invariant.len;
       sound = subst (λ xs. All (λ v. has_vertex_at_sorted_names_and_known_branches (directory_graph_view c.args.order c.args.directories.now) v ≡ true) (take (c.loop-next.next + 1) xs)) (sym joined)
           (next_sound (directory_graph_view c.args.order c.args.directories.now) c.loop-next.found.items c.index-directories-index.result.branches.items c.loop-next.next c.index.result.now at c.loop-next.invariant.sound
-          (sound_of c.args.order c.args.directories.now c.index.result.now c.index-directories-index.result here ∙ sym c.has_name_order.ensures ∙ c.if-not-has_name_order.false));
+          (sound_of c.args.order c.args.directories.now c.index.result.now c.index-directories-index.result here ∙ sym c.contains.ensures ∙ c.if-not-contains.false));
       passed = omega (arith, ap length joined, length-append c.loop-next.found.items c.index-directories-index.result.branches.items);
     }
 

@@ -3,7 +3,7 @@ use Rattle.std.proofs.lemmas.List.{get_or_default}
 use Rattle.std.proofs.lemmas.Option.{slice_get_read}
 use Rattle.std.proofs.lemmas.Result.{err_from_is_err_and}
 use Rattle.lfs_device.specs.declared.geometry.Geometry.{Geometry}
-use Rattle.lfs_device.specs.Shown.{disk_with_name_order}
+use Rattle.lfs_model.specs.Disk.{disk_in_order}
 use Rattle.lfs_thread.specs.Kept.{PairHeader, disk_of_device}
 use Rattle.lfs_mount.proofs.Heads.{active_within, begun, ends, fails, found_length, halts, head_is, last_is, more, passes, refused_first, refused_none, same_block, step_at, within}
 use Rattle.lfs_mount.proofs.InOrders.{has_headers_in}
@@ -14,7 +14,7 @@ pub returns-in_err-first-clause-corrupt : goal.returns-in_err-first-clause-corru
 returns-in_err-first-clause-corrupt g c = λ is order a.
     let disk = disk_of_device g.D.BlockDevice c.args.dev.now in
     let has = has_headers_in order disk (g.D.BlockDevice.history c.args.dev.now) c.args.pairs.now c.requires in
-    refused_none (disk_with_name_order order disk) (g.D.BlockDevice.history c.args.dev.now) c.args.pairs.now has c.in_err-first.ensures.corrupt.1 a
+    refused_none (disk_in_order order disk) (g.D.BlockDevice.history c.args.dev.now) c.args.pairs.now has c.in_err-first.ensures.corrupt.1 a
 
 pub read_superblock_struct_from_block-requires : goal.read_superblock_struct_from_block-requires
 read_superblock_struct_from_block-requires g c =
@@ -27,7 +27,7 @@ returns-in_err-bytes-clause-corrupt g c = λ is order a.
     let e = err_from_is_err_and c.from_residual-in_err-bytes.result c.from_residual-in_err-bytes.ensures.1 in
     let disk = disk_of_device g.D.BlockDevice c.args.dev.now in
     let has = has_headers_in order disk (g.D.BlockDevice.history c.args.dev.now) c.args.pairs.now c.requires in
-    refused_first (disk_with_name_order order disk) (g.D.BlockDevice.history c.args.dev.now) c.args.pairs.now has c.in_ok-first.first c.in_ok-first.ensures.ok c.index-pairs-first.result c.index-pairs-first.is
+    refused_first (disk_in_order order disk) (g.D.BlockDevice.history c.args.dev.now) c.args.pairs.now has c.in_ok-first.first c.in_ok-first.ensures.ok c.index-pairs-first.result c.index-pairs-first.is
     (λ bytes s. c.in_err-bytes.ensures.corrupt (ap Err (same_error e.1 e.2 is)) bytes (record { begins = s.begins; struct = s.struct })) a
 
 pub loop-index-init : goal.loop-index-init
@@ -92,7 +92,7 @@ returns-in_err-read_whether_block_repeats_superblock-clause-corrupt g c = λ is 
     let next = c.index-pairs-index-in-loop-index-2 in
     let step = step_at c.args.pairs.now c.loop-index.index this.result next.result (omega (arith, low)) c.loop-index-test.true this.is next.is in
     let none = same_block _ _ _ _ _ _ _ _ None c.loop-index.invariant.device.geometry c.loop-index.invariant.device.same c.deref.ensures.value next.is (c.in_err-read_whether_block_repeats_superblock.ensures.corrupt (ap Err (same_error e.1 e.2 is))) in
-    fails (disk_with_name_order order disk) (g.D.BlockDevice.history c.args.dev.now) c.args.pairs.now has c.in_ok-bytes.bytes.items c.loop-index.root c.loop-index.index this.result next.result step c.loop-index.invariant.walked
+    fails (disk_in_order order disk) (g.D.BlockDevice.history c.args.dev.now) c.args.pairs.now has c.in_ok-bytes.bytes.items c.loop-index.root c.loop-index.index this.result next.result step c.loop-index.invariant.walked
     (sym c.can_superblock_chain_continue.ensures ∙ c.if-not-can_superblock_chain_continue.false) none a
 
 pub returns-in_err-read_whether_block_repeats_superblock-clause-device : goal.returns-in_err-read_whether_block_repeats_superblock-clause-device

@@ -65,7 +65,7 @@ program_commit_at-requires-clause-goes g c =
 
 pub program_commit_at-requires-clause-unprogrammed : goal.program_commit_at-requires-clause-unprogrammed
 program_commit_at-requires-clause-unprogrammed g c =
-    subst (λ (k : Geometry). AreBytesUnprogrammed (g.D.BlockDevice.history c.is_log_end_blank.new.dev) c.args.pair.now.active c.args.pair.now.end k.block_size) (sym c.in_ok-is_blank.ensures.asks.geometry)
+    subst (λ (k : Geometry). AreBytesUnprogrammed (g.D.BlockDevice.history c.is_end_blank.new.dev) c.args.pair.now.active c.args.pair.now.end k.block_size) (sym c.in_ok-is_blank.ensures.asks.geometry)
     (c.in_ok-is_blank.ensures.yes (ap Ok c.if-not-is_blank.false)).unprogrammed
 
 pub returns-in_err-written-clause-stops : goal.returns-in_err-written-clause-stops

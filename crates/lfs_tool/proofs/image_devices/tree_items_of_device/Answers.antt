@@ -1,8 +1,7 @@
 use Rattle.std.proofs.Common.{◌∙◌, Err, ap, arith, subst, sym}
 use Rattle.lfs_thread.specs.Kept.{disk_of_device}
 use Rattle.lfs_mount.specs.Either.{ReturnsUnchangedDeviceWithError}
-use Rattle.lfs_device.specs.Shown.{disk_with_name_order}
-use Rattle.lfs_model.specs.Disk.{Disk}
+use Rattle.lfs_model.specs.Disk.{disk_in_order, Disk}
 use Rattle.lfs_model.specs.History.{AreCallsSinceOnlyReads, fault_count_of_history}
 use Rattle.lfs_model.proofs.Histories.{goes_on_by}
 use Rattle.lfs_model.specs.View.{IsAcceptedImage}
@@ -15,11 +14,11 @@ returns-in-Ok-clause-items g c =
     let places = tree_items_view c.in-Ok.items.items in
     let m = c.in_ok-thread.ensures.mounted in
     let e = c.in-Ok.ensures in
-    let same = ap (λ (d : Disk). disk_with_name_order d.order disk) (sym e.reading.only.disk) in
+    let same = ap (λ (d : Disk). disk_in_order d.order disk) (sym e.reading.only.disk) in
     record {
       works = e.reading.works;
       disk_is = e.reading.only.disk ∙ m.disk_is ∙ same;
-      accepted = subst (λ d. IsAcceptedImage d c.walk_tree.new.thread.kept.pairs) same (subst (IsAcceptedImage (disk_with_name_order c.in_ok-thread.thread.kept.disk.order disk)) (sym e.reading.only.pairs) m.accepted);
+      accepted = subst (λ d. IsAcceptedImage d c.walk_tree.new.thread.kept.pairs) same (subst (IsAcceptedImage (disk_in_order c.in_ok-thread.thread.kept.disk.order disk)) (sym e.reading.only.pairs) m.accepted);
       walked = subst (λ d. ArePathsAndStructsOfWalk d c.walk_tree.new.thread.kept.pairs places) (m.disk_is ∙ same) (subst (λ ps. ArePathsAndStructsOfWalk c.in_ok-thread.thread.kept.disk ps places) (sym e.reading.only.pairs) e.walked);
     }
 
@@ -31,7 +30,7 @@ returns-in-Err-clause-back g c =
     let history = c.into_device.ensures.history in
     subst (λ back. ReturnsUnchangedDeviceWithError g.D.BlockDevice c.args.device back c.in-Err.error) (sym c.into_inner.ensures)
     (record {
-      disk = λ order. ap (λ (d : Disk). disk_with_name_order order d) (c.into_device.ensures.disk ∙ e.only.disk ∙ m.disk_is);
+      disk = λ order. ap (λ (d : Disk). disk_in_order order d) (c.into_device.ensures.disk ∙ e.only.disk ∙ m.disk_is);
       reads = subst (AreCallsSinceOnlyReads disk.blocks (g.D.BlockDevice.history c.args.device)) (sym history) (goes_on_by m.reads (subst (λ d. AreCallsSinceOnlyReads d.blocks c.in_ok-thread.thread.kept.history c.walk_tree.new.thread.kept.history) m.disk_is e.only.reads));
       fault = λ io. (let more = e.reported.fault (ap Err io) in omega (arith, more, m.no_fault, ap fault_count_of_history history));
       no_fault = λ other. ap fault_count_of_history history ∙ e.reported.no_fault (λ io. other (cc)) ∙ m.no_fault;

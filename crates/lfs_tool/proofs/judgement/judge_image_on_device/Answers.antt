@@ -1,9 +1,9 @@
 use Rattle.std.proofs.Common.{ap, subst, sym}
 use Rattle.std.proofs.lemmas.Result.{IfOk-weaker}
 use Rattle.lfs_device.specs.RamDevice.{ram_blocks, geometry_of_ram_device}
-use Rattle.lfs_device.specs.Shown.{disk_of_geometry_and_blocks, disk_with_name_order}
+use Rattle.lfs_device.specs.Shown.{disk_of_geometry_and_blocks}
+use Rattle.lfs_model.specs.Disk.{disk_in_order, Disk}
 use Rattle.lfs_model.specs.BlockSets.{AreExactlyTheUsedBlocks}
-use Rattle.lfs_model.specs.Disk.{Disk}
 use Rattle.lfs_model.specs.Shown.{used_blocks}
 use Rattle.lfs_model.specs.View.{IsAcceptedImage}
 use Rattle.lfs_model.specs.declared.order.NameOrder.TheVariants.{LongerFirst}
@@ -18,13 +18,13 @@ judge_thread-requires-clause-used c =
 
 pub judge_thread-requires-clause-longer : goal.judge_thread-requires-clause-longer
 judge_thread-requires-clause-longer c = λ is (ps, a).
-    c.in-Ok.ensures.longer is ps (subst (λ (d : Disk). IsAcceptedImage (disk_with_name_order LongerFirst d) ps) c.in-Ok.ensures.mounted.disk_is a)
+    c.in-Ok.ensures.longer is ps (subst (λ (d : Disk). IsAcceptedImage (disk_in_order LongerFirst d) ps) c.in-Ok.ensures.mounted.disk_is a)
 
 pub returns-in-Ok-clause-verdict : goal.returns-in-Ok-clause-verdict
 returns-in-Ok-clause-verdict c =
     let disk = disk_of_geometry_and_blocks (geometry_of_ram_device c.args.device) (ram_blocks c.args.device) in
     let m = c.in-Ok.ensures.mounted in
-    IfOk-weaker c.judge_thread.result _ _ (λ v h order. verdict_alike c.in-Ok.thread.kept.disk (disk_with_name_order order disk) LongerFirst v (ap (λ (d : Disk). disk_with_name_order LongerFirst d) m.disk_is) h) c.judge_thread.ensures.verdict
+    IfOk-weaker c.judge_thread.result _ _ (λ v h order. verdict_alike c.in-Ok.thread.kept.disk (disk_in_order order disk) LongerFirst v (ap (λ (d : Disk). disk_in_order LongerFirst d) m.disk_is) h) c.judge_thread.ensures.verdict
 
 pub finding_on_refused_device-requires : goal.finding_on_refused_device-requires
 finding_on_refused_device-requires c =
@@ -35,6 +35,6 @@ pub returns-in_ok-finding-in-Err-default-Corrupt-clause-verdict : goal.returns-i
 returns-in_ok-finding-in-Err-default-Corrupt-clause-verdict c =
     let e = c.in-Err-default-Corrupt in λ order. (
       (λ other ps a. e.ensures.corrupt e.field-0-1-is other ps a),
-      found_alike (disk_of_geometry_and_blocks (geometry_of_ram_device e.device) (ram_blocks e.device)) (disk_with_name_order order (disk_of_geometry_and_blocks (geometry_of_ram_device c.args.device) (ram_blocks c.args.device))) LongerFirst c.in_ok-finding-in-Err-default-Corrupt.finding
+      found_alike (disk_of_geometry_and_blocks (geometry_of_ram_device e.device) (ram_blocks e.device)) (disk_in_order order (disk_of_geometry_and_blocks (geometry_of_ram_device c.args.device) (ram_blocks c.args.device))) LongerFirst c.in_ok-finding-in-Err-default-Corrupt.finding
           (e.ensures.back.disk LongerFirst) c.in_ok-finding-in-Err-default-Corrupt.ensures.found,
     )

@@ -1,8 +1,8 @@
 use Rattle.std.proofs.Common.{◌∙◌, ap, subst, sym}
 use Rattle.lfs_device.specs.RamDevice.{ram_blocks, geometry_of_ram_device}
-use Rattle.lfs_device.specs.Shown.{disk_of_geometry_and_blocks, disk_with_name_order}
+use Rattle.lfs_device.specs.Shown.{disk_of_geometry_and_blocks}
+use Rattle.lfs_model.specs.Disk.{disk_in_order, Disk}
 use Rattle.lfs_device.specs.declared.ram.RamDevice.{RamDevice}
-use Rattle.lfs_model.specs.Disk.{Disk}
 use Rattle.lfs_model.specs.declared.order.NameOrder.TheVariants.{LongerFirst}
 use Rattle.lfs_tool.specs.ImageSummaries.{HasAcceptedNameOrders, IsAcceptedInNameOrder}
 use Rattle.lfs_tool.proofs.Judged.{orders_alike}
@@ -24,5 +24,5 @@ returns-clause-verdict c =
       pairs = c.args.thread.kept.pairs;
       accepted = c.requires.accepted;
       has = c.in_ok-summary.ensures.summary;
-      fits = orders_alike (disk_of_geometry_and_blocks (geometry_of_ram_device device.inner) (ram_blocks device.inner)) c.args.thread.kept.disk device.order c.in_ok-orders.orders (ap (λ (d : Disk). disk_with_name_order device.order d) e) inner;
+      fits = orders_alike (disk_of_geometry_and_blocks (geometry_of_ram_device device.inner) (ram_blocks device.inner)) c.args.thread.kept.disk device.order c.in_ok-orders.orders (ap (λ (d : Disk). disk_in_order device.order d) e) inner;
     }

@@ -4,15 +4,15 @@ use Rattle.std.specs.Prelude.{IfSome}
 use Rattle.lfs_device.specs.RamDevice.{history_of_ram_device}
 use Rattle.lfs_model.specs.History.{DeviceCall, DeviceCallEvent}
 use Rattle.littlefs_c.specs.Changes.{AreNoted, writes_of_history}
-use Rattle.littlefs_c.specs.Fetches.{IsNumberOfNextChange}
+use Rattle.littlefs_c.specs.Fetches.{IsNextChange}
 use Rattle.littlefs_c.specs.declared.notes.Change.{Change}
 use Rattle.littlefs_c.proofs.changes.next_change_number.Goals as goal
 
-at_calls : (first : ℕ) (kept : List Change) (calls : List DeviceCall) (o : Option ℕ) → AreNoted first kept calls → IfSome o (λ n. (cs : List DeviceCall) → AreNoted first kept cs → n ≡ length cs) → IsNumberOfNextChange calls o
+at_calls : (first : ℕ) (kept : List Change) (calls : List DeviceCall) (o : Option ℕ) → AreNoted first kept calls → IfSome o (λ n. (cs : List DeviceCall) → AreNoted first kept cs → n ≡ length cs) → IsNextChange calls o
 at_calls first kept calls None noted is = tt
 at_calls first kept calls (Some n) noted is = is calls noted
 
 pub returns-clause-number : goal.returns-clause-number
 returns-clause-number c =
-    subst (λ (h : List DeviceCallEvent). IsNumberOfNextChange (writes_of_history h) c.begin.result) (ap (λ d. history_of_ram_device d.inner) c.inner.ensures ∙ c.device.ensures.history)
+    subst (λ (h : List DeviceCallEvent). IsNextChange (writes_of_history h) c.begin.result) (ap (λ d. history_of_ram_device d.inner) c.inner.ensures ∙ c.device.ensures.history)
     (at_calls c.notes.result.now.first c.notes.result.now.changes.items _ c.begin.result c.notes.ensures c.begin.ensures.number)

@@ -7,9 +7,9 @@ pub invariant_of-self : goal.invariant_of-self
 invariant_of-self c =
     let fs = c.self.inside.entries.items in
     let lt = inside_is fs c.args.fd (subst (λ fs. is_some (open_file_at fs c.args.fd) ≡ true) (sym c.self.view_is) c.requires) in (
-      omega (arith, c.note_known_in_table.ensures.len, c.self.invariant.0),
+      omega (arith, c.note_in_table.ensures.len, c.self.invariant.0),
       (
-        few_set reader_of_open_file_or_none fs _ c.args.fd 16 _ c.note_known_in_table.ensures.files lt c.self.invariant.1.0 (less_changed reader_of_open_file_or_none (open_file_with_known c.args.known) (open_file_at fs c.args.fd) (reader_noted c.args.known)),
-        few_set writer_of_open_file_or_none fs _ c.args.fd 1 _ c.note_known_in_table.ensures.files lt c.self.invariant.1.1 (less_changed writer_of_open_file_or_none (open_file_with_known c.args.known) (open_file_at fs c.args.fd) (writer_noted c.args.known)),
+        few_set reader_of_open_file_or_none fs _ c.args.fd 16 _ c.note_in_table.ensures.files lt c.self.invariant.1.0 (less_changed reader_of_open_file_or_none (open_file_with_known c.args.known) (open_file_at fs c.args.fd) (reader_noted c.args.known)),
+        few_set writer_of_open_file_or_none fs _ c.args.fd 1 _ c.note_in_table.ensures.files lt c.self.invariant.1.1 (less_changed writer_of_open_file_or_none (open_file_with_known c.args.known) (open_file_at fs c.args.fd) (writer_noted c.args.known)),
       ),
     )

@@ -2,7 +2,7 @@ use Rattle.std.proofs.Common.{ap, ap₂, sym, subst, ◌∙◌, ◌≡◌, ◌<�
 use Rattle.std.specs.Prelude.{IsSome, OnOk}
 use Rattle.lfs_device.specs.Shown.{disk_of_geometry_and_blocks}
 use Rattle.lfs_model.specs.Cache.{cached_bytes_of_block}
-use Rattle.lfs_thread.specs.Kept.{IsCacheCurrent, IsKeptThreadOnDisk, ThreadView, disk_of_device, kept_thread_of_device}
+use Rattle.lfs_thread.specs.Kept.{IsCacheCurrent, IsKeptThreadOnDisk, ThreadView, disk_of_device, kept_thread_in_order}
 use Rattle.lfs_thread.specs.CachedLog.{cached_log, cache_after_load}
 use Rattle.lfs_thread.proofs.CachedLogs.{current_filled, filled_front, filled_there}
 use Rattle.lfs_thread.proofs.Changing.{at_there, kept_read}
@@ -51,7 +51,7 @@ returns-clause-no_call g c there =
     let here = subst (λ (v : ThreadView). IsSome (cached_log v c.args.index)) (sym c.self.view_is) there in
     let is = subst (λ b. IsSome (cached_bytes_of_block c.self.inside.cache b))
     (sym (active_is disk (g.D.BlockDevice.history c.self.inside.device) c.self.inside.pairs.items c.self.inside.map c.args.index c.index.result.now a (c.self.invariant works).0)) here in
-    ap (λ d. kept_thread_of_device g.D.BlockDevice d c.self.inside.pairs.items c.self.inside.map) (c.fill.ensures.calls.no_call is) ∙ ap (λ (v : ThreadView). v.kept) c.self.view_is
+    ap (λ d. kept_thread_in_order g.D.BlockDevice c.self.inside.order d c.self.inside.pairs.items c.self.inside.map) (c.fill.ensures.calls.no_call is) ∙ ap (λ (v : ThreadView). v.kept) c.self.view_is
 
 pub returns-clause-few : goal.returns-clause-few
 returns-clause-few g c =
@@ -61,8 +61,8 @@ returns-clause-few g c =
 pub returns-clause-errors : goal.returns-clause-errors
 returns-clause-errors g c =
     let e = c.fill.ensures in
-    subst (λ (v : ThreadView). IoMeantFaultNoMemoryWroteNothing v.kept (kept_thread_of_device g.D.BlockDevice c.fill.new.device c.self.inside.pairs.items c.self.inside.map) c.fill.result) c.self.view_is
-    (reported_from g.D.BlockDevice c.self.inside.device c.fill.new.device c.self.inside.pairs.items c.self.inside.pairs.items c.self.inside.map c.self.inside.map c.fill.result (record { errors = e.errors; faults = e.faults; unwritten = λ no. e.device }))
+    subst (λ (v : ThreadView). IoMeantFaultNoMemoryWroteNothing v.kept (kept_thread_in_order g.D.BlockDevice c.self.inside.order c.fill.new.device c.self.inside.pairs.items c.self.inside.map) c.fill.result) c.self.view_is
+    (reported_from g.D.BlockDevice c.self.inside.order c.self.inside.device c.fill.new.device c.self.inside.pairs.items c.self.inside.pairs.items c.self.inside.map c.self.inside.map c.fill.result (record { errors = e.errors; faults = e.faults; unwritten = λ no. e.device }))
 
 pub returns-clause-recent : goal.returns-clause-recent
 returns-clause-recent g c =

@@ -1,5 +1,7 @@
-use Rattle.std.proofs.Common.{refl, sym, ap, subst, ◌∙◌}
-use Rattle.lfs_thread.specs.Kept.{ThreadView}
+use Rattle.std.proofs.Common.{◌≡◌, refl, sym, ap, subst, ◌∙◌}
+use Rattle.lfs_thread.specs.Kept.{ThreadView, disk_of_device, kept_thread_of_device}
+use Rattle.lfs_thread.proofs.InOrder.{leaves_in}
+use Rattle.lfs_model.specs.Disk.{disk_in_order}
 use Rattle.lfs_thread.specs.Beside.{LeavesUsedBlocksOfPairsUnchangedAndUsed}
 use Rattle.lfs_thread.proofs.Beside.{kept_left, none_is_cached, pairs_left}
 use Rattle.lfs_thread.proofs.thread.Thread.run_work_on_device_and_map.Goals as goal
@@ -7,16 +9,17 @@ use Rattle.lfs_thread.proofs.thread.Thread.run_work_on_device_and_map.Goals as g
 pub work-requires : goal.work-requires
 work-requires g c =
     (c.requires.can c.self.inside.device c.self.inside.map
-    (record { disk = ap (λ (v : ThreadView). v.kept.disk) c.self.view_is; history = ap (λ (v : ThreadView). v.kept.history) c.self.view_is; map = ap (λ (v : ThreadView). v.kept.map) c.self.view_is })).can
+    (record { disk = subst (λ (v : ThreadView). disk_in_order v.kept.disk.order (disk_of_device g.D.BlockDevice c.self.inside.device) ≡ v.kept.disk) c.self.view_is refl; history = ap (λ (v : ThreadView). v.kept.history) c.self.view_is; map = ap (λ (v : ThreadView). v.kept.map) c.self.view_is })).can
     _ _ refl refl
 
 pub invariant_of-self : goal.invariant_of-self
 invariant_of-self g c _ =
     let works = ap (λ (v : ThreadView). v.failed) c.self.view_is ∙ c.requires.works in
     let leaves = c.requires.leaves c.self.inside.device c.self.inside.map c.work.result c.work.new.arg2 c.work.new.arg3
-    (record { disk = ap (λ (v : ThreadView). v.kept.disk) c.self.view_is; history = ap (λ (v : ThreadView). v.kept.history) c.self.view_is; map = ap (λ (v : ThreadView). v.kept.map) c.self.view_is })
+    (record { disk = subst (λ (v : ThreadView). disk_in_order v.kept.disk.order (disk_of_device g.D.BlockDevice c.self.inside.device) ≡ v.kept.disk) c.self.view_is refl; history = ap (λ (v : ThreadView). v.kept.history) c.self.view_is; map = ap (λ (v : ThreadView). v.kept.map) c.self.view_is })
     (record { shown = _; shows = refl; shown_map = _; shows_map = refl; left = _; left_map = _; met = c.work.ensures; leaves = refl; leaves_map = refl }) in
-    let here = subst (λ (v : ThreadView). LeavesUsedBlocksOfPairsUnchangedAndUsed g.D.BlockDevice v.kept c.self.inside.device c.self.inside.map c.work.new.arg2 c.work.new.arg3) (sym c.self.view_is) leaves in (
+    let here = leaves_in g.D.BlockDevice c.self.inside.order (kept_thread_of_device g.D.BlockDevice c.self.inside.device c.self.inside.pairs.items c.self.inside.map) c.self.inside.device c.self.inside.map c.work.new.arg2 c.work.new.arg3
+    (subst (λ (v : ThreadView). LeavesUsedBlocksOfPairsUnchangedAndUsed g.D.BlockDevice v.kept c.self.inside.device c.self.inside.map c.work.new.arg2 c.work.new.arg3) (sym c.self.view_is) leaves) in (
       kept_left g.D.BlockDevice c.self.inside.device c.self.inside.map c.work.new.arg2 c.work.new.arg3 c.self.inside.pairs.items (c.self.invariant works).0 here,
       none_is_cached (g.D.BlockDevice.blocks c.work.new.arg2) c.clear.new.self c.clear.ensures,
     )
@@ -27,8 +30,9 @@ returns-clause-ran g c = record {
   map = c.self.inside.map;
   later = c.work.new.arg2;
   later_map = c.work.new.arg3;
-  before = record { disk = ap (λ (v : ThreadView). v.kept.disk) c.self.view_is; history = ap (λ (v : ThreadView). v.kept.history) c.self.view_is; map = ap (λ (v : ThreadView). v.kept.map) c.self.view_is };
+  before = record { disk = subst (λ (v : ThreadView). disk_in_order v.kept.disk.order (disk_of_device g.D.BlockDevice c.self.inside.device) ≡ v.kept.disk) c.self.view_is refl; history = ap (λ (v : ThreadView). v.kept.history) c.self.view_is; map = ap (λ (v : ThreadView). v.kept.map) c.self.view_is };
   after = record { disk = refl; history = refl; map = refl };
+  order = ap (λ (v : ThreadView). v.kept.disk.order) c.self.view_is;
   run = record { shown = _; shows = refl; shown_map = _; shows_map = refl; left = _; left_map = _; met = c.work.ensures; leaves = refl; leaves_map = refl };
 }
 
@@ -36,8 +40,9 @@ pub returns-clause-pairs : goal.returns-clause-pairs
 returns-clause-pairs g c =
     let works = ap (λ (v : ThreadView). v.failed) c.self.view_is ∙ c.requires.works in
     let leaves = c.requires.leaves c.self.inside.device c.self.inside.map c.work.result c.work.new.arg2 c.work.new.arg3
-    (record { disk = ap (λ (v : ThreadView). v.kept.disk) c.self.view_is; history = ap (λ (v : ThreadView). v.kept.history) c.self.view_is; map = ap (λ (v : ThreadView). v.kept.map) c.self.view_is })
+    (record { disk = subst (λ (v : ThreadView). disk_in_order v.kept.disk.order (disk_of_device g.D.BlockDevice c.self.inside.device) ≡ v.kept.disk) c.self.view_is refl; history = ap (λ (v : ThreadView). v.kept.history) c.self.view_is; map = ap (λ (v : ThreadView). v.kept.map) c.self.view_is })
     (record { shown = _; shows = refl; shown_map = _; shows_map = refl; left = _; left_map = _; met = c.work.ensures; leaves = refl; leaves_map = refl }) in
-    let here = subst (λ (v : ThreadView). LeavesUsedBlocksOfPairsUnchangedAndUsed g.D.BlockDevice v.kept c.self.inside.device c.self.inside.map c.work.new.arg2 c.work.new.arg3) (sym c.self.view_is) leaves in
+    let here = leaves_in g.D.BlockDevice c.self.inside.order (kept_thread_of_device g.D.BlockDevice c.self.inside.device c.self.inside.pairs.items c.self.inside.map) c.self.inside.device c.self.inside.map c.work.new.arg2 c.work.new.arg3
+    (subst (λ (v : ThreadView). LeavesUsedBlocksOfPairsUnchangedAndUsed g.D.BlockDevice v.kept c.self.inside.device c.self.inside.map c.work.new.arg2 c.work.new.arg3) (sym c.self.view_is) leaves) in
     pairs_left g.D.BlockDevice c.self.inside.device c.self.inside.map c.work.new.arg2 c.work.new.arg3 c.self.inside.pairs.items (c.self.invariant works).0 here
     ∙ ap (λ (v : ThreadView). v.kept.pairs) c.self.view_is

@@ -5,7 +5,7 @@ use Rattle.lfs_model.proofs.Histories.{is_byte_unprogrammed-blank}
 use Rattle.lfs_pair.specs.Commit.{IsLogEndBlank}
 use Rattle.lfs_pair.specs.Writing.{AsksAboutBlankBytes}
 use Rattle.lfs_pair.proofs.Changed.{active_below, ends_in_block}
-use Rattle.lfs_pair.proofs.commits.is_log_end_blank.Goals as goal
+use Rattle.lfs_pair.proofs.commits.is_end_blank.Goals as goal
 
 -- the log ends within the block
 

@@ -1,13 +1,9 @@
 -- The contents of a file, as they were found.
-use Rattle.std.proofs.Common.{ℕ, ◌≡◌, ◌≤◌, ◌+◌, ◌-◌, min, List, Option, Some, None, length, refl, subst, sym, arith}
+use Rattle.std.proofs.Common.{ℕ, ◌≡◌, ◌≤◌, List, Option, Some, None, length, refl, subst, sym}
 use Rattle.std.specs.Option.{option_map}
 use Rattle.std.proofs.lemmas.List.Elements.{recursion_from_All}
 use Rattle.std.proofs.lemmas.Option.{same_Some}
-use Rattle.lfs_ctz.specs.Known.{ReadsFewPointers, ReadsKnownList}
-use Rattle.lfs_ctz.specs.declared.known.KnownBlocks.{KnownBlocks}
 use Rattle.lfs_model.specs.Disk.{Disk}
-use Rattle.lfs_model.specs.History.{DeviceCallEvent}
-use Rattle.lfs_model.specs.SkipLists.{IsPlaceOfByteInList, list_block_count_for_size}
 use Rattle.lfs_model.proofs.ListSizes.{length-bytes_of_skip_list}
 use Rattle.lfs_model.specs.Blocks.{HasBlocksOfCountAndSize}
 use Rattle.lfs_model.specs.SlotEdits.{slot_of_path}
@@ -31,13 +27,6 @@ list_read disk ps path contents ok h = go (slot_of_path ps path) refl h.struct
     go (Some u) at e =
         subst (IsSkipListIfCtzStruct disk) (same_Some u.struct (struct_of_file_contents contents) e)
         (slot_has (λ (s : Slot). IsSkipListIfCtzStruct disk s.struct) disk ps ok (recursion_from_All (λ (s : Slot). IsSkipListIfCtzStruct disk s.struct) (all_slots_not_moved ps) ok.lists) tt path u at)
-
--- as many bytes are read as the list has of those that were asked for
-pub known_read : (block_size size position count room : ℕ) (known later : KnownBlocks) (old new : List DeviceCallEvent) → room ≡ min count (size - position) → ReadsKnownList block_size size position room known later old new → ReadsKnownList block_size size position count known later old new
-known_read block_size size position count room known later old new is h first last off end at there =
-    let fits : min room (size - position) ≡ min count (size - position) = omega arith in
-    subst (λ k. ReadsFewPointers known (list_block_count_for_size block_size size) first last k later old new) fits
-    (h first last off end at (subst (λ k. IsPlaceOfByteInList block_size (position + k - 1) last end) (sym fits) there))
 
 -- how many bytes these contents have
 abbrev pub size_of_file_contents : FileContents → ℕ

@@ -1,9 +1,8 @@
 // The contents of files that are open for reading.
 
-ghost use Rattle.std.specs.Prelude.{◌≡◌, ◌<◌, ◌+◌, ◌^◌, List, ℕ, IfOk, OnOk, drop, false, length, take};
+ghost use Rattle.std.specs.Prelude.{◌≡◌, ◌≤◌, ◌<◌, ◌+◌, ◌-◌, ◌^◌, List, ℕ, IfOk, OnOk, drop, false, length, min, take};
 ghost use Rattle.lfs_model.specs.Frame.{ancestor_paths_of_path};
-ghost use Rattle.lfs_model.specs.Shown.{skip_list_blocks_of_struct, skip_list_bytes_on_disk, tree_on_disk};
-ghost use Rattle.lfs_model.specs.SkipLists.{IsSkipList};
+ghost use Rattle.lfs_model.specs.Shown.{skip_list_blocks_of_struct, tree_on_disk};
 ghost use Rattle.lfs_model.specs.Slots.{Ctz, Inline};
 ghost use Rattle.lfs_model.specs.Tree.{Path as ModelPath};
 ghost use Rattle.lfs_model.specs.TreeEdits.{file_bytes_of_node};
@@ -19,9 +18,7 @@ use crate::answers::mark_thread_failed_on_error;
 use crate::tree::Tree;
 use lfs_ctz::KnownBlocks;
 use lfs_device::{BlockDevice, Error};
-use lfs_lookup::{
-    FileContents, FoundFile, Path, find_file_contents_at_path, read_file_contents_from_position,
-};
+use lfs_lookup::{FileContents, FoundFile, Path, find_file_contents_at_path};
 use lfs_thread::Thread;
 use std::alloc::Global;
 
@@ -43,33 +40,33 @@ impl<D: BlockDevice> Tree<D> {
         found
     }
 
-    /// Returns the bytes from a position on, at most `count`, of a file with these contents. Nothing
+    /// Reads the bytes from a position on of a file with these contents into the buffer, as many as
+    /// the buffer and the file have. Returns how many these are; the rest of the buffer stays. Nothing
     /// is looked up, and inline bytes take no reads. The bytes of a list are found from the nearest
     /// of its blocks that are known, and the blocks on the way are noted.
     ///
-    /// Errors: `Io` where a read failed. `NoMemory` where memory isn't granted. The tree has failed
-    /// after either.
+    /// Errors: `Io` where a read failed. Then the tree has failed, and it isn't said what the buffer
+    /// holds.
     pub fn read(
         &mut self,
-        alloc: Global,
         contents: &FileContents,
         known: &mut KnownBlocks,
         position: u32,
-        count: usize,
-    ) -> Result<Vec<u8>, Error>
+        buf: &mut [u8],
+    ) -> Result<usize, Error>
         requires works { self.old.failed ≡ false }
         requires there { (path : ModelPath) × IsInlineBytesOrSkipListOfFileAtPath self.old.pairs path contents.now }
         requires blocks { AreKnownListBlocks (skip_list_blocks_of_struct self.old.disk (struct_of_file_contents contents.now)) known.old }
         ensures asks { OnlyReadsTreeOrFails self.old result self.new }
-        ensures bytes { (path : ModelPath) → IsInlineBytesOrSkipListOfFileAtPath self.old.pairs path contents.now → IfOk result (λ v. v.items ≡ take count (drop position (file_bytes_of_node (tree_view self.old path)))) }
-        ensures end { IfOk result (λ v. position + length v.items < 2 ^ 32) }
+        ensures bytes { (path : ModelPath) → IsInlineBytesOrSkipListOfFileAtPath self.old.pairs path contents.now → IfOk result (λ n. take n buf.new ≡ take (length buf.old) (drop position (file_bytes_of_node (tree_view self.old path)))) }
+        ensures count { IfOk result (λ n. (n ≤ length buf.old) × (position + n < 2 ^ 32) × (drop n buf.new ≡ drop n buf.old)) }
         ensures none { (own : List ℕ) → struct_of_file_contents contents.now ≡ Inline own → self.new.history ≡ self.old.history }
         ensures blocks { AreKnownListBlocks (skip_list_blocks_of_struct self.old.disk (struct_of_file_contents contents.now)) known.new }
-        ensures few { (head size : ℕ) → struct_of_file_contents contents.now ≡ Ctz head size → OnOk result (ReadsKnownList self.old.disk.block_size size position count known.old known.new self.old.history self.new.history) }
+        ensures few { (head size : ℕ) → struct_of_file_contents contents.now ≡ Ctz head size → OnOk result (ReadsKnownList self.old.disk.block_size size position (length buf.old) known.old known.new self.old.history self.new.history) }
     {
-        let bytes = read_known_contents(alloc, &mut self.thread, contents, known, position, count);
-        mark_thread_failed_on_error(&mut self.thread, &bytes);
-        bytes
+        let count = read_known_contents(&mut self.thread, contents, known, position, buf);
+        mark_thread_failed_on_error(&mut self.thread, &count);
+        count
     }
 
     /// Returns the size in bytes of a file with these contents. The call makes no call of the
@@ -87,58 +84,44 @@ impl<D: BlockDevice> Tree<D> {
     }
 }
 
-// Returns the bytes from a position on, at most `count`, of a file with these contents. The known
-// blocks are those of its list.
+// Copies bytes from a position on to the beginning of the buffer, as many as there are and as it has
+// room for. Returns how many these are.
+fn copy_from_position(bytes: &[u8], position: u32, buf: &mut [u8]) -> usize
+    ensures count { result ≡ min (length buf.old) (length bytes.now - position) }
+    ensures bytes { take result buf.new ≡ take (length buf.old) (drop position bytes.now) }
+    ensures rest { drop result buf.new ≡ drop result buf.old }
+{
+    let rest = &bytes[bytes.len().min(position as usize)..];
+    let count = rest.len().min(buf.len());
+    buf[..count].copy_from_slice(&rest[..count]);
+    count
+}
+
+// Reads the bytes from a position on of a file with these contents into the buffer. The known blocks
+// are those of its list.
 fn read_known_contents<D: BlockDevice>(
-    alloc: Global,
     thread: &mut Thread<D>,
     contents: &FileContents,
     known: &mut KnownBlocks,
     position: u32,
-    count: usize,
-) -> Result<Vec<u8>, Error>
+    buf: &mut [u8],
+) -> Result<usize, Error>
     requires works { thread.old.failed ≡ false }
     requires fits { AreInlineContentsShorterThanTagLength contents.now }
     requires list { IsSkipListIfCtzStruct thread.old.kept.disk (struct_of_file_contents contents.now) }
     requires blocks { AreKnownListBlocks (skip_list_blocks_of_struct thread.old.kept.disk (struct_of_file_contents contents.now)) known.old }
-    ensures bytes { (path : ModelPath) → IsInlineBytesOrSkipListOfFileAtPath thread.old.kept.pairs path contents.now → IfOk result (λ v. v.items ≡ take count (drop position (file_bytes_of_node (tree_on_disk thread.old.kept.disk thread.old.kept.pairs path)))) }
-    ensures end { IfOk result (λ v. position + length v.items < 2 ^ 32) }
+    ensures bytes { (path : ModelPath) → IsInlineBytesOrSkipListOfFileAtPath thread.old.kept.pairs path contents.now → IfOk result (λ n. take n buf.new ≡ take (length buf.old) (drop position (file_bytes_of_node (tree_on_disk thread.old.kept.disk thread.old.kept.pairs path)))) }
+    ensures count { IfOk result (λ n. (n ≤ length buf.old) × (position + n < 2 ^ 32) × (drop n buf.new ≡ drop n buf.old)) }
     ensures none { (own : List ℕ) → struct_of_file_contents contents.now ≡ Inline own → thread.new ≡ thread.old }
     ensures blocks { AreKnownListBlocks (skip_list_blocks_of_struct thread.old.kept.disk (struct_of_file_contents contents.now)) known.new }
     ensures reading { OnlyReadsThreadAndReportsErrors thread.old thread.new result }
-    ensures few { (head size : ℕ) → struct_of_file_contents contents.now ≡ Ctz head size → OnOk result (ReadsKnownList thread.old.kept.disk.block_size size position count known.old known.new thread.old.kept.history thread.new.kept.history) }
+    ensures few { (head size : ℕ) → struct_of_file_contents contents.now ≡ Ctz head size → OnOk result (ReadsKnownList thread.old.kept.disk.block_size size position (length buf.old) known.old known.new thread.old.kept.history thread.new.kept.history) }
 {
     match contents {
-        FileContents::Inline(_) => {
-            read_file_contents_from_position(alloc, thread, contents, position, count)
-        }
+        FileContents::Inline(bytes) => Ok(copy_from_position(bytes, position, buf)),
         FileContents::List { head, size } => {
-            read_known_list(alloc, thread, (*head, *size), known, position, count)
+            let count = buf.len().min(size.saturating_sub(position) as usize);
+            thread.read_known_list(*head, *size, known, position, &mut buf[..count])
         }
     }
-}
-
-// Returns some of the bytes of a skip list, whose head and size are given.
-fn read_known_list<D: BlockDevice>(
-    alloc: Global,
-    thread: &mut Thread<D>,
-    list: (u32, u32),
-    known: &mut KnownBlocks,
-    position: u32,
-    count: usize,
-) -> Result<Vec<u8>, Error>
-    requires works { thread.old.failed ≡ false }
-    requires list { IsSkipList thread.old.kept.disk.blocks thread.old.kept.disk.block_size list.0 list.1 }
-    requires blocks { AreKnownListBlocks (skip_list_blocks_of_struct thread.old.kept.disk (Ctz list.0 list.1)) known.old }
-    ensures bytes { IfOk result (λ v. v.items ≡ take count (drop position (skip_list_bytes_on_disk thread.old.kept.disk list.0 list.1))) }
-    ensures end { IfOk result (λ v. position + length v.items < 2 ^ 32) }
-    ensures blocks { AreKnownListBlocks (skip_list_blocks_of_struct thread.old.kept.disk (Ctz list.0 list.1)) known.new }
-    ensures reading { OnlyReadsThreadAndReportsErrors thread.old thread.new result }
-    ensures few { OnOk result (ReadsKnownList thread.old.kept.disk.block_size list.1 position count known.old known.new thread.old.kept.history thread.new.kept.history) }
-{
-    let (head, size) = list;
-    let left = size.saturating_sub(position) as usize;
-    let mut bytes = Vec::from_elem(alloc, 0u8, count.min(left))?;
-    thread.read_known_list(head, size, known, position, &mut bytes)?;
-    Ok(bytes)
 }

@@ -1,4 +1,4 @@
-use Rattle.std.proofs.Common.{◌≡◌, ap, drop, subst, sym, take}
+use Rattle.std.proofs.Common.{◌≡◌, ap, drop, length, subst, sym, take}
 use Rattle.std.specs.Prelude.{IfOk, OnOk}
 use Rattle.lfs_model.specs.TreeEdits.{file_bytes_of_node}
 use Rattle.lfs_ctz.specs.Known.{AreKnownListBlocks, ReadsKnownList}
@@ -10,11 +10,11 @@ use Rattle.lfs_tree.proofs.Asking.{asking, held, rooted_held}
 use Rattle.lfs_tree.proofs.ReadContents.{list_read}
 use Rattle.lfs_tree.proofs.tree.Tree.read.Goals as goal
 
-pub read_known_contents-bytes-requires-clause-fits : goal.read_known_contents-bytes-requires-clause-fits
-read_known_contents-bytes-requires-clause-fits g c = c.requires.there.1.fits
+pub read_known_contents-count-requires-clause-fits : goal.read_known_contents-count-requires-clause-fits
+read_known_contents-count-requires-clause-fits g c = c.requires.there.1.fits
 
-pub read_known_contents-bytes-requires-clause-list : goal.read_known_contents-bytes-requires-clause-list
-read_known_contents-bytes-requires-clause-list g c =
+pub read_known_contents-count-requires-clause-list : goal.read_known_contents-count-requires-clause-list
+read_known_contents-count-requires-clause-list g c =
     let r = rooted_held c.self.inside.thread c.self.inside.root c.self.inside.is_writable c.args.self.now c.self.invariant c.self.view_is c.requires.works in
     let t = c.self.inside.thread.kept in
     list_read t.disk t.pairs c.requires.there.0 c.args.contents.now r.sound.accepted
@@ -22,28 +22,28 @@ read_known_contents-bytes-requires-clause-list g c =
 
 pub invariant_of-self : goal.invariant_of-self
 invariant_of-self g c =
-    held c.self.inside.thread c.read_known_contents-bytes.new.thread c.self.inside.root c.self.inside.is_writable (rooted_held c.self.inside.thread c.self.inside.root c.self.inside.is_writable c.args.self.now c.self.invariant c.self.view_is c.requires.works) c.read_known_contents-bytes.result c.mark_thread_failed_on_error.new.thread c.mark_thread_failed_on_error.ensures c.read_known_contents-bytes.ensures.reading
+    held c.self.inside.thread c.read_known_contents-count.new.thread c.self.inside.root c.self.inside.is_writable (rooted_held c.self.inside.thread c.self.inside.root c.self.inside.is_writable c.args.self.now c.self.invariant c.self.view_is c.requires.works) c.read_known_contents-count.result c.mark_thread_failed_on_error.new.thread c.mark_thread_failed_on_error.ensures c.read_known_contents-count.ensures.reading
 
 pub returns-clause-asks : goal.returns-clause-asks
 returns-clause-asks g c =
-    asking c.self.inside.thread c.read_known_contents-bytes.new.thread c.self.inside.root c.self.inside.is_writable (rooted_held c.self.inside.thread c.self.inside.root c.self.inside.is_writable c.args.self.now c.self.invariant c.self.view_is c.requires.works) c.args.self.now c.read_known_contents-bytes.result c.mark_thread_failed_on_error.new.thread c.self.view_is c.mark_thread_failed_on_error.ensures c.read_known_contents-bytes.ensures.reading
+    asking c.self.inside.thread c.read_known_contents-count.new.thread c.self.inside.root c.self.inside.is_writable (rooted_held c.self.inside.thread c.self.inside.root c.self.inside.is_writable c.args.self.now c.self.invariant c.self.view_is c.requires.works) c.args.self.now c.read_known_contents-count.result c.mark_thread_failed_on_error.new.thread c.self.view_is c.mark_thread_failed_on_error.ensures c.read_known_contents-count.ensures.reading
 
 pub returns-clause-bytes : goal.returns-clause-bytes
 returns-clause-bytes g c path there =
-    subst (λ (s : TreeState). IfOk c.read_known_contents-bytes.result (λ v. v.items ≡ take c.args.count (drop c.args.position (file_bytes_of_node (tree_view s path))))) c.self.view_is
-    (c.read_known_contents-bytes.ensures.bytes path (subst (λ (s : TreeState). IsInlineBytesOrSkipListOfFileAtPath s.pairs path c.args.contents.now) (sym c.self.view_is) there))
+    subst (λ (s : TreeState). IfOk c.read_known_contents-count.result (λ n. take n c.read_known_contents-count.new.buf ≡ take (length c.args.buf.now) (drop c.args.position (file_bytes_of_node (tree_view s path))))) c.self.view_is
+    (c.read_known_contents-count.ensures.bytes path (subst (λ (s : TreeState). IsInlineBytesOrSkipListOfFileAtPath s.pairs path c.args.contents.now) (sym c.self.view_is) there))
 
-pub read_known_contents-bytes-requires-clause-blocks : goal.read_known_contents-bytes-requires-clause-blocks
-read_known_contents-bytes-requires-clause-blocks g c =
+pub read_known_contents-count-requires-clause-blocks : goal.read_known_contents-count-requires-clause-blocks
+read_known_contents-count-requires-clause-blocks g c =
     subst (λ (s : TreeState). AreKnownListBlocks (skip_list_blocks_of_struct s.disk (struct_of_file_contents c.args.contents.now)) c.args.known.now) (sym c.self.view_is) c.requires.blocks
 
 pub returns-clause-blocks : goal.returns-clause-blocks
 returns-clause-blocks g c =
-    subst (λ (s : TreeState). AreKnownListBlocks (skip_list_blocks_of_struct s.disk (struct_of_file_contents c.args.contents.now)) c.read_known_contents-bytes.new.known) c.self.view_is c.read_known_contents-bytes.ensures.blocks
+    subst (λ (s : TreeState). AreKnownListBlocks (skip_list_blocks_of_struct s.disk (struct_of_file_contents c.args.contents.now)) c.read_known_contents-count.new.known) c.self.view_is c.read_known_contents-count.ensures.blocks
 
 pub returns-clause-few : goal.returns-clause-few
 returns-clause-few g c head size is =
     let history = ap (λ (t : ThreadView). t.kept.history) c.mark_thread_failed_on_error.ensures in
-    subst (λ (s : TreeState). OnOk c.read_known_contents-bytes.result (ReadsKnownList s.disk.block_size size c.args.position c.args.count c.args.known.now c.read_known_contents-bytes.new.known s.history c.mark_thread_failed_on_error.new.thread.kept.history)) c.self.view_is
-    (subst (λ h. OnOk c.read_known_contents-bytes.result (ReadsKnownList c.self.inside.thread.kept.disk.block_size size c.args.position c.args.count c.args.known.now c.read_known_contents-bytes.new.known c.self.inside.thread.kept.history h)) (sym history)
-    (c.read_known_contents-bytes.ensures.few head size is))
+    subst (λ (s : TreeState). OnOk c.read_known_contents-count.result (ReadsKnownList s.disk.block_size size c.args.position (length c.args.buf.now) c.args.known.now c.read_known_contents-count.new.known s.history c.mark_thread_failed_on_error.new.thread.kept.history)) c.self.view_is
+    (subst (λ h. OnOk c.read_known_contents-count.result (ReadsKnownList c.self.inside.thread.kept.disk.block_size size c.args.position (length c.args.buf.now) c.args.known.now c.read_known_contents-count.new.known c.self.inside.thread.kept.history h)) (sym history)
+    (c.read_known_contents-count.ensures.few head size is))

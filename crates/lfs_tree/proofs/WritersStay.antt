@@ -158,7 +158,6 @@ module _ (old new : TreeState) (path : Path) (c : WriterContents) (over : AreWri
       divided = record {
         block_size = over.stands.divided.block_size ∙ sym geometry.block_size;
         page = over.stands.divided.page ∙ sym geometry.page;
-        order = over.stands.divided.order ∙ sym geometry.order;
         profile = over.stands.divided.profile ∙ sym geometry.profile;
         count = over.stands.divided.count ∙ sym geometry.count;
       };

@@ -1,14 +1,13 @@
 -- What the getters give, by the rows.
-use Rattle.std.proofs.Common.{◌≡◌, ◌∙◌, ap, Bool, true, false, ℕ, Option, Some, None, Result, refl, sym, subst, inl, inr, lit<, codes, option_map, is_some, unwrap_or}
+use Rattle.std.proofs.Common.{◌≡◌, ◌∙◌, ap, Bool, true, false, Option, Some, None, refl, sym, codes, option_map, is_some, unwrap_or}
 use Rattle.std.specs.Str.{bytes_eq}
-use Rattle.std.specs.Str.Parse.{ParsesBool, ParsesUnsigned}
+use Rattle.std.specs.Str.Parse.{ParsesBool}
 use Rattle.std.proofs.lemmas.Slice.Eq.{bytes_eq-Decides}
-use Rattle.clap.specs.Words.{Text, first_of, first_value, one_text, rows_of, without_minus}
+use Rattle.clap.specs.Words.{Text, first_of, first_value, one_text, rows_of}
 use Rattle.clap.specs.Matches.{ReadsOne}
 use Rattle.clap.specs.declared.parser.matches.Found.{Found}
 use Rattle.clap.proofs.WalkLemmas.{first_value-rows, one_text-rows}
-use Rattle.lfs_tool_line.specs.Values.{HasNumberOf32BitsIfGiven, flag_value_in_rows, is_flag_text_true, numeric_option_value_in_rows}
-use Rattle.clap.proofs.CallerReads.{signed_reads}
+use Rattle.lfs_tool_line.specs.Values.{flag_value_in_rows, is_flag_text_true}
 
 flag_by : (E : Type 0) (t : Text) (r : Option Bool) → ReadsOne {T = Bool} {E = E} ParsesBool t r → unwrap_or r false ≡ bytes_eq t (codes "true")
 flag_by E t (Some true) h = rw h refl
@@ -26,17 +25,6 @@ flag_read E f id r none value = go (one_text f id) refl ∙ ap is_flag_text_true
     go : (o : Option Text) → one_text f id ≡ o → unwrap_or r false ≡ is_flag_text_true (one_text f id)
     go None e = rw (e, none e) refl
     go (Some t) e = rw e (flag_by E t r (value t e))
-
--- what the number's getter gives, where the option has no text, or one that reads as a number
-pub number_read : (E : Type 0) (G : Text → Result ℕ E → Type 0) (f : Found) (id : Text) (r : Option ℕ) → HasNumberOf32BitsIfGiven f id
-    → (one_text f id ≡ None → r ≡ None) → ((t : Text) → one_text f id ≡ Some t → ReadsOne G t r) → ((u : Text) (x : Result ℕ E) → G u x → ParsesUnsigned 32 10 u x)
-    → r ≡ numeric_option_value_in_rows id (rows_of f)
-number_read E G f id r (inl absent) none value only = rw (← one_text-rows f id, absent) (none absent)
-number_read E G f id r (inr has) none value only =
-    let read = value (without_minus has.0) has.1 in
-    let got = signed_reads E G 32 0 4294967295 has.0 r read only (lit< tt) has.2 in
-    let parsed = only _ _ (subst (λ (o : Option ℕ). ReadsOne G (without_minus has.0) o) got.1 read) in
-    rw (← one_text-rows f id, has.1) (got.1 ∙ ap (λ (k : ℕ). Some k) parsed.1)
 
 pub text_there : (X : Type 0) (o : Option X) (text : X → Text) (f : Found) (id : Text) → option_map text o ≡ first_of id (rows_of f)
     → is_some (first_value f id) ≡ true → is_some o ≡ true

@@ -1,12 +1,15 @@
 -- The command is one of those whose matches clap gives as a function of the words.
-use Rattle.std.proofs.Common.{◌≡◌, ◌∙◌, ap, refl, subst, true, List, Result}
+use Rattle.std.proofs.Common.{◌≡◌, ◌∷◌, ◌∙◌, [], ap, if◌then◌else◌, inl, inr, is_some, refl, subst, sym, true, List, None, Option, Result, Some}
 use Rattle.std.proofs.lemmas.Result.{IfOk-weaker}
 use Rattle.std.specs.Prelude.{IfOk}
-use Rattle.clap.specs.Words.{App, FailsBy, HasMatchesOf, Kinds, Text, fault_of, found_of, is_simple, is_simple_and_free, matches_of, rows_of}
+use Rattle.clap.specs.Words.{App, FailsBy, HasKind, HasMatchesOf, Kinds, Row, Text, fault_of, found_of, is_simple, is_simple_and_free, kind_of, matches_of, rows_of}
+use Rattle.clap.specs.Kinds.{or_else}
+use Rattle.clap.specs.declared.error.ErrorKind.TheVariants.{ValueValidation}
 use Rattle.clap.specs.declared.error.Error.{Error}
 use Rattle.clap.specs.declared.parser.ArgMatches.{ArgMatches}
 use Rattle.lfs_tool_line.specs.Command.{mklittlefs, with_board_and_version_options, with_limit_options, with_mode_options, with_mode_size_and_order_options, with_size_options}
 use Rattle.lfs_tool_line.specs.Matches.{faults, rows}
+use Rattle.lfs_tool_line.specs.Values.{first_bad_number, number_faults, number_options}
 
 is_simple_command : is_simple mklittlefs ≡ true
 unfolding mklittlefs with_mode_size_and_order_options with_mode_options with_size_options with_limit_options with_board_and_version_options
@@ -33,6 +36,32 @@ faults_along a b words r same simple h =
 
 -- when it fails
 pub faults_are : (a : App) (words : List Text) (r : Result ArgMatches Error) → a ≡ mklittlefs
-    → (is_simple_and_free a ≡ true → FailsBy (fault_of a words) r) → FailsBy (faults words) r
-unfolding faults
+    → (is_simple_and_free a ≡ true → FailsBy (fault_of a words) r) → FailsBy (fault_of mklittlefs words) r
 faults_are a words r same h = faults_along a mklittlefs words r same is_free_command h
+
+-- what clap refuses is refused
+pub refused_words : (words : List Text) (e : Error) → HasKind (fault_of mklittlefs words) e → HasKind (faults words) e
+unfolding faults
+refused_words words e refused = go (fault_of mklittlefs words) refused
+  where
+    go : (ks : Kinds) → HasKind ks e → HasKind (or_else ks (number_faults (rows words))) e
+    go [] (inl memory) = inl memory
+    go [] (inr none) = absurd none
+    go (k ∷ ks) h = h
+
+-- where clap takes the words, the numbers decide
+faults_of_numbers : (words : List Text) (found : List Row) → fault_of mklittlefs words ≡ [] → found ≡ rows words → faults words ≡ number_faults found
+unfolding faults
+faults_of_numbers words found taken same = ap (λ (ks : Kinds). or_else ks (number_faults (rows words))) taken ∙ ap number_faults (sym same)
+
+pub bad_number_refused : (words : List Text) (found : List Row) (text : Text) (e : Error) → fault_of mklittlefs words ≡ [] → found ≡ rows words
+    → Some text ≡ first_bad_number number_options found → kind_of e ≡ ValueValidation → HasKind (faults words) e
+bad_number_refused words found text e taken same bad is =
+    let faults_are_one : faults words ≡ ValueValidation ∷ [] = faults_of_numbers words found taken same
+    ∙ ap (λ (o : Option Text). if is_some o then ValueValidation ∷ [] else []) (sym bad) in
+    subst (λ (ks : Kinds). HasKind ks e) (sym faults_are_one) (inr (inl is))
+
+pub good_numbers_taken : (words : List Text) (found : List Row) → fault_of mklittlefs words ≡ [] → found ≡ rows words
+    → None ≡ first_bad_number number_options found → faults words ≡ []
+good_numbers_taken words found taken same good =
+    faults_of_numbers words found taken same ∙ ap (λ (o : Option Text). if is_some o then ValueValidation ∷ [] else []) (sym good)

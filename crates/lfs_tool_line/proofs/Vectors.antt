@@ -1,10 +1,11 @@
 -- What some lines of words say.
-use Rattle.std.proofs.Common.{◌≡◌, ◌∷◌, [], Some, List, refl, codes}
+use Rattle.std.proofs.Common.{◌≡◌, ◌∷◌, [], None, Some, List, refl, codes}
 use Rattle.clap.specs.Words.{Text, first_of}
 use Rattle.clap.specs.declared.error.ErrorKind.TheVariants as kind
 use Rattle.clap.proofs.OnLiterals.{clap_on_literals}
 use Rattle.lfs_tool_line.specs.Command.{mklittlefs, with_board_and_version_options, with_limit_options, with_mode_options, with_mode_size_and_order_options, with_size_options}
 use Rattle.lfs_tool_line.specs.Matches.{faults, given_mode_count, rows}
+use Rattle.lfs_tool_line.specs.Numbers.{number_in_text, within_32_bits}
 use Rattle.lfs_tool_line.specs.Values.{number_or, numeric_option_value_in_rows}
 
 abbrev create_line : List Text
@@ -13,11 +14,11 @@ create_line = codes "mklittlefs" ∷ codes "-cdir" ∷ codes "-b=512" ∷ codes 
 created : (numeric_option_value_in_rows (codes "block_size") (rows create_line) ≡ Some 512) × (numeric_option_value_in_rows (codes "page") (rows create_line) ≡ Some 16)
     × (number_or 65536 (codes "size") (rows create_line) ≡ 65536) × (first_of (codes "create") (rows create_line) ≡ Some (codes "dir"))
     × (given_mode_count (rows create_line) ≡ 1) × (faults create_line ≡ [])
-unfolding clap_on_literals mklittlefs with_mode_size_and_order_options with_mode_options with_size_options with_limit_options with_board_and_version_options rows faults
+unfolding clap_on_literals mklittlefs with_mode_size_and_order_options with_mode_options with_size_options with_limit_options with_board_and_version_options rows faults number_in_text
 created = (refl, refl, refl, refl, refl, refl)
 
 too_large : faults (codes "m" ∷ codes "-l" ∷ codes "-s4294967296" ∷ codes "i" ∷ []) ≡ kind.ValueValidation ∷ []
-unfolding clap_on_literals mklittlefs with_mode_size_and_order_options with_mode_options with_size_options with_limit_options with_board_and_version_options faults
+unfolding clap_on_literals mklittlefs with_mode_size_and_order_options with_mode_options with_size_options with_limit_options with_board_and_version_options rows faults number_in_text
 too_large = refl
 
 no_image : faults (codes "m" ∷ codes "-l" ∷ []) ≡ kind.MissingRequiredArgument ∷ []
@@ -27,3 +28,40 @@ no_image = refl
 no_mode : (faults (codes "m" ∷ codes "i" ∷ []) ≡ []) × (given_mode_count (rows (codes "m" ∷ codes "i" ∷ [])) ≡ 0)
 unfolding clap_on_literals mklittlefs with_mode_size_and_order_options with_mode_options with_size_options with_limit_options with_board_and_version_options rows faults
 no_mode = (refl, refl)
+
+-- each form of a number
+forms : (number_in_text (codes "4096") ≡ Some 4096) × (number_in_text (codes "0x160000") ≡ Some 1441792) × (number_in_text (codes "0XfF") ≡ Some 255)
+    × (number_in_text (codes "4k") ≡ Some 4096) × (number_in_text (codes "2M") ≡ Some 2097152) × (number_in_text (codes "1.5M") ≡ Some 1572864)
+    × (number_in_text (codes "0.5K") ≡ Some 512) × (number_in_text (codes "0.25m") ≡ Some 262144) × (number_in_text (codes "1.50k") ≡ Some 1536)
+unfolding number_in_text
+forms = (refl, refl, refl, refl, refl, refl, refl, refl, refl)
+
+-- as clap reads them, a decimal may have a plus, and 0 a minus
+signs : (number_in_text (codes "+16") ≡ Some 16) × (number_in_text (codes "-0") ≡ Some 0) × (number_in_text (codes "-1") ≡ None) × (number_in_text (codes "+-1") ≡ None)
+unfolding number_in_text
+signs = (refl, refl, refl, refl)
+
+no_numbers : (number_in_text (codes "") ≡ None) × (number_in_text (codes "0x") ≡ None) × (number_in_text (codes "k") ≡ None)
+    × (number_in_text (codes "1.3k") ≡ None) × (number_in_text (codes "1.5") ≡ None) × (number_in_text (codes "1.k") ≡ None)
+    × (number_in_text (codes ".5k") ≡ None) × (number_in_text (codes "1.2.5M") ≡ None) × (number_in_text (codes "+4k") ≡ None)
+    × (number_in_text (codes "0x10k") ≡ None) × (number_in_text (codes "4kB") ≡ None) × (number_in_text (codes "4g") ≡ None)
+unfolding number_in_text
+no_numbers = (refl, refl, refl, refl, refl, refl, refl, refl, refl, refl, refl, refl)
+
+-- the largest number in each form, and the next one
+largest : (within_32_bits (number_in_text (codes "0xffffffff")) ≡ Some 4294967295) × (within_32_bits (number_in_text (codes "0x100000000")) ≡ None)
+    × (within_32_bits (number_in_text (codes "4095.5M")) ≡ Some 4294443008) × (within_32_bits (number_in_text (codes "4096M")) ≡ None)
+unfolding number_in_text
+largest = (refl, refl, refl, refl)
+
+broken_size : faults (codes "m" ∷ codes "-l" ∷ codes "--page=1.3k" ∷ codes "i" ∷ []) ≡ kind.ValueValidation ∷ []
+unfolding clap_on_literals mklittlefs with_mode_size_and_order_options with_mode_options with_size_options with_limit_options with_board_and_version_options rows faults number_in_text
+broken_size = refl
+
+abbrev forms_line : List Text
+forms_line = codes "mklittlefs" ∷ codes "-cdir" ∷ codes "-s0x160000" ∷ codes "-b=4K" ∷ codes "--file-max" ∷ codes "1.5M" ∷ codes "disk.img" ∷ []
+
+formed : (numeric_option_value_in_rows (codes "size") (rows forms_line) ≡ Some 1441792) × (numeric_option_value_in_rows (codes "block_size") (rows forms_line) ≡ Some 4096)
+    × (numeric_option_value_in_rows (codes "file_max") (rows forms_line) ≡ Some 1572864) × (faults forms_line ≡ [])
+unfolding clap_on_literals mklittlefs with_mode_size_and_order_options with_mode_options with_size_options with_limit_options with_board_and_version_options rows faults number_in_text
+formed = (refl, refl, refl, refl)

@@ -2,6 +2,7 @@
 use Rattle.std.specs.Prelude.{◌≡◌, ◌∷◌, if◌then◌else◌, ℕ, [], Bool, List, Option, Some, None, true, codes, is_some, unwrap_or, count_by}
 use Rattle.std.specs.Str.{bytes_eq}
 use Rattle.clap.specs.Words.{Kinds, Row, Text, fault_of, first_of, matches_of}
+use Rattle.clap.specs.Kinds.{or_else}
 use Rattle.clap.specs.Words.{HasKind, first_value}
 use Rattle.clap.specs.declared.parser.matches.Found.{Found}
 use Rattle.lfs_model.specs.declared.limits.AcceptedVersions.{AcceptedVersions}
@@ -12,7 +13,7 @@ use Rattle.lfs_model.specs.declared.order.NameOrder.TheVariants.{LongerFirst, Sh
 use Rattle.lfs_tool_line.specs.Boards.{block_size_of_board, board_with_name, profile_of_board}
 use Rattle.lfs_tool_line.specs.Command.{mklittlefs}
 use Rattle.lfs_tool_line.specs.Limits.{first_broken_limit}
-use Rattle.lfs_tool_line.specs.Values.{HasNumberOf32BitsIfGiven, flag_value_in_rows, number_or}
+use Rattle.lfs_tool_line.specs.Values.{flag_value_in_rows, number_faults, number_or}
 use Rattle.lfs_tool_line.specs.declared.board.Board.{Board}
 use Rattle.lfs_tool_line.specs.declared.board.Board.TheVariants.{Unnamed}
 use Rattle.lfs_tool_line.specs.declared.limits.Limit.{Limit}
@@ -27,9 +28,9 @@ use Rattle.lfs_tool_line.specs.declared.line.Mode.TheVariants as mode
 unfoldable pub rows : List Text → List Row
 rows words = matches_of mklittlefs words
 
--- the error with which the parser refuses the words; empty where it takes them
+-- the error with which the words are refused: that of clap, or that of a number; empty where they are taken
 unfoldable pub faults : List Text → Kinds
-faults words = fault_of mklittlefs words
+faults words = or_else (fault_of mklittlefs words) (number_faults (rows words))
 
 abbrev pub ParserAcceptsWords : List Text → Type 0
 ParserAcceptsWords words = faults words ≡ []
@@ -131,16 +132,9 @@ pub record IsCommandLineOfParsedArguments (rows : List Row) (line : Line) : Type
   pub profile : given_profile rows ≡ line.profile
   pub image : first_of (codes "image") rows ≡ Some line.image.now
 
--- the image is there, and each number that is given is one
-pub record HasReadableArgumentValues (f : Found) : Type 0 where
-  pub block_size : HasNumberOf32BitsIfGiven f (codes "block_size")
-  pub page : HasNumberOf32BitsIfGiven f (codes "page")
-  pub size : HasNumberOf32BitsIfGiven f (codes "size")
-  pub name_max : HasNumberOf32BitsIfGiven f (codes "name_max")
-  pub file_max : HasNumberOf32BitsIfGiven f (codes "file_max")
-  pub attr_max : HasNumberOf32BitsIfGiven f (codes "attr_max")
-  pub inline_max : HasNumberOf32BitsIfGiven f (codes "inline_max")
-  pub image : is_some (first_value f (codes "image")) ≡ true
+-- the image is there
+abbrev pub HasGivenImage : Found → Type 0
+HasGivenImage f = is_some (first_value f (codes "image")) ≡ true
 
 -- the parser takes the words, which name one mode, and an order and a board that are known
 abbrev pub NamesModeOrderAndBoard : List Text → Type 0

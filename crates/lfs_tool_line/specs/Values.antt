@@ -1,16 +1,44 @@
 -- The values of numbers and flags.
-use Rattle.std.specs.Prelude.{◌≡◌, ◌⊎◌, pos, ℕ, Bool, List, Option, Some, None, false, codes, option_map, unwrap_or}
+use Rattle.std.specs.Prelude.{◌∷◌, [], Bool, List, Option, Some, None, ℕ, false, codes, is_some, if◌then◌else◌, unwrap_or}
 use Rattle.std.specs.Str.{bytes_eq}
-use Rattle.std.specs.Str.Parse.{digits_value, without_leading_plus}
-use Rattle.clap.specs.Words.{IsSignedIn, Row, Text, one_of, one_text, without_minus}
-use Rattle.clap.specs.declared.parser.matches.Found.{Found}
+use Rattle.clap.specs.Words.{Kinds, Row, Text, first_of, one_of}
+use Rattle.clap.specs.declared.error.ErrorKind.TheVariants.{ValueValidation}
+use Rattle.lfs_tool_line.specs.Numbers.{number_in_text, within_32_bits}
 
--- the value of an option that takes a number
-abbrev pub number_in_option_text : Text → ℕ
-number_in_option_text text = digits_value 10 (without_leading_plus text)
+-- the number of a text that is given
+abbrev pub number_if_given : Option Text → Option ℕ
+number_if_given None = None
+number_if_given (Some text) = within_32_bits (number_in_text text)
 
 abbrev pub numeric_option_value_in_rows : Text → List Row → Option ℕ
-numeric_option_value_in_rows id rows = option_map number_in_option_text (one_of id rows)
+numeric_option_value_in_rows id rows = number_if_given (first_of id rows)
+
+-- the text that is given, where it names no number
+abbrev pub bad_text_if_given : Option Text → Option Text
+bad_text_if_given None = None
+bad_text_if_given (Some text) = if is_some (within_32_bits (number_in_text text)) then None else Some text
+
+-- the text of an option that takes a number, where it names none
+abbrev pub bad_number_of_option : Text → List Row → Option Text
+bad_number_of_option id rows = bad_text_if_given (first_of id rows)
+
+-- the first text, where there is one
+abbrev pub text_or_next : Option Text → Option Text → Option Text
+text_or_next None next = next
+text_or_next (Some text) next = Some text
+
+-- the first option's text that names no number
+abbrev pub first_bad_number : List Text → List Row → Option Text
+first_bad_number [] rows = None
+first_bad_number (id ∷ ids) rows = text_or_next (bad_number_of_option id rows) (first_bad_number ids rows)
+
+-- the options that take a number
+abbrev pub number_options : List Text
+number_options = codes "block_size" ∷ codes "page" ∷ codes "size" ∷ codes "name_max" ∷ codes "file_max" ∷ codes "attr_max" ∷ codes "inline_max" ∷ []
+
+-- the error of a text that names no number; empty where each names one
+abbrev pub number_faults : List Row → Kinds
+number_faults rows = if is_some (first_bad_number number_options rows) then ValueValidation ∷ [] else []
 
 -- the flag's text, which clap gives as true or false
 abbrev pub is_flag_text_true : Option Text → Bool
@@ -24,12 +52,3 @@ flag_value_in_rows id rows = is_flag_text_true (one_of id rows)
 -- the number of an option, or this one where none is given
 abbrev pub number_or : ℕ → Text → List Row → ℕ
 number_or other id rows = unwrap_or (numeric_option_value_in_rows id rows) other
-
--- the option has a text that reads as a number of 32 bits
-abbrev pub HasOptionNumberOf32Bits : Found → Text → Type 0
-HasOptionNumberOf32Bits f id = (t : Text) × (one_text f id ≡ Some (without_minus t))
-    × IsSignedIn (pos 0) (pos 4294967295) t
-
--- the option isn't given, or has such a text
-abbrev pub HasNumberOf32BitsIfGiven : Found → Text → Type 0
-HasNumberOf32BitsIfGiven f id = (one_text f id ≡ None) ⊎ HasOptionNumberOf32Bits f id

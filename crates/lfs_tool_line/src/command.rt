@@ -1,11 +1,13 @@
 // The arguments of mklittlefs, and a parse of words by them.
 
 ghost use Rattle.std.specs.Prelude.{◌≡◌, IfOk, codes, map, false};
-ghost use Rattle.clap.specs.Words.{FailsBy, app_of, found_of, new_app, rows_of, rule_of, with_rule};
+ghost use Rattle.clap.specs.Words.{FailsBy, app_of, fault_of, found_of, kind_of, new_app, rows_of, rule_of, with_rule};
 ghost use Rattle.lfs_tool_line.specs.Command.{rule_of_check_option, rule_of_explain_option, rule_of_folder_option, rule_of_image_argument, rule_of_list_option, mklittlefs, rule_of_number_option, rule_of_order_option, with_mode_options, with_mode_size_and_order_options, with_size_options, with_version_option};
-ghost use Rattle.lfs_tool_line.specs.Matches.{HasReadableArgumentValues, faults, rows};
+ghost use Rattle.lfs_tool_line.specs.Matches.{HasGivenImage, faults, rows};
 
 use crate::options::{number_arg, with_board_and_version_options, with_limit_options};
+use crate::values::first_bad_number;
+use clap::error::ErrorKind;
 use clap::{Arg, ArgAction, ArgMatches, Command, Error};
 use std::alloc::{AllocError, Global};
 use std::convert::AsStr;
@@ -24,11 +26,16 @@ Examples:
   mklittlefs -c settings -b 1024 -p 128 -s 262144 disk.img
   mklittlefs -l -b 1024 -p 128 disk.img  one of 256 KiB with other blocks
   mklittlefs -c settings --order shorter-first disk.img
-  mklittlefs -c settings --board esp32 -s 1441792 disk.img
+  mklittlefs -c settings --board esp32 -s 0x160000 disk.img
   mklittlefs -l --also-2.1 disk.img      lists one that firmware has changed
   mklittlefs --explain -l disk.img       says why where it isn't listed
   mklittlefs -c settings - > disk.img    writes the image to standard output
   mklittlefs -l - < disk.img             reads the image from standard input
+
+Numbers:
+  N is decimal, as 4096, or hexadecimal, as 0x1000. It may have a unit, as 4k
+  and 1.5M do: k stands for 1024 bytes, and M for 1048576. Letters may be large
+  or small. What makes no whole number of bytes, as 1.3k, is refused.
 
 Sizes:
   -b  from 1024 to 65536, a multiple of -p
@@ -272,14 +279,41 @@ fn mklittlefs_command<'a>(alloc: Global) -> Result<Command<'a>, AllocError>
     Ok(command)
 }
 
-// Returns the matches of the words.
+// Returns the error of a text that names no number, with the option that it was given to.
+fn number_error(alloc: Global, option: &str, text: &str) -> Result<Error, AllocError>
+    ensures { IfOk result (λ e. kind_of e ≡ ErrorKind.ValueValidation) }
+{
+    let message = format!(in alloc;
+        "invalid value '{text}' for '--{option} <N>': a number is 4096, 0x1000, 4k or 1.5M, and at most 4294967295"
+    )?;
+    let mut command = clap_command_before_arguments_are_added(alloc);
+    command.error(ErrorKind::ValueValidation, message.as_str())
+}
+
+// Returns the matches that clap finds in the words.
+fn clap_matches<'a, S: AsStr>(alloc: Global, words: &'a [S]) -> Result<ArgMatches<'a>, Error>
+    ensures kinds { FailsBy (fault_of mklittlefs (map S.text words.entry.now)) result }
+    ensures matches { IfOk result (λ m. rows_of (found_of m) ≡ rows (map S.text words.entry.now)) }
+    ensures image { IfOk result (λ m. HasGivenImage (found_of m)) }
+{
+    mklittlefs_command(alloc)?.try_get_matches_from(words)
+}
+
+// Returns the matches of the words, where each number is one.
 pub(crate) fn parse_command_line_words<'a, S: AsStr>(
     alloc: Global,
     words: &'a [S],
 ) -> Result<ArgMatches<'a>, Error>
     ensures kinds { FailsBy (faults (map S.text words.entry.now)) result }
     ensures matches { IfOk result (λ m. rows_of (found_of m) ≡ rows (map S.text words.entry.now)) }
-    ensures complete { IfOk result (λ m. HasReadableArgumentValues (found_of m)) }
+    ensures image { IfOk result (λ m. HasGivenImage (found_of m)) }
 {
-    mklittlefs_command(alloc)?.try_get_matches_from(words)
+    let matches = match clap_matches(alloc, words) {
+        Ok(matches) => matches,
+        Err(error) => return Err(error),
+    };
+    if let Some((option, text)) = first_bad_number(&matches) {
+        return Err(number_error(alloc, option, text)?);
+    }
+    Ok(matches)
 }

@@ -3,7 +3,7 @@
 ghost use Rattle.std.specs.Prelude.{◌≡◌};
 ghost use Rattle.clap.specs.Words.{found_of, rows_of};
 ghost use Rattle.lfs_tool_line.specs.Limits.{first_broken_limit, is_limit_within, rule_of_limit};
-ghost use Rattle.lfs_tool_line.specs.Matches.{HasReadableArgumentValues, given_or_other_profile, given_or_other_versions};
+ghost use Rattle.lfs_tool_line.specs.Matches.{given_or_other_profile, given_or_other_versions};
 
 use crate::values::{flag_value_in_matches, given_number, given_or_other_number};
 use clap::ArgMatches;
@@ -48,7 +48,6 @@ fn is_within(limit: Option<u32>, most: u32) -> bool
 
 // Returns the first limit that breaks its rule, with blocks of this size.
 pub(crate) fn first_broken_limit(matches: &ArgMatches<'_>, block_size: u32) -> Option<Limit>
-    requires { HasReadableArgumentValues (found_of matches.now) }
     ensures { result ≡ first_broken_limit block_size (rows_of (found_of matches.now)) }
 {
     if !is_within(given_number(matches, "name_max"), 255) {
@@ -82,7 +81,6 @@ fn given_or_other_versions(matches: &ArgMatches<'_>, other: AcceptedVersions) ->
 
 // Returns the profile with the limits and versions that are given.
 pub(crate) fn given_or_other_profile(matches: &ArgMatches<'_>, other: Profile) -> Profile
-    requires { HasReadableArgumentValues (found_of matches.now) }
     ensures { result ≡ given_or_other_profile other (rows_of (found_of matches.now)) }
 {
     Profile {

@@ -1,7 +1,7 @@
 ghost use Rattle.std.specs.Prelude.{◌≡◌, List, IfErr, IfOk, MatchOption, Some, map};
 ghost use Rattle.clap.specs.Words.{Text, found_of, rows_of};
 ghost use Rattle.lfs_tool_line.specs.Choices.{AreChoicesOfParsedArguments};
-ghost use Rattle.lfs_tool_line.specs.Matches.{HasOneMode, HasReadableArgumentValues, IsLineErrorOfWords, IsCommandLineOfParsedArguments, IsModeOfParsedArguments, ParserAcceptsWords, broken_limit, given_board, given_name_order, name_order_of_text, rows};
+ghost use Rattle.lfs_tool_line.specs.Matches.{HasOneMode, HasGivenImage, IsLineErrorOfWords, IsCommandLineOfParsedArguments, IsModeOfParsedArguments, ParserAcceptsWords, broken_limit, given_board, given_name_order, name_order_of_text, rows};
 
 use crate::board::Board;
 use crate::command::parse_command_line_words;
@@ -57,8 +57,8 @@ struct Choices<'a> {
 /// The cause for which there is no command line.
 #[derive(Debug, Drop, Error)]
 pub enum LineError {
-    /// The parser's own error, which also comes with a request for help, and where memory isn't
-    /// granted.
+    /// The parser's own error, which also comes of a number that is none, with a request for help, and where memory
+    /// isn't granted.
     #[error(transparent)]
     Parser(clap::Error),
     /// None of `-c`, `-u`, `-l` and `--check` is given, or more than one is.
@@ -151,7 +151,7 @@ fn command_line_of_matches<'a>(
     matches: &ArgMatches<'a>,
     choices: Choices<'a>,
 ) -> Result<Line<'a>, Limit>
-    requires values { HasReadableArgumentValues (found_of matches.now) }
+    requires image { HasGivenImage (found_of matches.now) }
     requires choices { AreChoicesOfParsedArguments (rows_of (found_of matches.now)) choices }
     ensures ok { IfOk result (IsCommandLineOfParsedArguments (rows_of (found_of matches.now))) }
     ensures err { IfErr result (λ limit. broken_limit (rows_of (found_of matches.now)) ≡ Some limit) }
@@ -178,15 +178,16 @@ fn command_line_of_matches<'a>(
 /// [--attr-max N] [--inline-max N] [--board NAME] [--also-2.1] [--explain] IMAGE`. The long names are `--create`,
 /// `--unpack`, `--list`, `--block`, `--page` and `--size`.
 ///
-/// A number is decimal, from 0 to 4294967295. Where an option isn't given, a block has 4096 bytes, a
+/// A number is from 0 to 4294967295, as `4096`, `0x1000`, `4k` and `1.5M` are: decimal, hexadecimal, or in units of 1024
+/// or 1048576 bytes, where it may have a point. Where an option isn't given, a block has 4096 bytes, a
 /// page 256 and the image 65536, the longer names come first, and the limits are the format's own. With a board its
 /// block size, its limits and both versions hold in place of these. ORDER is `longer-first` or `shorter-first`, and NAME
 /// `esp8266`, `esp32`, `rp2040` or `micropython`. ORDER and the limits are read with each mode, and an image is made by
 /// them. `--also-2.1` is read with each mode, too, and matters without `-c` alone.
 ///
 /// # Errors
-/// `LineError::Parser` where the parser refuses the words, where they ask for help or for the version,
-/// or where memory isn't granted. `LineError::Modes` where it takes them and not exactly one of `-c`, `-u`, `-l` and
+/// `LineError::Parser` where the parser refuses the words or a number is none, where they ask for help or for the
+/// version, or where memory isn't granted. `LineError::Modes` where it takes them and not exactly one of `-c`, `-u`, `-l` and
 /// `--check` is given. `LineError::Order` where ORDER is neither, and `LineError::Board` where NAME is none of the four.
 /// `LineError::Limit` where a limit that is given is 0 or too large.
 pub fn read_line<'a, S: AsStr>(alloc: Global, words: &'a [S]) -> Result<Line<'a>, LineError>

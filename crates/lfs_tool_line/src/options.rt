@@ -4,7 +4,7 @@ ghost use Rattle.std.specs.Prelude.{◌≡◌, IfOk, false};
 ghost use Rattle.clap.specs.Words.{app_of, rule_of, with_rule};
 ghost use Rattle.lfs_tool_line.specs.Command.{rule_of_board_option, rule_of_later_version_option, rule_of_limit_option, with_board_and_version_options, with_limit_options};
 
-use clap::{Arg, ArgAction, Command, value_parser};
+use clap::{Arg, ArgAction, Command};
 use std::alloc::{AllocError, Global};
 
 // Returns an option that takes a number, with its long name alone.
@@ -16,7 +16,6 @@ pub(crate) fn number_arg<'a>(alloc: Global, id: &'a str, long: &'a str, help: &'
         .long(long)
         .action(ArgAction::Set)
         .value_name("N")
-        .value_parser(value_parser!(u32))
         .help(help)
 }
 

@@ -2,8 +2,9 @@
 
 ghost use Rattle.std.specs.Prelude.{◌≡◌, option_map};
 ghost use Rattle.clap.specs.Words.{first_of, found_of, rows_of};
-ghost use Rattle.lfs_tool_line.specs.Values.{HasNumberOf32BitsIfGiven, flag_value_in_rows, number_or, numeric_option_value_in_rows};
+ghost use Rattle.lfs_tool_line.specs.Values.{bad_number_of_option, first_bad_number, flag_value_in_rows, number_options, number_or, numeric_option_value_in_rows};
 
+use crate::numbers::number_in_text;
 use clap::ArgMatches;
 
 // Returns the text of an argument.
@@ -22,16 +23,58 @@ pub(crate) fn flag_value_in_matches(matches: &ArgMatches<'_>, id: &str) -> bool
 
 // Returns the number of an option, where it is given.
 pub(crate) fn given_number(matches: &ArgMatches<'_>, id: &str) -> Option<u32>
-    requires { HasNumberOf32BitsIfGiven (found_of matches.now) id.now }
     ensures { result ≡ numeric_option_value_in_rows id.now (rows_of (found_of matches.now)) }
 {
-    matches.get_one::<u32>(id)
+    match argument_text(matches, id) {
+        Some(text) => number_in_text(text),
+        None => None,
+    }
 }
 
 // Returns the number of an option, or the other one where none is given.
 pub(crate) fn given_or_other_number(matches: &ArgMatches<'_>, id: &str, other: u32) -> u32
-    requires { HasNumberOf32BitsIfGiven (found_of matches.now) id.now }
     ensures { result ≡ number_or other id.now (rows_of (found_of matches.now)) }
 {
     given_number(matches, id).unwrap_or(other)
+}
+
+// Returns the text of an option that takes a number, where it names none.
+fn bad_number<'a>(matches: &ArgMatches<'a>, id: &str) -> Option<&'a str>
+    ensures { option_map (λ s. s.now) result ≡ bad_number_of_option id.now (rows_of (found_of matches.now)) }
+{
+    match argument_text(matches, id) {
+        Some(text) => match number_in_text(text) {
+            Some(_) => None,
+            None => Some(text),
+        },
+        None => None,
+    }
+}
+
+// Returns the first option whose text names no number, and the text.
+pub(crate) fn first_bad_number<'a>(matches: &ArgMatches<'a>) -> Option<(&'static str, &'a str)>
+    ensures { option_map (λ bad. bad.1.now) result ≡ first_bad_number number_options (rows_of (found_of matches.now)) }
+{
+    if let Some(text) = bad_number(matches, "block_size") {
+        return Some(("block", text));
+    }
+    if let Some(text) = bad_number(matches, "page") {
+        return Some(("page", text));
+    }
+    if let Some(text) = bad_number(matches, "size") {
+        return Some(("size", text));
+    }
+    if let Some(text) = bad_number(matches, "name_max") {
+        return Some(("name-max", text));
+    }
+    if let Some(text) = bad_number(matches, "file_max") {
+        return Some(("file-max", text));
+    }
+    if let Some(text) = bad_number(matches, "attr_max") {
+        return Some(("attr-max", text));
+    }
+    if let Some(text) = bad_number(matches, "inline_max") {
+        return Some(("inline-max", text));
+    }
+    None
 }

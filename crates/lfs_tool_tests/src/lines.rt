@@ -169,7 +169,7 @@ const LINES: [(&[&str], Line<'static>); 9] = [
 ];
 
 // The same with limits, boards and versions.
-const PROFILES: [(&[&str], Line<'static>); 7] = [
+const PROFILES: [(&[&str], Line<'static>); 8] = [
     (
         &["mklittlefs", "-l", "--also-2.1", "i"],
         Line {
@@ -237,6 +237,41 @@ const PROFILES: [(&[&str], Line<'static>); 7] = [
             explain: false,
             profile: Profile {
                 inline_max: 512,
+                ..DEFAULT
+            },
+            image: "i",
+        },
+    ),
+    // numbers in each form
+    (
+        &[
+            "mklittlefs",
+            "-cd",
+            "-b=4K",
+            "-p",
+            "0X80",
+            "-s",
+            "0x160000",
+            "--name-max=0x1F",
+            "--file-max",
+            "1.5M",
+            "--attr-max=0.5k",
+            "--inline-max",
+            "+256",
+            "i",
+        ],
+        Line {
+            mode: Mode::Create("d"),
+            block_size: 4096,
+            page: 128,
+            size: 1_441_792,
+            order: NameOrder::LongerFirst,
+            explain: false,
+            profile: Profile {
+                name_max: 31,
+                file_max: 1_572_864,
+                attr_max: 512,
+                inline_max: 256,
                 ..DEFAULT
             },
             image: "i",
@@ -364,6 +399,30 @@ const ATTR_MAX: &str = "error: --attr-max is from 1 to 1022\n";
 
 const INLINE_MAX: &str = "error: --inline-max is from 1 to 1022, and at most an eighth of -b\n";
 
+const BAD_PAGE: &str = "\
+error: invalid value '0x' for '--page <N>': a number is 4096, 0x1000, 4k or 1.5M, and at most 4294967295
+
+Usage: mklittlefs (-c DIR | -u DIR | -l | --check) [-b N] [-p N] [-s N] [--order ORDER] [--name-max N] [--file-max N] [--attr-max N] [--inline-max N] [--board NAME] [--also-2.1] [--explain] IMAGE
+
+For more information, try '--help'.
+";
+
+const BAD_PAGE_IN_UNITS: &str = "\
+error: invalid value '1.3k' for '--page <N>': a number is 4096, 0x1000, 4k or 1.5M, and at most 4294967295
+
+Usage: mklittlefs (-c DIR | -u DIR | -l | --check) [-b N] [-p N] [-s N] [--order ORDER] [--name-max N] [--file-max N] [--attr-max N] [--inline-max N] [--board NAME] [--also-2.1] [--explain] IMAGE
+
+For more information, try '--help'.
+";
+
+const BAD_NAME_MAX: &str = "\
+error: invalid value '0x100000000' for '--name-max <N>': a number is 4096, 0x1000, 4k or 1.5M, and at most 4294967295
+
+Usage: mklittlefs (-c DIR | -u DIR | -l | --check) [-b N] [-p N] [-s N] [--order ORDER] [--name-max N] [--file-max N] [--attr-max N] [--inline-max N] [--board NAME] [--also-2.1] [--explain] IMAGE
+
+For more information, try '--help'.
+";
+
 const VERSION: &str =
     "mklittlefs 1.0.0 (littlefs on-disk version 2.0, rattle-kit-13f logic dac8208d650f15bf)\n";
 
@@ -402,11 +461,16 @@ Examples:
   mklittlefs -c settings -b 1024 -p 128 -s 262144 disk.img
   mklittlefs -l -b 1024 -p 128 disk.img  one of 256 KiB with other blocks
   mklittlefs -c settings --order shorter-first disk.img
-  mklittlefs -c settings --board esp32 -s 1441792 disk.img
+  mklittlefs -c settings --board esp32 -s 0x160000 disk.img
   mklittlefs -l --also-2.1 disk.img      lists one that firmware has changed
   mklittlefs --explain -l disk.img       says why where it isn't listed
   mklittlefs -c settings - > disk.img    writes the image to standard output
   mklittlefs -l - < disk.img             reads the image from standard input
+
+Numbers:
+  N is decimal, as 4096, or hexadecimal, as 0x1000. It may have a unit, as 4k
+  and 1.5M do: k stands for 1024 bytes, and M for 1048576. Letters may be large
+  or small. What makes no whole number of bytes, as 1.3k, is refused.
 
 Sizes:
   -b  from 1024 to 65536, a multiple of -p
@@ -455,7 +519,7 @@ Progress:
 
 // Words that are no line: the status, what goes to `out`, and what to `err`, if that isn't the parser's
 // own text.
-const REFUSED: [(&[&str], u8, &str, Option<&str>); 32] = [
+const REFUSED: [(&[&str], u8, &str, Option<&str>); 37] = [
     // not exactly one mode
     (&["mklittlefs", "i"], 2, "", Some(MODES)),
     (&["mklittlefs", "-p", "256", "i", "-b0"], 2, "", Some(MODES)),
@@ -561,8 +625,29 @@ const REFUSED: [(&[&str], u8, &str, Option<&str>); 32] = [
     (&["mklittlefs", "-l", "i", "j"], 2, "", None),
     (&["mklittlefs", "-l", "i", "-c"], 2, "", None),
     (&["mklittlefs", "-l", "-b", "4294967296", "i"], 2, "", None),
-    (&["mklittlefs", "-l", "-p", "0x100", "i"], 2, "", None),
     (&["mklittlefs", "-x"], 2, "", None),
+    // numbers that are none, or too large
+    (
+        &["mklittlefs", "-l", "-p", "0x", "i"],
+        2,
+        "",
+        Some(BAD_PAGE),
+    ),
+    (
+        &["mklittlefs", "-cd", "-p=1.3k", "-s4k4", "i"],
+        2,
+        "",
+        Some(BAD_PAGE_IN_UNITS),
+    ),
+    (
+        &["mklittlefs", "--name-max", "0x100000000", "i"],
+        2,
+        "",
+        Some(BAD_NAME_MAX),
+    ),
+    (&["mklittlefs", "-l", "-s", "4096M", "i"], 2, "", None),
+    (&["mklittlefs", "-l", "-b", "", "i"], 2, "", None),
+    (&["mklittlefs", "-l", "-b", "1.5", "i"], 2, "", None),
     // a request for help
     (&["mklittlefs", "--help"], 0, HELP, Some("")),
     (&["mklittlefs", "-l", "-h"], 0, HELP, Some("")),

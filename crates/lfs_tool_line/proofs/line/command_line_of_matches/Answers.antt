@@ -9,7 +9,7 @@ use Rattle.lfs_tool_line.proofs.Getters.{text_there}
 use Rattle.lfs_tool_line.proofs.line.command_line_of_matches.Goals as goal
 
 pub unwrap-requires : goal.unwrap-requires
-unwrap-requires c = text_there _ c.argument_text.result (λ s. s.now) (found_of c.args.matches.now) (codes "image") c.argument_text.ensures c.requires.values.image
+unwrap-requires c = text_there _ c.argument_text.result (λ s. s.now) (found_of c.args.matches.now) (codes "image") c.argument_text.ensures c.requires.image
 
 pub returns-in-Some-clause-err : goal.returns-in-Some-clause-err
 returns-in-Some-clause-err c =

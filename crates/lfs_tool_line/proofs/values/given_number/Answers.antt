@@ -1,8 +1,0 @@
-use Rattle.std.specs.Str.Parse.{ExplainsUnsignedError, HasUnsignedDigitsIfOk, ParsesUnsigned}
-use Rattle.clap.specs.Words.{found_of}
-use Rattle.lfs_tool_line.proofs.Getters.{number_read}
-use Rattle.lfs_tool_line.proofs.values.given_number.Goals as goal
-
-pub returns : goal.returns
-returns c = number_read _ (λ bs r. ParsesUnsigned 32 10 bs r × ExplainsUnsignedError 10 bs r × HasUnsignedDigitsIfOk bs r)
-    (found_of c.args.matches.now) c.args.id.now c.get_one.result c.requires c.get_one.ensures.none c.get_one.ensures.value (λ u x g. g.0)

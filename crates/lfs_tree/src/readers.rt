@@ -74,7 +74,8 @@ impl<D: BlockDevice> Tree<D> {
     pub fn size_of_contents(&self, contents: &FileContents) -> u32
         requires works { self.now.failed ≡ false }
         requires there { (path : ModelPath) × IsInlineBytesOrSkipListOfFileAtPath self.now.pairs path contents.now }
-        ensures { (path : ModelPath) → IsInlineBytesOrSkipListOfFileAtPath self.now.pairs path contents.now → result ≡ length (file_bytes_of_node (tree_view self.now path)) }
+        ensures size { (path : ModelPath) → IsInlineBytesOrSkipListOfFileAtPath self.now.pairs path contents.now → result ≡ length (file_bytes_of_node (tree_view self.now path)) }
+        ensures list { (head size : ℕ) → struct_of_file_contents contents.now ≡ Ctz head size → result ≡ size }
     {
         let _device = self.thread.device();
         match contents {

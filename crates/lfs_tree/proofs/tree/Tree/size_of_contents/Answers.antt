@@ -13,8 +13,8 @@ overflow_cast-result g c =
     let few : length c.in-Inline.bytes.items < 0x3ff = subst AreInlineContentsShorterThanTagLength c.in-Inline.is c.requires.there.1.fits in
     omega (arith, few, c.len.ensures, c.in-Inline.bytes.ok.0)
 
-pub returns-in-Inline : goal.returns-in-Inline
-returns-in-Inline g c path there =
+pub returns-in-Inline-clause-size : goal.returns-in-Inline-clause-size
+returns-in-Inline-clause-size g c path there =
     let r = rooted_held c.self.inside.thread c.self.inside.root c.self.inside.is_writable c.args.self.now c.self.invariant c.self.view_is c.requires.works in
     let t = c.self.inside.thread.kept in
     let device = c.device-device.result.now in
@@ -25,8 +25,8 @@ returns-in-Inline g c path there =
     (subst (λ (k : Disk). (1024 ≤ k.block_size) × HasBlocksOfCountAndSize k.block_size (g.D.BlockDevice.geometry device).block_count k.blocks) c.device-device.ensures.disk ((g.D.BlockDevice.geometry device).valid.no_smaller, g.met.D.BlockDevice.shape device))
     (subst (λ (s : TreeState). IsInlineBytesOrSkipListOfFileAtPath s.pairs path c.args.contents.now) (sym c.self.view_is) there))
 
-pub returns-in-List : goal.returns-in-List
-returns-in-List g c path there =
+pub returns-in-List-clause-size : goal.returns-in-List-clause-size
+returns-in-List-clause-size g c path there =
     let r = rooted_held c.self.inside.thread c.self.inside.root c.self.inside.is_writable c.args.self.now c.self.invariant c.self.view_is c.requires.works in
     let t = c.self.inside.thread.kept in
     let device = c.device-device.result.now in

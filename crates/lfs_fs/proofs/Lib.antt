@@ -24,6 +24,7 @@ pub mod Running
 pub mod Surviving
 pub mod Remounting
 pub mod ReaderReads
+pub mod ReaderCalls
 pub mod FreshBegun
 pub mod Staying
 pub mod FilesStay

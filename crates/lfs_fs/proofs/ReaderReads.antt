@@ -1,5 +1,5 @@
 -- What an open reader gives.
-use Rattle.std.proofs.Common.{ℕ, ◌≡◌, ◌+◌, ◌-◌, min, true, false, List, length, take, drop, Option, Some, None, is_none, Result, Ok, Err, refl, sym, ap, ap₂, subst, ◌∙◌}
+use Rattle.std.proofs.Common.{ℕ, ◌≡◌, ◌≤◌, ◌+◌, ◌-◌, ◌++◌, min, true, false, List, length, take, drop, Option, Some, None, is_none, Result, Ok, Err, refl, sym, ap, ap₂, subst, ◌∙◌, arith}
 use Rattle.std.specs.Option.{option_map}
 use Rattle.lfs_model.specs.TreeEdits.{file_bytes_of_node, is_file}
 use Rattle.lfs_model.specs.Operations as ops
@@ -7,13 +7,14 @@ use Rattle.lfs_model.specs.Operations.{Operation, Reply}
 use Rattle.lfs_model.specs.Session.{OpenFilesByNumber, OpenFile, FileReader, Reading, Writing, open_file_with_number, open_files_with_file_at_number, reader_of_open_file, refuse_if}
 use Rattle.lfs_model.specs.Effects.{open_file_at_position, read_effect, file_size_of_node}
 use Rattle.lfs_model.specs.Tree.{Node, FileNode, DirectoryNode}
+use Rattle.std.proofs.lemmas.List.{length-drop, length-take, take_all, take_at, take_min}
 use Rattle.std.proofs.lemmas.Option.{same_Some}
-use Rattle.lfs_ctz.specs.Known.{ReadsKnownList}
+use Rattle.lfs_ctz.specs.Known.{ReadsFewPointers, ReadsKnownList}
 use Rattle.lfs_ctz.specs.declared.known.KnownBlocks.{KnownBlocks}
 use Rattle.lfs_lookup.specs.FileContents.{IsInlineBytesOrSkipListOfFileAtPath, struct_of_file_contents}
-use Rattle.lfs_model.specs.History.{read_count_of_history}
+use Rattle.lfs_model.specs.History.{DeviceCallEvent, read_count_of_history}
 use Rattle.lfs_model.specs.Keeping.{struct_of_path}
-use Rattle.lfs_model.specs.SkipLists.{IsPlaceOfByteInList}
+use Rattle.lfs_model.specs.SkipLists.{IsPlaceOfByteInList, list_block_count_for_size}
 use Rattle.lfs_model.specs.Slots.{Ctz, Inline, Struct}
 use Rattle.lfs_fs.specs.FileView.{RuntimeOpenFilesByNumber, open_file_at, open_files_view, reader_of_open_file_or_none, reader_view}
 use Rattle.lfs_fs.specs.ReaderReads.{TakesFewDeviceReads}
@@ -58,6 +59,19 @@ read_answers old now fd count r tree files bytes position same ready works asked
     moved = ap (λ n. open_files_with_file_at_number old.files fd (Some (Reading (record r { position = n })))) (ap (λ b. r.position + length b) (sym bytes_are) ∙ sym at)
         ∙ ap (λ f. open_files_with_file_at_number old.files fd (option_map (open_file_at_position position) f)) (sym (reading_is (open_file_with_number old.files fd) r is)) ∙ sym files_are
 
+-- ---- into a buffer
+
+-- as many bytes come as the buffer has, of a buffer of as many as the file has of those that were asked for
+all_come : (buf file : List ℕ) (n room count position : ℕ) → take n buf ≡ take room (drop position file) → n ≤ room → length buf ≡ room → room ≡ min count (length file - position) → n ≡ room
+all_come buf file n room count position read fits long is = omega (arith, ap length read, length-take n buf, length-take room (drop position file), length-drop position file)
+
+-- they are the whole buffer
+pub whole_buffer : (buf more file : List ℕ) (n room count position len : ℕ) → take n buf ≡ take room (drop position file) → n ≤ room → length buf ≡ room → room ≡ min count (length file - position) → len ≡ room → take len (buf ++ more) ≡ take count (drop position file)
+whole_buffer buf more file n room count position len read fits long is same =
+    let all : n ≡ room = all_come buf file n room count position read fits long is in
+    take_at buf more len (omega (arith, long, same)) ∙ sym (take_all n buf (omega (arith, long, all))) ∙ read
+    ∙ ap (λ k. take k (drop position file)) (is ∙ ap (min count) (sym (length-drop position file))) ∙ take_min count (drop position file)
+
 -- ---- where it ends
 
 file_there : (n : Option Node) (size : ℕ) → file_size_of_node n ≡ Some size → (is_file n ≡ true) × (length (file_bytes_of_node n) ≡ size)
@@ -81,6 +95,13 @@ read_fails old now op reply e tree r same works broken error is =
     (error_answers old op e (session_view_of_tree_and_files_view tree old.files) (ops.Refused (refusal_of_error e)) error.errors (asking_fails e old op tree old.files (sym works) broken error)))
 
 -- ---- how often it reads
+
+-- as many bytes are read as the list has of those that were asked for
+pub known_read : (block_size size position count room : ℕ) (known later : KnownBlocks) (old new : List DeviceCallEvent) → room ≡ min count (size - position) → ReadsKnownList block_size size position room known later old new → ReadsKnownList block_size size position count known later old new
+known_read block_size size position count room known later old new is h first last off end at there =
+    let fits : min room (size - position) ≡ min count (size - position) = omega arith in
+    subst (λ k. ReadsFewPointers known (list_block_count_for_size block_size size) first last k later old new) fits
+    (h first last off end at (subst (λ k. IsPlaceOfByteInList block_size (position + k - 1) last end) (sym fits) there))
 
 -- no oftener than its known blocks say
 pub few_reads : (t new : TreeState) (fs : RuntimeOpenFilesByNumber) (files : OpenFilesByNumber) (fd count : ℕ) (r : Reader) (known later : KnownBlocks) → Some r ≡ reader_of_open_file_or_none (open_file_at fs fd) → IsInlineBytesOrSkipListOfFileAtPath t.pairs r.path r.contents

@@ -1,5 +1,5 @@
 -- The blocks that open readers know.
-use Rattle.std.proofs.Common.{ℕ, zero, suc, ◌≡◌, ◌<◌, ◌≤◌, ◌∙◌, true, false, List, [], ◌∷◌, length, map, replicate, set, slice_index, Option, Some, None, is_some, refl, sym, ap, subst, arith}
+use Rattle.std.proofs.Common.{ℕ, zero, suc, ◌≡◌, ◌≤◌, ◌∙◌, true, false, List, [], ◌∷◌, length, map, replicate, set, slice_index, Option, Some, None, is_some, refl, sym, ap, subst, arith}
 use Rattle.std.specs.List.{AllByRecursion, list_any}
 use Rattle.std.specs.Option.{option_map}
 use Rattle.std.proofs.lemmas.List.{get_or-replicate}
@@ -17,10 +17,9 @@ use Rattle.lfs_model.specs.TreeEdits.{is_file, same_path}
 use Rattle.lfs_lookup.specs.FileContents.{struct_of_file_contents}
 use Rattle.lfs_lookup.specs.declared.file_contents.FileContents.{FileContents}
 use Rattle.lfs_tree.specs.KeptFiles.{KeepsStructsOfOtherFiles, skip_list_blocks_at_path, skip_list_blocks_of_slot}
-use Rattle.lfs_tree.specs.TreeState.{IsOperationAppliedToTree, TreeState, kept_thread_of_tree_state, tree_view}
+use Rattle.lfs_tree.specs.TreeState.{IsOperationAppliedToTree, TreeState, WasTreeOnlyRead, kept_thread_of_tree_state, tree_view}
 use Rattle.lfs_fs.specs.FileView.{RuntimeOpenFilesByNumber, open_file_at, open_file_with_known, open_file_with_position, open_file_view, open_files_view, open_files_with_entry_at_number, reader_of_open_file_or_none, paths_of_writers, readers_among, writers_among}
 use Rattle.lfs_fs.specs.SessionView.{HasKnownListBlocks, IsReaderOfCurrentContentsWithoutWriter, IsSessionReadyForCalls, IsWriterOverWritableImage}
-use Rattle.lfs_fs.specs.declared.files.OpenFile.{OpenFile}
 use Rattle.lfs_fs.specs.declared.files.OpenFile.TheVariants as file
 use Rattle.lfs_fs.specs.declared.files.Reader.{Reader}
 use Rattle.lfs_fs.specs.declared.files.Writer.{Writer}
@@ -92,6 +91,10 @@ module _ (old new : TreeState) where
       (still_known r read.0.contents.struct (others r.path file apart) (lists r.path file apart) h.0, known_stored path rs others lists read.1 h.1)
 
 -- ---- a reader that knows more
+
+-- the reader knows blocks of its list on the tree that was read
+pub known_later : (old new : TreeState) (r : Reader) (known : KnownBlocks) → WasTreeOnlyRead old new → AreKnownListBlocks (skip_list_blocks_of_struct old.disk (struct_of_file_contents r.contents)) known → AreKnownListBlocks (skip_list_blocks_of_struct new.disk (struct_of_file_contents r.contents)) known
+known_later old new r known asked h = subst (λ (t : TreeState). AreKnownListBlocks (skip_list_blocks_of_struct t.disk (struct_of_file_contents r.contents)) known) (sym asked.same) h
 
 module _ (known : KnownBlocks) where
   pub writers_noted : (fs : RuntimeOpenFilesByNumber) (fd : ℕ) → writers_among (set fs fd (option_map (open_file_with_known known) (open_file_at fs fd))) ≡ writers_among fs

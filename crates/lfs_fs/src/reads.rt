@@ -16,8 +16,9 @@ use lfs_device::{BlockDevice, Error};
 use lfs_tree::Tree;
 use std::alloc::Global;
 
-// Returns the bytes of a reader's file from its position on, at most `count`. Nothing is looked up.
-// The known blocks of a list are those that the reader knows, and later those on the way.
+// Returns the bytes of a reader's file from its position on, at most `count`. Nothing is looked up,
+// and memory is taken for these bytes alone. The known blocks of a list are those that the reader
+// knows, and later those on the way.
 pub(crate) fn bytes_for_reader<D: BlockDevice>(
     alloc: Global,
     tree: &mut Tree<D>,
@@ -35,11 +36,13 @@ pub(crate) fn bytes_for_reader<D: BlockDevice>(
     ensures none { (own : List ℕ) → struct_of_file_contents reader.now.contents ≡ Inline own → tree.new.history ≡ tree.old.history }
     ensures few { (head size : ℕ) → struct_of_file_contents reader.now.contents ≡ Ctz head size → OnOk result (ReadsKnownList tree.old.disk.block_size size reader.now.position count known.old known.new tree.old.history tree.new.history) }
 {
-    tree.read(
-        alloc,
-        &reader.contents,
-        known,
-        reader.position,
-        count as usize,
-    )
+    let left = tree
+        .size_of_contents(&reader.contents)
+        .saturating_sub(reader.position);
+    let Ok(mut bytes) = Vec::from_elem(alloc, 0u8, count.min(left) as usize) else {
+        tree.fail();
+        return Err(Error::NoMemory);
+    };
+    tree.read(&reader.contents, known, reader.position, &mut bytes)?;
+    Ok(bytes)
 }

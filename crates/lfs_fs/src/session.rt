@@ -1,7 +1,7 @@
 ghost use Rattle.lfs_model.specs.Operations as ops;
 ghost use Rattle.lfs_model.specs.Operations.{Operation, Reply as Answer};
 ghost use Rattle.lfs_fs.specs.Replies.{reply_from_result};
-ghost use Rattle.std.specs.Prelude.{◌≡◌, ◌⊎◌, ◌++◌, ◌+◌, ◌≤◌, None, Some, false, true, List, [], map, All, IfOk, IfErr, OnOk};
+ghost use Rattle.std.specs.Prelude.{◌≡◌, ◌⊎◌, ◌++◌, ◌+◌, ◌≤◌, None, Some, false, true, List, [], drop, length, map, take, All, IfOk, IfErr, MatchResult, OnOk};
 ghost use Rattle.lfs_model.specs.Disk.{SameGeometry, disk_in_order};
 ghost use Rattle.lfs_model.specs.Thread.{Pair, blocks_of_pair_address};
 ghost use Rattle.lfs_model.specs.Fresh.{empty_tree};
@@ -20,6 +20,7 @@ ghost use Rattle.lfs_thread.specs.Kept.{disk_of_device, kept_thread_in_order};
 ghost use Rattle.lfs_model.specs.Thread.{anchor_pair_address};
 ghost use Rattle.lfs_model.specs.View.{IsAcceptedImage};
 ghost use Rattle.lfs_lookup.specs.Finds.{list_item_view, stat_view};
+ghost use Rattle.lfs_lookup.specs.Refusals.{is_refusal};
 ghost use Rattle.lfs_tag.specs.FieldsView.{superblock_view};
 ghost use Rattle.lfs_tree.specs.Formats.{FailedFormatSparesOtherBlocks, IsFreshlyFormatted, WritesFirstTwoBlocks};
 ghost use Rattle.lfs_tree.specs.TreeState.{kept_thread_of_tree_state};
@@ -477,6 +478,36 @@ impl<D: BlockDevice> Session<D> {
         self.files.note_known(fd, known);
         self.files.seek(fd, position);
         Ok(bytes)
+    }
+
+    /// Reads the bytes of an open file from its position on into a buffer, as many as the buffer has
+    /// room for, or fewer where the file ends. Returns how many these are; the rest of the buffer
+    /// stays. The position advances by as many. The call is that of [`read`](Session::read), but
+    /// takes no memory. A refusal leaves the buffer as it was; after `Io` it isn't said what it
+    /// holds.
+    ///
+    /// # Errors
+    ///
+    /// `BadFile` where no file is open for reading under the number.
+    pub fn read_into(&mut self, fd: Fd, buf: &mut [u8]) -> Result<usize, Error>
+        ensures call { IsSessionCallWithResult self.old (ops.Read fd (length buf.old)) (reply_from_result (λ n. ops.Bytes (take n buf.new)) result) self.new }
+        ensures stays { MatchResult result (λ n. (n ≤ length buf.old) × (drop n buf.new ≡ drop n buf.old)) (λ e. is_refusal e ≡ true → buf.new ≡ buf.old) }
+        ensures few { OnOk result (TakesFewDeviceReads self.old fd (length buf.old) self.new) }
+    {
+        if self.tree.has_failed() {
+            return Err(Error::Failed);
+        }
+        let Some(reader) = self.files.reader(fd) else {
+            return Err(Error::BadFile);
+        };
+        let mut known = reader.known;
+        let count = self
+            .tree
+            .read(&reader.contents, &mut known, reader.position, buf)?;
+        let position = reader.position + count as u32;
+        self.files.note_known(fd, known);
+        self.files.seek(fd, position);
+        Ok(count)
     }
 
     /// Sets the position of an open file, in bytes from its beginning. The position may be after

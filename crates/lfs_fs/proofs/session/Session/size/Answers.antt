@@ -29,7 +29,7 @@ returns-in-Some-reader g c =
     let fs = c.self.inside.files in
     let r = one_of_all (IsReaderOfCurrentContentsWithoutWriter t.pairs (paths_of_writers fs)) fs c.args.fd c.in-Some-reader.reader.now c.in-Some-reader.ensures (c.self.invariant.ready (sym c.if-has_failed.ensures)).read in
     answers_some size_of_open_file t fs _ c.args.fd c.size_of_contents.result (file.Reading c.in-Some-reader.reader.now) c.self.view_is c.if-has_failed.ensures (a_reader_file (open_file_at fs c.args.fd) c.in-Some-reader.reader.now c.in-Some-reader.ensures)
-    (sym (c.size_of_contents.ensures c.in-Some-reader.reader.now.path r.contents))
+    (sym (c.size_of_contents.ensures.size c.in-Some-reader.reader.now.path r.contents))
 
 pub returns-in-None : goal.returns-in-None
 returns-in-None g c = answers_none size_of_open_file c.self.inside.tree c.self.inside.files _ c.args.fd c.self.view_is c.if-has_failed.ensures (no_file (open_file_at c.self.inside.files c.args.fd) c.in_default.ensures c.in-None.ensures)

@@ -1,5 +1,5 @@
 -- What a call does to a session that C holds.
-use Rattle.std.specs.Prelude.{ℕ, ℤ, ◌≡◌, ◌==◌, not, pos, ◌-ℤ◌, List, length, drop, take, map, Option, Vec, None, Some, Result, Ok, Err}
+use Rattle.std.specs.Prelude.{ℕ, ℤ, ◌≡◌, ◌≤◌, ◌==◌, not, true, pos, ◌-ℤ◌, List, length, drop, take, map, MatchResult, Option, Vec, None, Some, Result, Ok, Err}
 use Rattle.std.specs.Int.RustNames.{bit_and}
 use Rattle.lfs_device.specs.declared.error.Error.{Error}
 use Rattle.lfs_device.specs.declared.error.Error.TheVariants.{NoMemory}
@@ -8,6 +8,7 @@ use Rattle.lfs_model.specs.Disk.{Disk, IsImageOfWholeBlocks, disk_of_image}
 use Rattle.lfs_model.specs.Operations as ops
 use Rattle.lfs_model.specs.Operations.{FlagsOfOpen, ListedEntry, Operation, Reply}
 use Rattle.lfs_lookup.specs.Finds.{list_item_view, stat_view}
+use Rattle.lfs_lookup.specs.Refusals.{is_refusal}
 use Rattle.lfs_lookup.specs.declared.kinds.ListItem.{ListItem}
 use Rattle.lfs_lookup.specs.declared.kinds.Stat.{Stat}
 use Rattle.lfs_fs.specs.CallEffects.{IsSessionCallWithResult}
@@ -65,6 +66,10 @@ buffer_after_bytes (Err e) buffer = buffer
 -- a session's call of that operation, whose bytes are put into a buffer
 abbrev pub IsBytesCall : Operation → ℤ → List ℕ → List ℕ → SessionView → SessionView → Type 0
 IsBytesCall op code buffer filled old new = (r : Result (Vec ℕ Global) Error) × ((code ≡ code_of_result (λ (v : Vec ℕ Global). length v.items) r) × ((filled ≡ buffer_after_bytes r buffer) × IsSessionCallWithResult old op (reply_from_result (λ (v : Vec ℕ Global). ops.Bytes v.items) r) new))
+
+-- A session's read of an open file into a buffer, whose rest stays. All of it stays where the read is refused.
+abbrev pub IsReadCall : ℕ → ℤ → List ℕ → List ℕ → SessionView → SessionView → Type 0
+IsReadCall file code buffer filled old new = (r : Result ℕ Error) × ((code ≡ code_of_result (λ n. n) r) × (MatchResult r (λ n. (n ≤ length buffer) × (drop n filled ≡ drop n buffer)) (λ e. is_refusal e ≡ true → filled ≡ buffer) × IsSessionCallWithResult old (ops.Read file (length buffer)) (reply_from_result (λ n. ops.Bytes (take n filled)) r) new))
 
 abbrev pub entries_of_items : Vec ListItem Global → List ListedEntry
 entries_of_items items = map list_item_view items.items

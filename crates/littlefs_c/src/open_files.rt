@@ -1,12 +1,10 @@
 // The calls about an open file of a session.
 
-ghost use Rattle.std.specs.Prelude.{◌-◌, ◌^◌, length, min};
 ghost use Rattle.lfs_model.specs.Operations as ops;
 ghost use Rattle.lfs_fs.specs.FileAnswers.{AnswersOfOpenFile, position_of_open_file, size_of_open_file};
-ghost use Rattle.littlefs_c.specs.Sessions.{CallsSession, IsBytesCall, IsCountCall, IsFileAnswer, IsUnitCall, open_flags_of_number};
+ghost use Rattle.littlefs_c.specs.Sessions.{CallsSession, IsCountCall, IsFileAnswer, IsReadCall, IsUnitCall, open_flags_of_number};
 
-use crate::buffers::fill_with_bytes;
-use crate::codes::{return_code_of_count, return_code_of_unit};
+use crate::codes::{return_code_of_count, return_code_of_needed_buffer_room, return_code_of_unit};
 use crate::handle::{CLOSED, Handle, put_session, take_session};
 use bitflags::Flags;
 use lfs_fs::OpenFlags;
@@ -31,13 +29,13 @@ pub extern "C" fn lfs_c_open(alloc: Global, session: &mut Handle, path: &[u8], f
 }
 
 /// Reads an open file from its position on into the buffer, and returns how many bytes it read.
-/// These are as many as the buffer has room for, or fewer where the file ends. The position is after
-/// them then.
+/// These are as many as the buffer has room for, or fewer where the file ends; the rest of the
+/// buffer stays. The position is after them then.
 ///
 /// # Errors
 ///
-/// 77 where there is no session, and the refusals of a session's `read` (docs/OPERATIONS.md). The
-/// buffer is as it was after an error.
+/// 77 where there is no session, and the refusals of a session's `read_into` (docs/OPERATIONS.md).
+/// The buffer is as it was after a refusal.
 #[unsafe(no_mangle)]
 pub extern "C" fn lfs_c_file_read(
     alloc: Global,
@@ -45,15 +43,14 @@ pub extern "C" fn lfs_c_file_read(
     file: u32,
     buffer: &mut [u8],
 ) -> i64
-    ensures { CallsSession (IsBytesCall (ops.Read file (min (length buffer.old) (2 ^ 32 - 1))) result buffer.old buffer.new) result session.old.slot.session session.new.slot.session }
+    ensures { CallsSession (IsReadCall file result buffer.old buffer.new) result session.old.slot.session session.new.slot.session }
 {
     let Some(mut inner) = take_session(alloc, session) else {
         return CLOSED;
     };
-    let count = buffer.len().min(4_294_967_295) as u32;
-    let answer = inner.read(alloc, file, count);
+    let answer = inner.read_into(file, buffer);
     put_session(session, inner);
-    fill_with_bytes(answer, buffer)
+    return_code_of_needed_buffer_room(answer)
 }
 
 /// Writes bytes at the position of a file that is open for writing, or at its end where it appends.

@@ -2,6 +2,7 @@
 
 use crate::images::{Entries, block_with_one_commit};
 use lfs_device::{CountedCalls, Erased, Error, FaultDevice, Geometry, RamDevice};
+use lfs_model::NameOrder;
 use lfs_tag::kinds::{FILE_NAME, INLINE_STRUCT};
 use lfs_tree::format;
 use std::alloc::Global;
@@ -28,7 +29,7 @@ fn format_and_return_device(
     alloc: Global,
     device: FaultDevice<RamDevice>,
 ) -> (FaultDevice<RamDevice>, Option<Error>) {
-    match format(alloc, device) {
+    match format(alloc, device, NameOrder::LongerFirst) {
         Ok(thread) => (thread.into_device(), None),
         Err((device, error)) => (device, Some(error)),
     }

@@ -3,10 +3,10 @@ use Rattle.std.specs.Prelude.{◌≡◌, ◌-◌, ◌^◌, List, Option, Some, N
 use Rattle.lfs_device.specs.FaultDevice.{history_of_fault_device, inner_of_fault_device}
 use Rattle.lfs_device.specs.RamDevice.{ram_blocks, geometry_of_ram_device}
 use Rattle.lfs_device.specs.Shown.{disk_of_geometry_and_blocks}
-use Rattle.lfs_model.specs.Disk.{disk_in_order}
 use Rattle.lfs_device.specs.declared.ram.RamDevice.{RamDevice}
 use Rattle.lfs_fs.specs.SessionView.{SessionView}
 use Rattle.lfs_fs.specs.declared.run.Reply.TheVariants.{Done}
+use Rattle.lfs_model.specs.Disk.{disk_in_order}
 use Rattle.lfs_model.specs.History.{DeviceCallEvent, erase_count_of_history, fault_count_of_history, program_count_of_history, read_count_of_history}
 use Rattle.lfs_script_lines.specs.declared.answer.Answer.{Answer}
 use Rattle.lfs_script_lines.specs.declared.answer.Answer.TheVariants as answer

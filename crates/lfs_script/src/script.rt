@@ -11,9 +11,8 @@ use crate::hand::{
 use crate::images::{blank_ram_device, ram_device_of_bytes, read_file, write_file};
 use crate::operation_calls::perform_script_operation;
 use lfs_device::{Erased, Error, PlannedFault, RamDevice};
-use lfs_model::NameOrder;
 use lfs_fs::{Reply, Session, format_ordered, mount};
-use lfs_model::Profile;
+use lfs_model::{NameOrder, Profile};
 use lfs_script_lines::{Answer, Command, ComparisonScope, Operation};
 use std::mem;
 use std::rt::Files;

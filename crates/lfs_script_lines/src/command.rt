@@ -1,9 +1,8 @@
 // The commands of lines.
 
 use lfs_device::{Erased, PlannedFault};
-use lfs_model::NameOrder;
 use lfs_fs::OpenFlags;
-use lfs_model::Profile;
+use lfs_model::{NameOrder, Profile};
 
 /// How much of two sessions is compared.
 #[derive(Clone, Copy)]

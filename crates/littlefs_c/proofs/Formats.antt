@@ -2,11 +2,11 @@
 use Rattle.std.proofs.Common.{ℕ, ◌≡◌, ◌⊎◌, [], ◌∷◌, ap, inl, inr, subst}
 use Rattle.lfs_device.specs.RamDevice.{geometry_of_ram_device, ram_blocks}
 use Rattle.lfs_device.specs.Shown.{disk_of_geometry_and_blocks, disk_with_profile}
-use Rattle.lfs_model.specs.Disk.{disk_in_order, Disk, SameGeometry}
 use Rattle.lfs_device.specs.declared.error.Error.{Error}
 use Rattle.lfs_device.specs.declared.error.Error.TheVariants.{Io, NoMemory}
 use Rattle.lfs_device.specs.declared.ram.RamDevice.{RamDevice}
 use Rattle.lfs_model.specs.Blocks.{AreBlocksEqualExceptThese}
+use Rattle.lfs_model.specs.Disk.{Disk, SameGeometry, disk_in_order}
 use Rattle.lfs_model.specs.Fresh.{IsFreshDisk, empty_tree}
 use Rattle.lfs_model.specs.State.{Healthy, session_after_mount}
 use Rattle.lfs_model.specs.declared.limits.Profile.{Profile}

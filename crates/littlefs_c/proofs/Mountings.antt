@@ -2,10 +2,10 @@
 use Rattle.std.proofs.Common.{ℕ, ◌≡◌, ◌⊎◌, List, ap, subst, sym, ◌∙◌}
 use Rattle.lfs_device.specs.RamDevice.{geometry_of_ram_device, ram_blocks}
 use Rattle.lfs_device.specs.Shown.{disk_of_geometry_and_blocks, disk_with_profile}
-use Rattle.lfs_model.specs.Disk.{disk_in_order, Disk}
 use Rattle.lfs_device.specs.declared.error.Error.{Error}
 use Rattle.lfs_device.specs.declared.error.Error.TheVariants.{Corrupt, Io, NoMemory}
 use Rattle.lfs_device.specs.declared.ram.RamDevice.{RamDevice}
+use Rattle.lfs_model.specs.Disk.{Disk, disk_in_order}
 use Rattle.lfs_model.specs.History.{DeviceCallEvent}
 use Rattle.lfs_model.specs.Profile.{profile_with_limits}
 use Rattle.lfs_model.specs.Thread.{Pair}

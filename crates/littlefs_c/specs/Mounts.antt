@@ -4,9 +4,9 @@ use Rattle.lfs_device.specs.declared.error.Error.{Error}
 use Rattle.lfs_device.specs.declared.error.Error.TheVariants.{Busy, Invalid, NoMemory}
 use Rattle.lfs_device.specs.RamDevice.{geometry_of_ram_device, history_of_ram_device, ram_blocks}
 use Rattle.lfs_device.specs.Shown.{disk_of_geometry_and_blocks}
-use Rattle.lfs_model.specs.Disk.{disk_in_order, Disk, SameGeometry}
 use Rattle.lfs_device.specs.declared.ram.RamDevice.{RamDevice}
 use Rattle.lfs_model.specs.Blocks.{AreBlocksEqualExceptThese, cut}
+use Rattle.lfs_model.specs.Disk.{Disk, SameGeometry, disk_in_order}
 use Rattle.lfs_model.specs.EntryTypes.{SuperblockFields}
 use Rattle.lfs_model.specs.Fresh.{IsFreshDisk, empty_tree}
 use Rattle.lfs_model.specs.Geometry.{IsValidGeometry}

@@ -18,8 +18,8 @@ use crate::reads::{
 };
 use bitflags::Flags;
 use lfs_device::Error;
-use lfs_model::NameOrder;
 use lfs_fs::{Op, OpenFlags, format_ordered};
+use lfs_model::NameOrder;
 use std::alloc::Global;
 
 // Returns the order of names that a number stands for: 0 for the longer names first, 1 for the

@@ -34,7 +34,7 @@ pub enum Fetched {
 // Minus the number of what is answered where a change isn't kept.
 const NOT_KEPT: i64 = -202;
 
-fn return_code_of_fetched(fetched: Fetched) -> i64
+fn fetched_code(fetched: Fetched) -> i64
     ensures { result ≡ code_of_fetched fetched }
 {
     match fetched {
@@ -44,7 +44,7 @@ fn return_code_of_fetched(fetched: Fetched) -> i64
     }
 }
 
-fn return_code_of_change_number(number: Option<u64>) -> i64
+fn change_number_code(number: Option<u64>) -> i64
     requires { IfSome number (λ n. n < 2 ^ 63) }
     ensures { result ≡ code_of_change_number number }
 {
@@ -134,7 +134,7 @@ pub extern "C" fn lfs_c_note_changes(alloc: Global, session: &mut Handle) -> i64
     };
     let answer = next_change_number(&inner);
     put_session(session, inner);
-    return_code_of_change_number(answer)
+    change_number_code(answer)
 }
 
 /// Shows the change of that number, puts its bytes into the buffer, if all of them fit, and returns
@@ -161,5 +161,5 @@ pub extern "C" fn lfs_c_fetch_change(
     };
     let answer = fetch_session_change(&inner, number, change, buffer);
     put_session(session, inner);
-    return_code_of_fetched(answer)
+    fetched_code(answer)
 }

@@ -55,7 +55,7 @@ fn mount_session(alloc: Global, config: &Config, image: &[u8]) -> Result<Session
 }
 
 // Mounts a session over a copy of an image, by a configuration and the limits of the image.
-fn mount_session_with_limits(
+fn mount_by_limits(
     alloc: Global,
     config: &Config,
     image: &[u8],
@@ -110,8 +110,8 @@ pub extern "C" fn lfs_c_mount(
     return_code_of_unit(mount_into_handle(alloc, session, config, image))
 }
 
-// Mounts a copy of an image by its own limits, where the handle has no session.
-fn mount_with_limits_into_handle(
+// Begins a session over a copy of an image by its own limits, where the handle has none.
+fn begin_by_limits(
     alloc: Global,
     session: &mut Handle,
     config: &Config,
@@ -123,7 +123,7 @@ fn mount_with_limits_into_handle(
         put_session(session, open);
         return Err(Error::Busy);
     }
-    let inner = mount_session_with_limits(alloc, config, image)?;
+    let inner = mount_by_limits(alloc, config, image)?;
     let b = box_session(alloc, inner)?;
     put_session(session, b);
     Ok(())
@@ -145,7 +145,7 @@ pub extern "C" fn lfs_c_mount_with_limits(
 ) -> i64
     ensures { IsCodeOfBeginning (λ s. IsMountedWithLimits config.now image.now (system_state_of_session_view s)) (PreventsMount config.now image.now) result session.old.slot.session session.new.slot.session }
 {
-    return_code_of_unit(mount_with_limits_into_handle(alloc, session, config, image))
+    return_code_of_unit(begin_by_limits(alloc, session, config, image))
 }
 
 // Makes a device in memory of so many blocks by a configuration, whose bytes are 255.

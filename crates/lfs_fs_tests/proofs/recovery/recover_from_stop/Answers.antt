@@ -2,8 +2,8 @@ use Rattle.std.proofs.Common.{rules, ◌≡◌, ◌∙◌, false, sym, ap, subst
 use Rattle.lfs_device.specs.FaultDevice.{can_tear_program}
 use Rattle.lfs_device.specs.RamDevice.{geometry_of_ram_device, ram_blocks}
 use Rattle.lfs_device.specs.Shown.{disk_of_geometry_and_blocks}
-use Rattle.lfs_model.specs.Disk.{disk_in_order}
 use Rattle.lfs_device.specs.declared.ram.RamDevice.{RamDevice}
+use Rattle.lfs_model.specs.Disk.{disk_in_order}
 use Rattle.lfs_model.specs.PowerLoss.{HasTreeBeforeOrAfterOperation}
 use Rattle.lfs_model.specs.Premises.{IsHistoryMeetingPowerLossPremises}
 use Rattle.lfs_fs_tests.proofs.recovery.recover_from_stop.Goals as goal

@@ -4,7 +4,7 @@ use Rattle.littlefs_c.specs.Calls.{IsErrorPreventingSessionOnImage, IsUncalledDe
 use Rattle.littlefs_c.specs.Configs.{profile_of_config}
 use Rattle.littlefs_c.proofs.Images.{none_below}
 use Rattle.littlefs_c.proofs.Mountings.{mounted_with_limits, prevented_by}
-use Rattle.littlefs_c.proofs.starts.mount_session_with_limits.Goals as goal
+use Rattle.littlefs_c.proofs.starts.mount_by_limits.Goals as goal
 
 pub returns-in-Ok-clause-ok : goal.returns-in-Ok-clause-ok
 returns-in-Ok-clause-ok c =

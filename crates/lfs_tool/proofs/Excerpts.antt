@@ -60,7 +60,7 @@ AreListedAlike = (disk excerpt : Disk) (view : DiskView) → IsDiskOfExcerptsKee
 pub lists_by_excerpt : AreListedAlike → (layout : ImageLayout) (bytes text : List ℕ) (blocks : List BlockExcerpt) (e : ExcerptDevice) → AreExcerptsOfAllBlocksOfImageBytes layout.block_size bytes blocks → IsValidGeometry layout.block_size layout.page (length blocks)
     → AreExcerptsOfBlocksWithSize layout.block_size blocks → DeviceOfExcerptHasTheseBlocksAndSizes layout blocks e → (order : NameOrder) → IsListingTextOfDisk (disk_in_order order (shown (geometry_of_excerpt_device e) (blocks_of_excerpt_filled_up e))) text → IsListingTextOfImage layout bytes text
 lists_by_excerpt alike layout bytes text blocks e are geometry have is order lines =
-    let found = listed_from (disk_with layout.block_size layout.page layout.profile order blocks) text (sizes_of layout.block_size layout.page layout.profile order blocks geometry.no_smaller have) (subst (λ d. IsListingTextOfDisk d text) (is.disk order) lines) in
+    let found = listed_from (disk_with layout.block_size layout.page layout.profile order blocks) text (sizes_of layout.block_size layout.page layout.profile order blocks geometry.no_smaller have) (subst (λ d. IsListingTextOfDisk (disk_in_order order d) text) is.disk lines) in
     let (view, (shows, listing)) = found in
     let whole = alike (disk_of_image layout.block_size layout.page layout.profile order bytes) (disk_with layout.block_size layout.page layout.profile order blocks) view (excerpt_of_blocks layout.block_size layout.page layout.profile order bytes blocks geometry.no_smaller are) shows in
     (image_of_blocks layout.block_size layout.page bytes blocks are geometry, (whole.0, ((order, whole.1.0), whole.1.1 text listing)))
@@ -73,7 +73,7 @@ pub refuses_by_excerpt : AreRefusedAlike → (layout : ImageLayout) (bytes : Lis
 refuses_by_excerpt alike layout bytes blocks e Corrupt are geometry is none = (
   image_of_blocks layout.block_size layout.page bytes blocks are geometry,
   λ view (order, (ps, (accepted, same))).
-      subst (λ d. (ps : List Pair) → IsAcceptedImage d ps → ⊥) (is.disk order) (none order) ps
+      subst (λ d. (ps : List Pair) → IsAcceptedImage (disk_in_order order d) ps → ⊥) is.disk (none order) ps
       (alike (disk_of_image layout.block_size layout.page layout.profile order bytes) (disk_with layout.block_size layout.page layout.profile order blocks) ps (excerpt_of_blocks layout.block_size layout.page layout.profile order bytes blocks geometry.no_smaller are) accepted),
 )
 refuses_by_excerpt alike layout bytes blocks e NoMemory are geometry is none = tt

@@ -11,7 +11,7 @@ use Rattle.lfs_tool.specs.NewImageDevice.{blocks_of_new_image_device, bytes_of_n
 use Rattle.lfs_tool.specs.declared.new_image_device.NewImageDevice.{NewImageDevice}
 use Rattle.lfs_model.specs.Blocks.{cut}
 use Rattle.lfs_model.specs.Content.{content_of_pair_at}
-use Rattle.lfs_model.specs.Disk.{Disk, SameGeometry, block_count, disk_of_image}
+use Rattle.lfs_model.specs.Disk.{Disk, SameGeometry, block_count, disk_in_order, disk_of_image}
 use Rattle.lfs_model.specs.Fresh.{IsFreshDisk, empty_tree}
 use Rattle.lfs_model.specs.Geometry.{IsValidGeometry}
 use Rattle.lfs_model.specs.Headline.{IsDiskWritableAndRecovered, IsSessionHealthyWithDiskTree, session_after_operations}
@@ -21,6 +21,7 @@ use Rattle.lfs_model.specs.Session.{Session}
 use Rattle.lfs_model.specs.Source.{IsTreeMadeFromSource, TreeSource}
 use Rattle.lfs_model.specs.State.{HasFailed, Healthy, SessionHealth, session_after_mount}
 use Rattle.lfs_model.specs.View.{IsAcceptedImage}
+use Rattle.lfs_model.specs.declared.order.NameOrder.{NameOrder}
 use Rattle.lfs_model.specs.Profile.{IsWritableImage}
 use Rattle.lfs_model.specs.Shown.{tree_on_disk}
 use Rattle.lfs_model.proofs.Cuts.{length-cut}
@@ -39,13 +40,13 @@ use Rattle.lfs_tool.proofs.Refusing.{IsFromFresh, anywhere, comes, has_carried}
 
 -- ---- the geometry
 
-pub begins : (g : Geometry) (d : NewImageDevice) (h : SessionView) → geometry_of_new_image_device d ≡ g → IsFreshDisk h.tree.disk → (system_state_of_session_view h).state ≡ Healthy (session_after_mount empty_tree) → SameGeometry (device.disk_in_order g.order (device.disk_of_geometry_and_blocks (geometry_of_new_image_device d) (blocks_of_new_image_device d))) h.tree.disk
-    → SessionBeginsOnFreshDisk g (system_state_of_session_view h)
-begins g d h is fresh state same = record {
+pub begins : (g : Geometry) (o : NameOrder) (d : NewImageDevice) (h : SessionView) → geometry_of_new_image_device d ≡ g → IsFreshDisk h.tree.disk → (system_state_of_session_view h).state ≡ Healthy (session_after_mount empty_tree) → SameGeometry (disk_in_order o (device.disk_of_geometry_and_blocks (geometry_of_new_image_device d) (blocks_of_new_image_device d))) h.tree.disk
+    → SessionBeginsOnFreshDisk g o (system_state_of_session_view h)
+begins g o d h is fresh state same = record {
   fresh = fresh;
   block_size = same.block_size ∙ ap (λ (x : Geometry). x.block_size) is;
   page = same.page ∙ ap (λ (x : Geometry). x.page) is;
-  order = same.order;
+  order_is = same.order;
   profile = same.profile ∙ ap (λ (x : Geometry). x.profile) is;
   count = same.count ∙ length-cut (geometry_of_new_image_device d).block_size (geometry_of_new_image_device d).block_count (bytes_of_new_image_device d) ∙ ap (λ (x : Geometry). x.block_count) is;
   mounts = state;
@@ -74,14 +75,14 @@ some_bytes : (g : Geometry) → 1 ≤ g.block_size
 some_bytes g = let least : 1024 ≤ g.block_size = g.valid.no_smaller in omega (arith, least)
 
 -- what the run left in the device
-pub left : (g : Geometry) (from to : SystemState) (es : List SourceEntry) (d : NewImageDevice) (bytes : List ℕ) → SessionBeginsOnFreshDisk g from → AreOperationsApplied from (copying_operations_of_entries es) to
-    → device.disk_in_order to.disk.order (device.disk_of_geometry_and_blocks (geometry_of_new_image_device d) (blocks_of_new_image_device d)) ≡ to.disk
-    → bytes ≡ bytes_of_new_image_device d → AreImageBytesOfEntries g es bytes
-left g from to es d bytes b c shown is =
+pub left : (g : Geometry) (o : NameOrder) (from to : SystemState) (es : List SourceEntry) (d : NewImageDevice) (bytes : List ℕ) → SessionBeginsOnFreshDisk g o from → AreOperationsApplied from (copying_operations_of_entries es) to
+    → disk_in_order to.disk.order (device.disk_of_geometry_and_blocks (geometry_of_new_image_device d) (blocks_of_new_image_device d)) ≡ to.disk
+    → bytes ≡ bytes_of_new_image_device d → AreImageBytesOfEntries g o es bytes
+left g o from to es d bytes b c shown is =
     let same = session_steps_geometry (copying_operations_of_entries es) c.replies from to c.session_steps in
     let size : (geometry_of_new_image_device d).block_size ≡ g.block_size = ap (λ (k : Disk). k.block_size) shown ∙ same.block_size ∙ b.block_size in
     let page : (geometry_of_new_image_device d).page ≡ g.page = ap (λ (k : Disk). k.page) shown ∙ same.page ∙ b.page in
-    let order : to.disk.order ≡ g.order = same.order ∙ b.order in
+    let order : to.disk.order ≡ o = same.order ∙ b.order_is in
     let profile : (geometry_of_new_image_device d).profile ≡ g.profile = ap (λ (k : Disk). k.profile) shown ∙ same.profile ∙ b.profile in
     let count : (geometry_of_new_image_device d).block_count ≡ g.block_count = sym (length-cut (geometry_of_new_image_device d).block_size (geometry_of_new_image_device d).block_count (bytes_of_new_image_device d)) ∙ ap block_count shown ∙ same.count ∙ b.count in
     let len : length bytes ≡ g.block_size * g.block_count = ap length is ∙ length-padded (d.geometry.block_size * d.geometry.block_count) d.bytes.items d.within ∙ ap₂ (λ x y. x * y) size count in
@@ -93,7 +94,7 @@ left g from to es d bytes b c shown is =
       carried = c;
       len = len;
       disk = sym shown ∙ (λ j. record { block_size = size j; page = page j; order = order j; profile = profile j; blocks = cut (size j) (geometry_of_new_image_device d).block_count (bytes_of_new_image_device d) })
-          ∙ ap₂ (λ n xs. record { block_size = g.block_size; page = g.page; order = g.order; profile = g.profile; blocks = cut g.block_size n xs }) blocks (sym is);
+          ∙ ap₂ (λ n xs. record { block_size = g.block_size; page = g.page; order = o; profile = g.profile; blocks = cut g.block_size n xs }) blocks (sym is);
     }
 
 -- ---- the image
@@ -105,8 +106,8 @@ same_session s t e = ap or_else e
     or_else HasFailed = s
     or_else (Healthy z) = z
 
-pub made : (g : Geometry) (known : Option TreeSource) (es : List SourceEntry) (bytes : List ℕ) → AreAllEntriesOfSource known es → AreImageBytesOfEntries g es bytes → IsImageOfSource g known bytes
-made g known es bytes all l = record {
+pub made : (g : Geometry) (o : NameOrder) (known : Option TreeSource) (es : List SourceEntry) (bytes : List ℕ) → AreAllEntriesOfSource known es → AreImageBytesOfEntries g o es bytes → IsImageOfSource g o known bytes
+made g o known es bytes all l = record {
   len = l.len;
   image = record {
     geometry = subst (IsValidGeometry g.block_size g.page) (sym (count_of g.block_size g.block_count bytes (some_bytes g) l.len)) g.valid;
@@ -132,7 +133,7 @@ made g known es bytes all l = record {
     after = same_session t.session (session_after_operations anywhere (session_after_mount empty_tree) (flat_map copying_operations_of_entry es) l.carried.replies)
         (sym t.healthy ∙ fresh_defined (copying_operations_of_entries es) l.carried.replies l.to anywhere (comes l.from l.to (copying_operations_of_entries es) (record { fresh = l.begins.fresh; mounts = l.begins.mounts }) l.carried))
 
-    shows : (k : Option TreeSource) → AreAllEntriesOfSource k es → IfSome k (λ src. IsTreeMadeFromSource src (tree_on_disk (disk_of_image g.block_size g.page g.profile g.order bytes) s.pairs))
+    shows : (k : Option TreeSource) → AreAllEntriesOfSource k es → IfSome k (λ src. IsTreeMadeFromSource src (tree_on_disk (disk_of_image g.block_size g.page g.profile o bytes) s.pairs))
     shows None a = tt
     shows (Some src) a =
         let whole = carried_tree src es a in
@@ -143,23 +144,23 @@ made g known es bytes all l = record {
 
 -- ---- what is passed on
 
-pub refused : {X : Type 0} (r : Result X Error) (e : Error) (g : Geometry) (from : SystemState) (es : List SourceEntry) → IsErrAnd r (λ f. f ≡ e) → SessionBeginsOnFreshDisk g from → (e ≢ NoMemory → IsFirstRefusalAmongOperations from (copying_operations_of_entries es) e)
-    → IfErr r (λ f. f ≢ NoMemory → RefusesCopyOfEntries g es f)
-refused (Ok x) e g from es is b h = tt
-refused (Err f) e g from es is b h = λ other. record { from = from; begins = b; first = subst (IsFirstRefusalAmongOperations from (copying_operations_of_entries es)) (sym is) (h (λ x. other (is ∙ x))) }
+pub refused : {X : Type 0} (r : Result X Error) (e : Error) (g : Geometry) (o : NameOrder) (from : SystemState) (es : List SourceEntry) → IsErrAnd r (λ f. f ≡ e) → SessionBeginsOnFreshDisk g o from → (e ≢ NoMemory → IsFirstRefusalAmongOperations from (copying_operations_of_entries es) e)
+    → IfErr r (λ f. f ≢ NoMemory → RefusesCopyOfEntries g o es f)
+refused (Ok x) e g o from es is b h = tt
+refused (Err f) e g o from es is b h = λ other. record { from = from; begins = b; first = subst (IsFirstRefusalAmongOperations from (copying_operations_of_entries es)) (sym is) (h (λ x. other (is ∙ x))) }
 
-pub passed : (g : Geometry) (es slice : List SourceEntry) (image written : List ℕ) → slice ≡ es → written ≡ image → AreImageBytesOfEntries g slice image → AreImageBytesOfEntries g es written
-passed g es slice image written same is l = subst (λ xs. AreImageBytesOfEntries g es xs) (sym is) (subst (λ xs. AreImageBytesOfEntries g xs image) same l)
+pub passed : (g : Geometry) (o : NameOrder) (es slice : List SourceEntry) (image written : List ℕ) → slice ≡ es → written ≡ image → AreImageBytesOfEntries g o slice image → AreImageBytesOfEntries g o es written
+passed g o es slice image written same is l = subst (λ xs. AreImageBytesOfEntries g o es xs) (sym is) (subst (λ xs. AreImageBytesOfEntries g o xs image) same l)
 
-pub told_refused : {X : Type 0} (r : Result X Error) (e : Error) (g : Geometry) (from : SystemState) (es : List SourceEntry) (old new : Option (List ProgressCall)) → IsErrAnd r (λ f. f ≡ e) → SessionBeginsOnFreshDisk g from → IsToldOfEntriesBeforeError from es old new e
-    → IfErr r (IsToldOfCopyBeforeError g es old new)
-told_refused (Ok x) e g from es old new is b told = tt
-told_refused (Err f) e g from es old new is b told = inr (from, (b, subst (IsToldOfEntriesBeforeError from es old new) (sym is) told))
+pub told_refused : {X : Type 0} (r : Result X Error) (e : Error) (g : Geometry) (o : NameOrder) (from : SystemState) (es : List SourceEntry) (old new : Option (List ProgressCall)) → IsErrAnd r (λ f. f ≡ e) → SessionBeginsOnFreshDisk g o from → IsToldOfEntriesBeforeError from es old new e
+    → IfErr r (IsToldOfCopyBeforeError g o es old new)
+told_refused (Ok x) e g o from es old new is b told = tt
+told_refused (Err f) e g o from es old new is b told = inr (from, (b, subst (IsToldOfEntriesBeforeError from es old new) (sym is) told))
 
 -- what a follower was told of a whole image stays so where that can't be written
-pub told_copied : {X : Type 0} (P : Type 0) (r : Result X ToolError) (g : Geometry) (known : Option TreeSource) (es : List SourceEntry) (old new : Option (List ProgressCall)) → OnErr r ((r ≡ Err Output) × P) → AreAllEntriesOfSource known es
-    → new ≡ told_of_all_done (amounts_of_entries es) old → IsToldOfEntriesCopied g known old new r
-told_copied P (Ok x) g known es old new only all told = (es, (all, told))
-told_copied P (Err Output) g known es old new only all told = (es, (all, told))
-told_copied P (Err Input) g known es old new only all told = let no : Err Input ≡ Err Output = only.0 in (cc)
-told_copied P (Err (Fs e)) g known es old new only all told = let no : Err (Fs e) ≡ Err Output = only.0 in (cc)
+pub told_copied : {X : Type 0} (P : Type 0) (r : Result X ToolError) (g : Geometry) (o : NameOrder) (known : Option TreeSource) (es : List SourceEntry) (old new : Option (List ProgressCall)) → OnErr r ((r ≡ Err Output) × P) → AreAllEntriesOfSource known es
+    → new ≡ told_of_all_done (amounts_of_entries es) old → IsToldOfEntriesCopied g o known old new r
+told_copied P (Ok x) g o known es old new only all told = (es, (all, told))
+told_copied P (Err Output) g o known es old new only all told = (es, (all, told))
+told_copied P (Err Input) g o known es old new only all told = let no : Err Input ≡ Err Output = only.0 in (cc)
+told_copied P (Err (Fs e)) g o known es old new only all told = let no : Err (Fs e) ≡ Err Output = only.0 in (cc)

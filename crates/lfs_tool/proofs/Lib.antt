@@ -23,8 +23,6 @@ pub mod Branches
 pub mod OutsideProfile
 pub mod ProfileCauses
 pub mod Counts
-pub mod Reordered
-pub mod Judged
 pub mod WithoutAttributes
 pub mod KeptAccepted
 pub mod AcceptedKept

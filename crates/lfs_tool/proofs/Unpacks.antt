@@ -9,6 +9,7 @@ use Rattle.lfs_model.specs.Thread.{Pair}
 use Rattle.lfs_model.specs.Tree.{Node}
 use Rattle.lfs_model.specs.View.{HasDiskView, IsAcceptedImage, IsSkipListIfCtzStruct, view_of_disk}
 use Rattle.lfs_model.specs.declared.order.NameOrder.{NameOrder}
+use Rattle.lfs_model.specs.declared.order.NameOrder.TheVariants.{LongerFirst}
 use Rattle.lfs_model.proofs.ListSizes.{length-bytes_of_skip_list}
 use Rattle.lfs_device.specs.declared.error.Error.TheVariants.{Corrupt, Invalid, NoMemory}
 use Rattle.lfs_device.specs.declared.error.Error.{Error}
@@ -131,12 +132,12 @@ fails_begun disk old new was now (Err e) begun h to reports = absurd reports
 
 -- ---- of an image
 
--- the disk is that of the bytes, in each order of names
+-- the disk is that of the bytes
 abbrev IsDiskOf : ImageLayout → List ℕ → Disk → Type 0
-IsDiskOf layout image disk = (order : NameOrder) → disk_in_order order disk ≡ disk_of_image layout.block_size layout.page layout.profile order image
+IsDiskOf layout image disk = disk ≡ disk_of_image layout.block_size layout.page layout.profile LongerFirst image
 
 unpacks_image : (layout : ImageLayout) (image : List ℕ) (disk : Disk) (actions : List UnpackingAction) → IsImageOfWholeBlocks layout.block_size layout.page image → IsDiskOf layout image disk → AreActionsUnpackingDisk disk actions → AreActionsUnpackingImage layout image actions
-unpacks_image layout image disk actions is same (view, ((order, shows), unpacking)) = (is, (view, ((order, subst (λ d. HasDiskView d view) (same order) shows), unpacking)))
+unpacks_image layout image disk actions is same (view, ((order, shows), unpacking)) = (is, (view, ((order, subst (λ d. HasDiskView (disk_in_order order d) view) same shows), unpacking)))
 
 pub done_image : (layout : ImageLayout) (image : List ℕ) (disk : Disk) (old new : Option (List UnpackingAction)) → IsImageOfWholeBlocks layout.block_size layout.page image → IsDiskOf layout image disk
     → HasUnpackedDisk disk old new → HasUnpackedImage layout image old new
@@ -154,7 +155,7 @@ begun_image layout image disk old new is same (actions, (unpacked, h)) = (action
 pub fails_image : (layout : ImageLayout) (image : List ℕ) (disk : Disk) (old new : Option (List UnpackingAction)) (e : ToolError) → IsImageOfWholeBlocks layout.block_size layout.page image → IsDiskOf layout image disk
     → FailsToUnpackDisk disk old new e → FailsToUnpackImage layout image old new e
 fails_image layout image disk old new (Fs Corrupt) is same (wrong, undone) =
-    ((is, λ view (order, (ps, (accepted, shows))). wrong order ps (subst (λ d. IsAcceptedImage d ps) (sym (same order)) accepted)), undone)
+    ((is, λ view (order, (ps, (accepted, shows))). wrong order ps (subst (λ d. IsAcceptedImage (disk_in_order order d) ps) (sym same) accepted)), undone)
 fails_image layout image disk old new (Fs NoMemory) is same (inl undone) = inl undone
 fails_image layout image disk old new (Fs NoMemory) is same (inr begun) = inr (begun_image layout image disk old new is same begun)
 fails_image layout image disk old new Output is same begun = begun_image layout image disk old new is same begun

@@ -5,12 +5,11 @@ use Rattle.lfs_tool.specs.declared.image_layout.ImageLayout.{ImageLayout}
 use Rattle.lfs_tool.specs.declared.block_excerpt.BlockExcerpt.{BlockExcerpt}
 use Rattle.lfs_tool.specs.ExcerptBlocks.{block_of_excerpt, blocks_of_excerpts}
 use Rattle.lfs_device.specs.Shown.{disk_of_geometry_and_blocks}
-use Rattle.lfs_model.specs.Disk.{disk_in_order}
+use Rattle.lfs_model.specs.Disk.{plain_disk}
 use Rattle.lfs_tool.specs.declared.excerpt.ExcerptDevice.{ExcerptDevice}
 use Rattle.lfs_tool.specs.ExcerptView.{blocks_of_excerpt_filled_up, geometry_of_excerpt_device}
 use Rattle.lfs_tool.specs.Excerpt.{AreExcerptsKeepingSizesPointersAndLogs, IsExcerptKeepingSizePointersAndLog}
 use Rattle.lfs_model.specs.Blocks.{cut}
-use Rattle.lfs_model.specs.declared.order.NameOrder.{NameOrder}
 
 -- the first n bytes of the buffer are the next known ones; where they don't fill it there are no more
 pub record FillsBufferWithNextBytes (old new : Option (List ℕ)) (n : ℕ) (buffer : List ℕ) : Type 0 where
@@ -30,6 +29,6 @@ pub record IsExcerptPushed (block : List ℕ) (old new : List BlockExcerpt) : Ty
   pub excerpt : IsExcerptKeepingSizePointersAndLog block (block_of_excerpt kept)
   pub size : kept.size ≡ length block
 
--- the device shows these blocks, of that size and in such pages, with the names in any order
+-- the device shows these blocks, of that size and in such pages
 pub record DeviceOfExcerptHasTheseBlocksAndSizes (layout : ImageLayout) (blocks : List BlockExcerpt) (e : ExcerptDevice) : Type 0 where
-  pub disk : (order : NameOrder) → disk_in_order order (disk_of_geometry_and_blocks (geometry_of_excerpt_device e) (blocks_of_excerpt_filled_up e)) ≡ record { block_size = layout.block_size; page = layout.page; order = order; profile = layout.profile; blocks = blocks_of_excerpts blocks }
+  pub disk : disk_of_geometry_and_blocks (geometry_of_excerpt_device e) (blocks_of_excerpt_filled_up e) ≡ plain_disk layout.block_size layout.page layout.profile (blocks_of_excerpts blocks)

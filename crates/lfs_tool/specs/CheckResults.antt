@@ -6,7 +6,7 @@ use Rattle.lfs_tool.specs.WrongNumbers.{HasNoWrongNumberInImageBytes, IsWrongNum
 use Rattle.lfs_tool.specs.Verdict.{IsAcceptedWithSummary, IsAcceptedInNoNameOrder, IsVerdictOnDisk}
 use Rattle.lfs_tool.specs.declared.verdict.ImageVerdict.{ImageVerdict}
 use Rattle.lfs_model.specs.Disk.{Disk, IsImageOfWholeBlocks, disk_of_image}
-use Rattle.lfs_model.specs.declared.order.NameOrder.{NameOrder}
+use Rattle.lfs_model.specs.declared.order.NameOrder.TheVariants.{LongerFirst}
 use Rattle.lfs_tool.specs.declared.findings.WrongNumber.{WrongNumber}
 use Rattle.lfs_tool.specs.declared.check_result.CheckResult.{CheckResult}
 use Rattle.lfs_tool.specs.declared.check_result.CheckResult.TheVariants as checked
@@ -14,9 +14,9 @@ use Rattle.lfs_tool.specs.declared.check_result.GivenSizes.{GivenSizes}
 use Rattle.lfs_tool.specs.declared.check_result.RefusalReason.{RefusalReason}
 use Rattle.lfs_tool.specs.declared.check_result.RefusalReason.TheVariants as reason
 
--- the bytes are an image, and this holds of its disk, whatever its order of names
+-- the bytes are an image, and this holds of its disk
 abbrev pub IsTrueOfDiskOfImage : ImageLayout → List ℕ → (Disk → Type 0) → Type 0
-IsTrueOfDiskOfImage layout image P = IsImageOfWholeBlocks layout.block_size layout.page image × ((order : NameOrder) → P (disk_of_image layout.block_size layout.page layout.profile order image))
+IsTrueOfDiskOfImage layout image P = IsImageOfWholeBlocks layout.block_size layout.page image × P (disk_of_image layout.block_size layout.page layout.profile LongerFirst image)
 
 -- the bytes are no more than an image may have
 abbrev pub IsShortEnoughForImage : List ℕ → Type 0
@@ -45,7 +45,7 @@ pub record AreReportedSizesThoseGivenToCheck (layout : ImageLayout) (image : Lis
 
 -- the bytes aren't an image that is accepted, in either order of names
 abbrev pub AreBytesNoAcceptedImage : ImageLayout → List ℕ → Type 0
-AreBytesNoAcceptedImage layout image = IsImageOfWholeBlocks layout.block_size layout.page image → (order : NameOrder) → IsAcceptedInNoNameOrder (disk_of_image layout.block_size layout.page layout.profile order image)
+AreBytesNoAcceptedImage layout image = IsImageOfWholeBlocks layout.block_size layout.page image → IsAcceptedInNoNameOrder (disk_of_image layout.block_size layout.page layout.profile LongerFirst image)
 
 -- The bytes are an accepted image, in these orders of names, and have that; or they are refused, and why.
 abbrev pub IsCheckResultOfBytes : ImageLayout → List ℕ → CheckResult → Type 0

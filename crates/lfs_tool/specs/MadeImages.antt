@@ -12,6 +12,7 @@ use Rattle.lfs_model.specs.State.{Healthy, session_after_mount}
 use Rattle.lfs_model.specs.Thread.{Pair, gstate_of_pairs}
 use Rattle.lfs_model.specs.Tree.{Tree}
 use Rattle.lfs_model.specs.View.{IsAcceptedImage}
+use Rattle.lfs_model.specs.declared.order.NameOrder.{NameOrder}
 use Rattle.lfs_model.specs.Profile.{IsWritableImage}
 use Rattle.lfs_model.specs.Shown.{tree_on_disk}
 use Rattle.lfs_device.specs.declared.error.Error.{Error}
@@ -29,29 +30,29 @@ use Rattle.lfs_tool_folders.specs.declared.entries.SourceEntry.{SourceEntry}
 
 -- ---- a run
 
--- A session begins on a fresh disk of the geometry.
-pub record SessionBeginsOnFreshDisk (geometry : Geometry) (from : SystemState) : Type 0 where
+-- A session begins on a fresh disk of the geometry, with its names in that order.
+pub record SessionBeginsOnFreshDisk (geometry : Geometry) (order : NameOrder) (from : SystemState) : Type 0 where
   pub fresh : IsFreshDisk from.disk
   pub block_size : from.disk.block_size ≡ geometry.block_size
   pub page : from.disk.page ≡ geometry.page
-  pub order : from.disk.order ≡ geometry.order
+  pub order_is : from.disk.order ≡ order
   pub profile : from.disk.profile ≡ geometry.profile
   pub count : block_count from.disk ≡ geometry.block_count
   pub mounts : from.state ≡ Healthy (session_after_mount empty_tree)
 
 -- These are the bytes of the disk that the operations of the entries leave, none of them refused.
-pub record AreImageBytesOfEntries (geometry : Geometry) (entries : List SourceEntry) (bytes : List ℕ) : Type 0 where
+pub record AreImageBytesOfEntries (geometry : Geometry) (order : NameOrder) (entries : List SourceEntry) (bytes : List ℕ) : Type 0 where
   pub from : SystemState
-  pub begins : SessionBeginsOnFreshDisk geometry from
+  pub begins : SessionBeginsOnFreshDisk geometry order from
   pub to : SystemState
   pub carried : AreOperationsApplied from (copying_operations_of_entries entries) to
   pub len : length bytes ≡ geometry.block_size * geometry.block_count
-  pub disk : to.disk ≡ disk_of_image geometry.block_size geometry.page geometry.profile geometry.order bytes
+  pub disk : to.disk ≡ disk_of_image geometry.block_size geometry.page geometry.profile order bytes
 
 -- An operation of the entries is refused, and this is the first refusal.
-pub record RefusesCopyOfEntries (geometry : Geometry) (entries : List SourceEntry) (e : Error) : Type 0 where
+pub record RefusesCopyOfEntries (geometry : Geometry) (order : NameOrder) (entries : List SourceEntry) (e : Error) : Type 0 where
   pub from : SystemState
-  pub begins : SessionBeginsOnFreshDisk geometry from
+  pub begins : SessionBeginsOnFreshDisk geometry order from
   pub first : IsFirstRefusalAmongOperations from (copying_operations_of_entries entries) e
 
 -- These operations copy the source's tree, where it is known what the source shows.
@@ -62,27 +63,27 @@ AreOperationsCopyingSource known operations = IfSome known (λ s. (tree : Tree) 
 
 -- An image of the geometry that is accepted, in the writing profile, without a delta of the global state, and shows the
 -- source's tree.
-pub record IsImageOfSource (geometry : Geometry) (known : Option TreeSource) (bytes : List ℕ) : Type 0 where
+pub record IsImageOfSource (geometry : Geometry) (order : NameOrder) (known : Option TreeSource) (bytes : List ℕ) : Type 0 where
   pub len : length bytes ≡ geometry.block_size * geometry.block_count
   pub image : IsImageOfWholeBlocks geometry.block_size geometry.page bytes
   pub pairs : List Pair
-  pub accepted : IsAcceptedImage (disk_of_image geometry.block_size geometry.page geometry.profile geometry.order bytes) pairs
-  pub writable : IsWritableImage (disk_of_image geometry.block_size geometry.page geometry.profile geometry.order bytes) pairs
+  pub accepted : IsAcceptedImage (disk_of_image geometry.block_size geometry.page geometry.profile order bytes) pairs
+  pub writable : IsWritableImage (disk_of_image geometry.block_size geometry.page geometry.profile order bytes) pairs
   pub gstate : gstate_of_pairs pairs ≡ zero_gstate
-  pub tree : IfSome known (λ s. IsTreeMadeFromSource s (tree_on_disk (disk_of_image geometry.block_size geometry.page geometry.profile geometry.order bytes) pairs))
+  pub tree : IfSome known (λ s. IsTreeMadeFromSource s (tree_on_disk (disk_of_image geometry.block_size geometry.page geometry.profile order bytes) pairs))
 
 -- all that the source has is copied, and what is known to be written grew by one image of it
-abbrev pub HasWrittenImageOfSource : Geometry → Option TreeSource → Option (List ℕ) → Option (List ℕ) → Type 0
-HasWrittenImageOfSource geometry known old new = (entries : List SourceEntry) × (AreAllEntriesOfSource known entries
-    × (AreOperationsCopyingSource known (copying_operations_of_entries entries) × ((image : List ℕ) × (AreImageBytesOfEntries geometry entries image × (IsImageOfSource geometry known image × Appends old new image)))))
+abbrev pub HasWrittenImageOfSource : Geometry → NameOrder → Option TreeSource → Option (List ℕ) → Option (List ℕ) → Type 0
+HasWrittenImageOfSource geometry order known old new = (entries : List SourceEntry) × (AreAllEntriesOfSource known entries
+    × (AreOperationsCopyingSource known (copying_operations_of_entries entries) × ((image : List ℕ) × (AreImageBytesOfEntries geometry order entries image × (IsImageOfSource geometry order known image × Appends old new image)))))
 
 -- what is known to be written grew by a beginning of an image of the source
-abbrev pub HasWrittenBeginningOfImage : Geometry → Option TreeSource → Option (List ℕ) → Option (List ℕ) → Type 0
-HasWrittenBeginningOfImage geometry known old new = (image : List ℕ) × (IsImageOfSource geometry known image × AppendsBeginningOfBytes old new image)
+abbrev pub HasWrittenBeginningOfImage : Geometry → NameOrder → Option TreeSource → Option (List ℕ) → Option (List ℕ) → Type 0
+HasWrittenBeginningOfImage geometry order known old new = (image : List ℕ) × (IsImageOfSource geometry order known image × AppendsBeginningOfBytes old new image)
 
 -- an operation that copies what the source has is refused, and this is the first refusal
-abbrev pub RefusesCopyOfSource : Geometry → Option TreeSource → Error → Type 0
-RefusesCopyOfSource geometry known e = (entries : List SourceEntry) × (AreAllEntriesOfSource known entries × (AreOperationsCopyingSource known (copying_operations_of_entries entries) × RefusesCopyOfEntries geometry entries e))
+abbrev pub RefusesCopyOfSource : Geometry → NameOrder → Option TreeSource → Error → Type 0
+RefusesCopyOfSource geometry order known e = (entries : List SourceEntry) × (AreAllEntriesOfSource known entries × (AreOperationsCopyingSource known (copying_operations_of_entries entries) × RefusesCopyOfEntries geometry order entries e))
 
 -- `Input` comes where the source fails, which it does once, or where it doesn't and a folder in it has bad names. After any other
 -- result it has failed as often as before.
@@ -106,20 +107,20 @@ abbrev pub IsToldOfEntriesBeforeError : SystemState → List SourceEntry → Opt
 IsToldOfEntriesBeforeError from entries old new e = (n : ℕ) × ((new ≡ told_of_first_n_done n (amounts_of_entries entries) old) × StopsAtEntryAfter n from entries e)
 
 -- the same from a fresh disk of the geometry; or memory for that ran out, and it was told of nothing
-abbrev pub IsToldOfCopyBeforeError : Geometry → List SourceEntry → Option (List ProgressCall) → Option (List ProgressCall) → Error → Type 0
-IsToldOfCopyBeforeError geometry entries old new e =
-    ((e ≡ NoMemory) × (new ≡ old)) ⊎ ((from : SystemState) × (SessionBeginsOnFreshDisk geometry from × IsToldOfEntriesBeforeError from entries old new e))
+abbrev pub IsToldOfCopyBeforeError : Geometry → NameOrder → List SourceEntry → Option (List ProgressCall) → Option (List ProgressCall) → Error → Type 0
+IsToldOfCopyBeforeError geometry order entries old new e =
+    ((e ≡ NoMemory) × (new ≡ old)) ⊎ ((from : SystemState) × (SessionBeginsOnFreshDisk geometry order from × IsToldOfEntriesBeforeError from entries old new e))
 
 -- A follower was told of the whole, and of each entry, also where the image can't be written. After a refusal it was told of those
 -- that were copied before. It was told of nothing where the source wasn't read, and maybe where memory ran out.
-abbrev pub IsToldOfEntriesCopied : {X : Type 0} → Geometry → Option TreeSource → Option (List ProgressCall) → Option (List ProgressCall) → Result X ToolError → Type 0
-IsToldOfEntriesCopied geometry known old new (Err Input) = new ≡ old
-IsToldOfEntriesCopied geometry known old new (Err (Fs e)) =
-    ((e ≡ NoMemory) × (new ≡ old)) ⊎ ((entries : List SourceEntry) × (AreAllEntriesOfSource known entries × IsToldOfCopyBeforeError geometry entries old new e))
-IsToldOfEntriesCopied geometry known old new other = (entries : List SourceEntry) × (AreAllEntriesOfSource known entries × (new ≡ told_of_all_done (amounts_of_entries entries) old))
+abbrev pub IsToldOfEntriesCopied : {X : Type 0} → Geometry → NameOrder → Option TreeSource → Option (List ProgressCall) → Option (List ProgressCall) → Result X ToolError → Type 0
+IsToldOfEntriesCopied geometry order known old new (Err Input) = new ≡ old
+IsToldOfEntriesCopied geometry order known old new (Err (Fs e)) =
+    ((e ≡ NoMemory) × (new ≡ old)) ⊎ ((entries : List SourceEntry) × (AreAllEntriesOfSource known entries × IsToldOfCopyBeforeError geometry order entries old new e))
+IsToldOfEntriesCopied geometry order known old new other = (entries : List SourceEntry) × (AreAllEntriesOfSource known entries × (new ≡ told_of_all_done (amounts_of_entries entries) old))
 
 -- the same with the sizes of a command line; where no image has them, it was told of nothing
 abbrev pub IsToldOfRequestedImage : {X : Type 0} → Line → Option TreeSource → Option (List ProgressCall) → Option (List ProgressCall) → Result X ToolError → Type 0
 IsToldOfRequestedImage line known old new result =
-    ((g : Geometry) × (HasSizesOfCommandLine line g × IsToldOfEntriesCopied g known old new result))
+    ((g : Geometry) × (HasSizesOfCommandLine line g × IsToldOfEntriesCopied g line.order known old new result))
     ⊎ (IsErrorWhereNoGeometryHasSizes line Invalid × IsErrOf result (Fs Invalid) × (new ≡ old))

@@ -9,11 +9,10 @@ use Rattle.lfs_tool.specs.MadeImages.{AreImageBytesOfEntries, RefusesCopyOfEntri
 use Rattle.lfs_tool.specs.declared.needed_blocks.EnoughBlocks.{EnoughBlocks}
 use Rattle.lfs_tool.specs.declared.needed_blocks.EnoughBlocks.TheVariants.{Count, Given, NoImage, OutOfMemory, Refused}
 
--- the geometry has the line's blocks, pages, order and profile, and so many blocks
+-- the geometry has the line's blocks, pages and profile, and so many blocks
 pub record IsGeometryOfCommandLineWithBlockCount (line : Line) (count : ℕ) (g : Geometry) : Type 0 where
   pub block_size : g.block_size ≡ line.block_size
   pub page : g.page ≡ line.page
-  pub order : g.order ≡ line.order
   pub profile : g.profile ≡ line.profile
   pub block_count : g.block_count ≡ count
 
@@ -22,13 +21,13 @@ pub record IsEnoughBlocksForEntries (line : Line) (entries : List SourceEntry) (
   pub geometry : Geometry
   pub sizes : IsGeometryOfCommandLineWithBlockCount line count geometry
   pub image : List ℕ
-  pub left : AreImageBytesOfEntries geometry entries image
+  pub left : AreImageBytesOfEntries geometry line.order entries image
 
 -- one of so many is refused: too few blocks are free
 pub record IsTooFewBlocksForEntries (line : Line) (entries : List SourceEntry) (count : ℕ) : Type 0 where
   pub geometry : Geometry
   pub sizes : IsGeometryOfCommandLineWithBlockCount line count geometry
-  pub refused : RefusesCopyOfEntries geometry entries NoSpace
+  pub refused : RefusesCopyOfEntries geometry line.order entries NoSpace
 
 -- so many blocks hold the entries, and one less doesn't
 pub record IsJustEnoughBlocksForEntries (line : Line) (entries : List SourceEntry) (count : ℕ) : Type 0 where
@@ -40,7 +39,7 @@ pub record IsRefusedInSomeTrial (line : Line) (entries : List SourceEntry) (e : 
   pub count : ℕ
   pub geometry : Geometry
   pub sizes : IsGeometryOfCommandLineWithBlockCount line count geometry
-  pub refused : RefusesCopyOfEntries geometry entries e
+  pub refused : RefusesCopyOfEntries geometry line.order entries e
   pub other : e ≢ NoSpace
 
 -- a trial ends in this error: memory isn't granted, or another refusal comes first

@@ -6,11 +6,10 @@ use Rattle.lfs_device.specs.declared.error.Error.TheVariants.{Invalid}
 use Rattle.lfs_device.specs.declared.geometry.Geometry.{Geometry}
 use Rattle.lfs_tool_line.specs.declared.line.Line.{Line}
 
--- the geometry has the sizes, the order and the profile of the line
+-- the geometry has the sizes and the profile of the line
 pub record HasSizesOfCommandLine (line : Line) (g : Geometry) : Type 0 where
   pub block_size : g.block_size ≡ line.block_size
   pub page : g.page ≡ line.page
-  pub order : g.order ≡ line.order
   pub profile : g.profile ≡ line.profile
   pub block_count : g.block_count ≡ line.size / line.block_size
   pub whole : line.size % line.block_size ≡ 0

@@ -93,7 +93,7 @@ abbrev pub WritesWholeImage : {P I N F T R : Type 0} → Ghosts P I N F T R → 
 WritesWholeImage places output source line event old new folder =
     IsTrueOfSomethingAtPath places.folder_path folder (λ f. (places.folder_limits f ≡ file_limits_of_line line line.size) × IsTrueOfSomethingAtPath places.new_image_path line.image.now (λ i. (after : _) × (told : _)
     × ((places.history new ≡ event (output.contents after) ∷ WorkEnded told ∷ WorkBegan ∷ ImageOpened line.image.now ∷ places.history old)
-    × (((g : _) × (HasSizesOfCommandLine line g × HasWrittenImageOfSource g (source.shown f) (output.contents i) (output.contents after))) × IsFlushedOnce output i after)
+    × (((g : _) × (HasSizesOfCommandLine line g × HasWrittenImageOfSource g line.order (source.shown f) (output.contents i) (output.contents after))) × IsFlushedOnce output i after)
     × IsEndOfFollowedWork (λ begins ends. IsToldOfRequestedImage line (source.shown f) begins ends (Ok (tt {0}))) told)))
 
 -- the image at the line's path is made of the folder, and put in its place
@@ -136,7 +136,7 @@ DiscardsUnwrittenImage places output source line old new folder e = DiscardsImag
 -- it is discarded with a beginning of what it was to hold, since a call of it has failed
 abbrev pub DiscardsFailedImage : {P I N F T R : Type 0} → Ghosts P I N F T R → ToolOutputGhosts N → SourceGhosts F → Line → P → P → List ℕ → ToolError → Type 0
 DiscardsFailedImage places output source line old new folder e =
-    DiscardsImage places output source line old new folder e 1 (λ shown was now. (g : _) × (HasSizesOfCommandLine line g × HasWrittenBeginningOfImage g shown was now))
+    DiscardsImage places output source line old new folder e 1 (λ shown was now. (g : _) × (HasSizesOfCommandLine line g × HasWrittenBeginningOfImage g line.order shown was now))
 
 -- Nothing is put in the place of the line's image. At `Output` the image failed, or it is whole and can't be put there. At any other
 -- error it is discarded unwritten, or memory ran out before it was opened.
@@ -169,7 +169,7 @@ RefusesToListAtPath path_of bytes line e = IsTrueOfSomethingAtPath path_of line.
 -- no image has the line's sizes, or what the folder shows is refused so
 abbrev pub RefusesToMakeImage : {F : Type 0} → (F → List ℕ) → (F → FileLimits) → (F → Option TreeSource) → Line → Error → List ℕ → Type 0
 RefusesToMakeImage folder_of limits_of shown line e folder =
-    IsErrorWhereNoGeometryHasSizes line e ⊎ IsTrueOfSomethingAtPath folder_of folder (λ f. (limits_of f ≡ file_limits_of_line line line.size) × ((g : _) × (HasSizesOfCommandLine line g × RefusesCopyOfSource g (shown f) e)))
+    IsErrorWhereNoGeometryHasSizes line e ⊎ IsTrueOfSomethingAtPath folder_of folder (λ f. (limits_of f ≡ file_limits_of_line line line.size) × ((g : _) × (HasSizesOfCommandLine line g × RefusesCopyOfSource g line.order (shown f) e)))
 
 -- the file or folder at the path fails
 abbrev pub HasFaultAtPath : {X : Type 0} → (X → List ℕ) → (X → ℕ) → List ℕ → Type 0

@@ -12,6 +12,7 @@ use crate::source_entries::copy_entries_into_session;
 use crate::{FollowsProgress, ToolError, ToolOutput};
 use lfs_device::{Error, Geometry};
 use lfs_fs::{Session, format_ordered};
+use lfs_model::NameOrder;
 use lfs_tool_folders::{Source, SourceEntry, SourceError, read_tree};
 use std::alloc::Global;
 
@@ -35,12 +36,13 @@ pub(crate) fn read_source_entries<S: Source>(
 fn begin_session_on_fresh_disk(
     alloc: Global,
     geometry: Geometry,
+    order: NameOrder,
 ) -> Result<Session<NewImageDevice>, Error>
-    ensures begins { IfOk result (λ s. SessionBeginsOnFreshDisk geometry (system_state_of_session_view s)) }
+    ensures begins { IfOk result (λ s. SessionBeginsOnFreshDisk geometry order (system_state_of_session_view s)) }
     ensures err { IfErr result (λ e. e ≡ Error.NoMemory) }
 {
     let device = NewImageDevice::new(alloc, geometry)?;
-    match format_ordered(alloc, device, geometry.order) {
+    match format_ordered(alloc, device, order) {
         Ok(session) => Ok(session),
         // The device had no fault, so memory ran out.
         Err((_device, error)) => Err(error),
@@ -51,25 +53,27 @@ fn begin_session_on_fresh_disk(
 pub(crate) fn new_image_of_entries<F: FollowsProgress>(
     alloc: Global,
     geometry: Geometry,
+    order: NameOrder,
     entries: &[SourceEntry],
     progress: &mut F,
 ) -> Result<NewImageDevice, Error>
-    ensures ok { IfOk result (λ d. AreImageBytesOfEntries geometry entries.now (bytes_of_new_image_device d)) }
+    ensures ok { IfOk result (λ d. AreImageBytesOfEntries geometry order entries.now (bytes_of_new_image_device d)) }
     ensures told { OnOk result (F.told progress.new ≡ told_of_all_done (amounts_of_entries entries.now) (F.told progress.old)) }
-    ensures told_before { IfErr result (IsToldOfCopyBeforeError geometry entries.now (F.told progress.old) (F.told progress.new)) }
-    ensures err { IfErr result (λ e. e ≢ Error.NoMemory → RefusesCopyOfEntries geometry entries.now e) }
+    ensures told_before { IfErr result (IsToldOfCopyBeforeError geometry order entries.now (F.told progress.old) (F.told progress.new)) }
+    ensures err { IfErr result (λ e. e ≢ Error.NoMemory → RefusesCopyOfEntries geometry order entries.now e) }
 {
-    let mut session = begin_session_on_fresh_disk(alloc, geometry)?;
+    let mut session = begin_session_on_fresh_disk(alloc, geometry, order)?;
     copy_entries_into_session(alloc, &mut session, entries, progress)?;
     Ok(session.unmount())
 }
 
 /// Writes an image of a geometry that holds what a source has. The names in its directories have
-/// the geometry's order, and its limits are those of the geometry's profile. All of the source is read first. Its entries are then copied into an empty
-/// file system, depth first and in name order, the shorter names first. A folder is made. A file is
-/// opened to create it, its bytes are written at once, and it is closed. Nothing is written where
-/// one of these operations is refused. The writer is flushed once, when all is written. `progress` is
-/// told the files and bytes of the whole, and of each entry that is copied.
+/// that order, and its limits are those of the geometry's profile. All of the source is read first.
+/// Its entries are then copied into an empty file system, depth first and in name order, the shorter
+/// names first. A folder is made. A file is opened to create it, its bytes are written at once, and
+/// it is closed. Nothing is written where one of these operations is refused. The writer is flushed
+/// once, when all is written. `progress` is told the files and bytes of the whole, and of each entry
+/// that is copied.
 ///
 /// # Errors
 /// - `Input` where the source couldn't be read, or a name in a folder of it is given twice or isn't
@@ -84,25 +88,26 @@ pub fn create<S: Source, W: ToolOutput, F: FollowsProgress>(
     alloc: Global,
     source: &mut S,
     geometry: Geometry,
+    order: NameOrder,
     out: &mut W,
     progress: &mut F,
 ) -> Result<(), ToolError>
-    ensures ok { OnOk result (HasWrittenImageOfSource geometry (S.shown source.old) (W.contents out.old) (W.contents out.new)) }
+    ensures ok { OnOk result (HasWrittenImageOfSource geometry order (S.shown source.old) (W.contents out.old) (W.contents out.new)) }
 
     // The follower is told of the whole, and of each entry that is copied.
-    ensures told { IsToldOfEntriesCopied geometry (S.shown source.old) (F.told progress.old) (F.told progress.new) result }
+    ensures told { IsToldOfEntriesCopied geometry order (S.shown source.old) (F.told progress.old) (F.told progress.new) result }
 
     // One flush succeeds, at the end, or the writer fails: then a beginning of the image may be written.
     ensures writer { ReportsWriterFaults W.ToolOutput out.old out.new result }
     ensures beginning { IsErrOf result ToolError.Output
-        → HasWrittenBeginningOfImage geometry (S.shown source.old) (W.contents out.old) (W.contents out.new) }
+        → HasWrittenBeginningOfImage geometry order (S.shown source.old) (W.contents out.old) (W.contents out.new) }
 
     // When each other error comes.
-    ensures refused { (e : _) → IsErrOf result (ToolError.Fs e) → e ≢ Error.NoMemory → RefusesCopyOfSource geometry (S.shown source.old) e }
+    ensures refused { (e : _) → IsErrOf result (ToolError.Fs e) → e ≢ Error.NoMemory → RefusesCopyOfSource geometry order (S.shown source.old) e }
     ensures source { ReportsSourceFaults (S.faults source.old) (S.faults source.new) (S.shown source.old) result }
 {
     let entries = read_source_entries(alloc, source)?;
-    match new_image_of_entries(alloc, geometry, entries.as_slice(), progress) {
+    match new_image_of_entries(alloc, geometry, order, entries.as_slice(), progress) {
         Ok(image) => write_padded_bytes_and_flush(out, image.bytes_in_memory(), image.size()),
         Err(error) => Err(ToolError::Fs(error)),
     }

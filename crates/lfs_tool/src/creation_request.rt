@@ -21,7 +21,7 @@ pub fn create_for_command_line<S: Source, W: ToolOutput, F: FollowsProgress>(
     out: &mut W,
     progress: &mut F,
 ) -> Result<(), ToolError>
-    ensures ok { OnOk result ((g : _) × (HasSizesOfCommandLine line.now g × HasWrittenImageOfSource g (S.shown source.old) (W.contents out.old) (W.contents out.new))) }
+    ensures ok { OnOk result ((g : _) × (HasSizesOfCommandLine line.now g × HasWrittenImageOfSource g line.now.order (S.shown source.old) (W.contents out.old) (W.contents out.new))) }
 
     // The follower is told of the whole, and of each entry that is copied. Where no image has these sizes it is told of nothing.
     ensures told { IsToldOfRequestedImage line.now (S.shown source.old) (F.told progress.old) (F.told progress.new) result }
@@ -29,24 +29,22 @@ pub fn create_for_command_line<S: Source, W: ToolOutput, F: FollowsProgress>(
     // One flush succeeds, at the end, or the writer fails: then a beginning of the image may be written.
     ensures writer { ReportsWriterFaults W.ToolOutput out.old out.new result }
     ensures beginning { IsErrOf result ToolError.Output
-        → (g : _) × (HasSizesOfCommandLine line.now g × HasWrittenBeginningOfImage g (S.shown source.old) (W.contents out.old) (W.contents out.new)) }
+        → (g : _) × (HasSizesOfCommandLine line.now g × HasWrittenBeginningOfImage g line.now.order (S.shown source.old) (W.contents out.old) (W.contents out.new)) }
 
     // When each other error comes. Where no image has these sizes, which `told` says is `Invalid`, the source isn't read.
     ensures refused { (e : _) → IsErrOf result (ToolError.Fs e) → e ≢ Error.NoMemory
-        → (IsErrorWhereNoGeometryHasSizes line.now e × (source.new ≡ source.old)) ⊎ ((g : _) × (HasSizesOfCommandLine line.now g × RefusesCopyOfSource g (S.shown source.old) e)) }
+        → (IsErrorWhereNoGeometryHasSizes line.now e × (source.new ≡ source.old)) ⊎ ((g : _) × (HasSizesOfCommandLine line.now g × RefusesCopyOfSource g line.now.order (S.shown source.old) e)) }
     ensures source { ReportsSourceFaults (S.faults source.old) (S.faults source.new) (S.shown source.old) result }
 {
     match geometry_of_image_sizes(line.size, line.block_size, line.page) {
-        Ok(geometry) => {
-            let geometry = geometry.with_name_order(line.order);
-            create(
-                alloc,
-                source,
-                geometry.with_profile(line.profile),
-                out,
-                progress,
-            )
-        }
+        Ok(geometry) => create(
+            alloc,
+            source,
+            geometry.with_profile(line.profile),
+            line.order,
+            out,
+            progress,
+        ),
         Err(error) => Err(ToolError::Fs(error)),
     }
 }

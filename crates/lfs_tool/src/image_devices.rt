@@ -8,19 +8,20 @@ ghost use Rattle.lfs_model.specs.Geometry.{IsValidGeometry};
 ghost use Rattle.lfs_model.specs.Thread.{Pair};
 ghost use Rattle.lfs_model.specs.View.{IsAcceptedImage};
 ghost use Rattle.lfs_model.specs.declared.order.NameOrder.{NameOrder};
+ghost use Rattle.lfs_model.specs.declared.order.NameOrder.TheVariants.{LongerFirst};
 ghost use Rattle.lfs_tool.specs.ExcerptBlocks.{AreExcerptsOfBlocksWithSize};
 ghost use Rattle.lfs_tool.specs.ExcerptView as excerpt;
 ghost use Rattle.lfs_mount.specs.Device.{IsIoCorruptOrNoMemory};
-ghost use Rattle.lfs_mount.specs.Either.{ReturnsUnchangedDeviceWithError};
+ghost use Rattle.lfs_thread.specs.Device.{GivesDeviceBackOnlyReadWithError};
 ghost use Rattle.lfs_thread.specs.Kept.{disk_of_device};
 ghost use Rattle.lfs_tool.specs.Blocks.{DeviceOfExcerptHasTheseBlocksAndSizes};
 ghost use Rattle.lfs_tool.specs.Listings.{IsThreadWithEntriesOfTreeWalk, IsMountErrorOfDisk};
 ghost use Rattle.lfs_lookup.specs.Walk.{tree_items_view};
 
 use crate::{BlockExcerpt, ExcerptDevice, ImageLayout, excerpt_is_read_without_fault};
-use lfs_device::{BlockDevice, Error, Geometry, Ordered, RamDevice};
+use lfs_device::{BlockDevice, Error, Geometry, RamDevice};
 use lfs_lookup::{TreeItem, walk_tree};
-use lfs_mount::mount_with_either_name_order;
+use lfs_mount::mount;
 use lfs_thread::Thread;
 use std::alloc::Global;
 
@@ -43,7 +44,7 @@ fn geometry_of_image_length(len: usize, layout: ImageLayout) -> Result<Geometry,
 pub(crate) fn ram_device_of_image(image: Vec<u8>, layout: ImageLayout) -> Result<RamDevice, Error>
     requires { length image.items < 2 ^ 32 }
     ensures image { OnOk result (IsImageOfWholeBlocks layout.block_size layout.page image.items) }
-    ensures disk { IfOk result (λ d. (order : NameOrder) → disk_in_order order (shown (geometry_of_ram_device d) (ram_blocks d)) ≡ disk_of_image layout.block_size layout.page layout.profile order image.items) }
+    ensures disk { IfOk result (λ d. shown (geometry_of_ram_device d) (ram_blocks d) ≡ disk_of_image layout.block_size layout.page layout.profile LongerFirst image.items) }
     ensures no_call { IfOk result (λ d. history_of_ram_device d ≡ []) }
     ensures err { IfErr result (λ e. (e ≡ Error.Invalid) × (¬ IsImageOfWholeBlocks layout.block_size layout.page image.items)) }
 {
@@ -72,16 +73,16 @@ pub(crate) fn excerpt_device_of_blocks(
 pub(crate) fn tree_items_of_device<D: BlockDevice>(
     alloc: Global,
     device: D,
-) -> Result<(Thread<Ordered<D>>, Vec<TreeItem>), (D, Error)>
+) -> Result<(Thread<D>, Vec<TreeItem>), (D, Error)>
     ensures items { IfOk result (λ found. IsThreadWithEntriesOfTreeWalk (disk_of_device D.BlockDevice device) found.0 (tree_items_view found.1.items)) }
     ensures corrupt { IfErr result (λ e. e.1 ≡ Error.Corrupt → (order : NameOrder) (ps : List Pair) → ¬ IsAcceptedImage (disk_in_order order (disk_of_device D.BlockDevice device)) ps) }
     ensures errors { IfErr result (λ e. IsIoCorruptOrNoMemory e.1) }
-    ensures back { IfErr result (λ e. ReturnsUnchangedDeviceWithError D.BlockDevice device e.0 e.1) }
+    ensures back { IfErr result (λ e. GivesDeviceBackOnlyReadWithError D.BlockDevice device e.0 e.1) }
 {
-    let mut thread = mount_with_either_name_order(alloc, device)?;
+    let mut thread = mount(alloc, device)?;
     match walk_tree(alloc, &mut thread) {
         Ok(items) => Ok((thread, items)),
-        Err(error) => Err((thread.into_device().into_inner(), error)),
+        Err(error) => Err((thread.into_device(), error)),
     }
 }
 
@@ -89,7 +90,7 @@ pub(crate) fn tree_items_of_device<D: BlockDevice>(
 pub(crate) fn tree_items_of_excerpt(
     alloc: Global,
     device: ExcerptDevice,
-) -> Result<(Thread<Ordered<ExcerptDevice>>, Vec<TreeItem>), Error>
+) -> Result<(Thread<ExcerptDevice>, Vec<TreeItem>), Error>
     ensures items { IfOk result (λ found. IsThreadWithEntriesOfTreeWalk (shown (excerpt.geometry_of_excerpt_device device) (excerpt.blocks_of_excerpt_filled_up device)) found.0 (tree_items_view found.1.items)) }
     ensures err { IfErr result (IsMountErrorOfDisk (shown (excerpt.geometry_of_excerpt_device device) (excerpt.blocks_of_excerpt_filled_up device))) }
 {
@@ -106,7 +107,7 @@ pub(crate) fn tree_items_of_excerpt(
 pub(crate) fn tree_items_of_ram_device(
     alloc: Global,
     device: RamDevice,
-) -> Result<(Thread<Ordered<RamDevice>>, Vec<TreeItem>), Error>
+) -> Result<(Thread<RamDevice>, Vec<TreeItem>), Error>
     ensures items { IfOk result (λ found. IsThreadWithEntriesOfTreeWalk (shown (geometry_of_ram_device device) (ram_blocks device)) found.0 (tree_items_view found.1.items)) }
     ensures err { IfErr result (IsMountErrorOfDisk (shown (geometry_of_ram_device device) (ram_blocks device))) }
 {

@@ -10,16 +10,15 @@ ghost use Rattle.lfs_tool.specs.Verdict.{IsAcceptedInNoNameOrder, IsVerdictOnDis
 ghost use Rattle.lfs_model.specs.BlockSets.{AreExactlyTheUsedBlocks};
 ghost use Rattle.lfs_model.specs.Shown.{used_blocks};
 ghost use Rattle.lfs_model.specs.View.{IsAcceptedImage};
-ghost use Rattle.lfs_model.specs.declared.order.NameOrder.{NameOrder};
 ghost use Rattle.lfs_model.specs.declared.order.NameOrder.TheVariants.{LongerFirst, ShorterFirst};
 
 use crate::findings::Finding;
 use crate::searches::find_broken_rule_on_device;
 use crate::summaries::image_summary_of_thread;
 use crate::verdict::{AcceptedOrders, ImageVerdict};
-use lfs_device::{Error, Ordered, RamDevice};
+use lfs_device::{Error, RamDevice};
 use lfs_model::NameOrder;
-use lfs_mount::{mount, mount_with_either_name_order};
+use lfs_mount::{mount, mount_in_order};
 use lfs_thread::Thread;
 use std::alloc::Global;
 
@@ -32,7 +31,7 @@ fn is_accepted_in_name_order(
     ensures is { IfOk result (λ b. IsTrue b ↔ IsAcceptedInNameOrder order (disk_of_geometry_and_blocks (geometry_of_ram_device device) (ram_blocks device))) }
     ensures err { IfErr result (λ e. e ≡ Error.NoMemory) }
 {
-    match mount(alloc, Ordered::new(device, order)) {
+    match mount_in_order(alloc, device, order) {
         Ok(_thread) => Ok(true),
         Err((_device, Error::Corrupt)) => Ok(false),
         Err((_device, error)) => Err(error),
@@ -79,35 +78,30 @@ fn finding_on_refused_device(alloc: Global, device: &mut RamDevice) -> Result<Fi
 }
 
 // Returns what a mounted image has.
-fn judge_thread(
-    alloc: Global,
-    mut thread: Thread<Ordered<RamDevice>>,
-) -> Result<ImageVerdict, Error>
+fn judge_thread(alloc: Global, mut thread: Thread<RamDevice>) -> Result<ImageVerdict, Error>
     requires works { thread.failed ≡ false }
     requires accepted { IsAcceptedImage thread.kept.disk thread.kept.pairs }
     requires used { AreExactlyTheUsedBlocks thread.kept.map (used_blocks thread.kept.disk thread.kept.pairs) }
     requires longer { thread.kept.disk.order ≡ ShorterFirst → ¬ IsAcceptedInNameOrder LongerFirst thread.kept.disk }
-    ensures verdict { IfOk result (IsVerdictOnDisk thread.kept.disk) }
+    ensures verdict { IfOk result (IsVerdictOnDisk (disk_in_order LongerFirst thread.kept.disk)) }
     ensures err { IfErr result (λ e. e ≡ Error.NoMemory) }
 {
     let summary = image_summary_of_thread(alloc, &mut thread)?;
-    let device = thread.into_device();
-    let order = device.order();
-    let orders = accepted_name_orders(alloc, device.into_inner(), order)?;
+    let order = thread.order();
+    let orders = accepted_name_orders(alloc, thread.into_device(), order)?;
     Ok(ImageVerdict::Accepted { summary, orders })
 }
 
 /// Returns whether the image of a device in memory is accepted, and with what, or why not. The
 /// result is `Accepted` exactly where a mount takes the image, in whichever order its names are.
-/// Where it isn't accepted, a rule that it breaks is named. The order of names of the device's own
-/// geometry doesn't matter.
+/// Where it isn't accepted, a rule that it breaks is named.
 ///
 /// Errors: `NoMemory` where memory isn't granted.
 pub fn judge_image_on_device(alloc: Global, device: RamDevice) -> Result<ImageVerdict, Error>
-    ensures verdict { IfOk result (λ verdict. (order : NameOrder) → IsVerdictOnDisk (disk_in_order order (disk_of_geometry_and_blocks (geometry_of_ram_device device) (ram_blocks device))) verdict) }
+    ensures verdict { IfOk result (IsVerdictOnDisk (disk_of_geometry_and_blocks (geometry_of_ram_device device) (ram_blocks device))) }
     ensures err { IfErr result (λ e. e ≡ Error.NoMemory) }
 {
-    match mount_with_either_name_order(alloc, device) {
+    match mount(alloc, device) {
         Ok(thread) => judge_thread(alloc, thread),
         Err((mut device, Error::Corrupt)) => {
             let finding = finding_on_refused_device(alloc, &mut device)?;

@@ -49,9 +49,8 @@ fn has_room_for_entries(
     ensures err { IfErr result (IsErrorOfSomeTrial line.now entries.now) }
 {
     let sized = Geometry::new(line.block_size, line.page, count)?;
-    let ordered = sized.with_name_order(line.order);
-    let geometry = ordered.with_profile(line.profile);
-    match new_image_of_entries(alloc, geometry, entries, &mut ()) {
+    let geometry = sized.with_profile(line.profile);
+    match new_image_of_entries(alloc, geometry, line.order, entries, &mut ()) {
         Ok(_image) => Ok(true),
         Err(error) => match error {
             Error::NoSpace => Ok(false),

@@ -15,7 +15,7 @@ ghost use Rattle.lfs_tool.specs.WritingProfiles.{IsWritingProfileOfImage};
 
 use crate::verdict::{ImageSummary, WritingProfile};
 use crate::writing_profiles::writing_profile_of_thread;
-use lfs_device::{Error, Ordered, Profile, RamDevice};
+use lfs_device::{Error, Profile, RamDevice};
 use lfs_lookup::{OwnedStruct, TreeItem, find_root, superblock, walk_tree};
 use lfs_tag::{MoveState, Superblock};
 use lfs_thread::Thread;
@@ -55,7 +55,7 @@ fn has_unfinished_operation(state: &MoveState) -> bool
 // Returns all entries of the image.
 fn tree_items_of_thread(
     alloc: Global,
-    thread: &mut Thread<Ordered<RamDevice>>,
+    thread: &mut Thread<RamDevice>,
 ) -> Result<Vec<TreeItem>, Error>
     requires works { thread.old.failed ≡ false }
     requires accepted { IsAcceptedImage thread.old.kept.disk thread.old.kept.pairs }
@@ -74,10 +74,7 @@ fn tree_items_of_thread(
 }
 
 // Returns the number of the root directory's first pair.
-fn root_index_of_thread(
-    alloc: Global,
-    thread: &mut Thread<Ordered<RamDevice>>,
-) -> Result<usize, Error>
+fn root_index_of_thread(alloc: Global, thread: &mut Thread<RamDevice>) -> Result<usize, Error>
     requires works { thread.old.failed ≡ false }
     requires accepted { IsAcceptedImage thread.old.kept.disk thread.old.kept.pairs }
     ensures root { IfOk result (λ root. root ≡ pair_count_before_root thread.old.kept.pairs) }
@@ -97,7 +94,7 @@ fn root_index_of_thread(
 // Returns whether the image may be changed, or what of it isn't in the writing profile.
 fn writing_profile_of_image(
     alloc: Global,
-    thread: &mut Thread<Ordered<RamDevice>>,
+    thread: &mut Thread<RamDevice>,
     root: usize,
 ) -> Result<WritingProfile, Error>
     requires works { thread.old.failed ≡ false }
@@ -126,7 +123,7 @@ fn is_default_profile(profile: &Profile) -> bool
 // Returns the superblock of the image, where the profile isn't the default one.
 fn superblock_to_tell_of(
     alloc: Global,
-    thread: &mut Thread<Ordered<RamDevice>>,
+    thread: &mut Thread<RamDevice>,
     root: usize,
 ) -> Result<Option<Superblock>, Error>
     requires works { thread.old.failed ≡ false }
@@ -153,7 +150,7 @@ fn superblock_to_tell_of(
 // Returns what the image has.
 pub(crate) fn image_summary_of_thread(
     alloc: Global,
-    thread: &mut Thread<Ordered<RamDevice>>,
+    thread: &mut Thread<RamDevice>,
 ) -> Result<ImageSummary, Error>
     requires works { thread.old.failed ≡ false }
     requires accepted { IsAcceptedImage thread.old.kept.disk thread.old.kept.pairs }

@@ -17,7 +17,7 @@ ghost use Rattle.lfs_tool.specs.Reports.{IsReadToEndOrPastImageLimit, IsThisErro
 use crate::image_devices::{ram_device_of_image, tree_items_of_ram_device};
 use crate::input::read_image;
 use crate::{FilesAndBytes, FollowsProgress, ImageInput, ImageLayout, ToolError};
-use lfs_device::{Error, Ordered, RamDevice};
+use lfs_device::{Error, RamDevice};
 use lfs_lookup::{OwnedStruct, TreeItem, read_file_bytes_of_struct};
 use lfs_thread::Thread;
 use lfs_tool_folders::{Target, TargetError};
@@ -26,7 +26,7 @@ use std::alloc::Global;
 // Returns the bytes of a file of an image in memory.
 fn file_bytes(
     alloc: Global,
-    thread: &mut Thread<Ordered<RamDevice>>,
+    thread: &mut Thread<RamDevice>,
     structure: &OwnedStruct,
 ) -> Result<Vec<u8>, ToolError>
     requires works { thread.old.failed ≡ false }
@@ -59,7 +59,7 @@ fn tool_error_of_target_error(error: TargetError) -> ToolError
 // Does the action of one item.
 fn put_tree_item<T: Target>(
     alloc: Global,
-    thread: &mut Thread<Ordered<RamDevice>>,
+    thread: &mut Thread<RamDevice>,
     item: &TreeItem,
     target: &mut T,
 ) -> Result<(), ToolError>
@@ -114,7 +114,7 @@ fn file_and_byte_counts_of_items(items: &[TreeItem]) -> FilesAndBytes
 // Does the actions of the items, in order.
 fn put_tree_items<T: Target, F: FollowsProgress>(
     alloc: Global,
-    thread: &mut Thread<Ordered<RamDevice>>,
+    thread: &mut Thread<RamDevice>,
     items: &[TreeItem],
     target: &mut T,
     progress: &mut F,

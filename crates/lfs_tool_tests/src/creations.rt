@@ -3,6 +3,7 @@
 use crate::sources::{Items, memory_source_of_items};
 use crate::texts::{list_text, unpack_text, with_error_line};
 use lfs_device::{Error, Geometry};
+use lfs_model::NameOrder;
 use lfs_tool::{ImageLayout, WatchedStream, create};
 use lfs_tool_folders::MemorySource;
 use std::alloc::Global;
@@ -23,7 +24,14 @@ fn is_made_image_as_expected(
 ) -> Result<bool, Error> {
     let mut source = source;
     let mut out = WatchedStream::new(Vec::new(alloc));
-    let result = create(alloc, &mut source, geometry, &mut out, &mut ());
+    let result = create(
+        alloc,
+        &mut source,
+        geometry,
+        NameOrder::LongerFirst,
+        &mut out,
+        &mut (),
+    );
     let image = out.into_inner();
     if result.is_err() {
         return Ok(with_error_line(alloc, image, result)?.as_slice() == lines);
@@ -177,6 +185,7 @@ fn an_image_has_these_bytes(rt: HostRuntime) -> Result<(), Fail> {
         rt.alloc(),
         &mut source,
         Geometry::new(4096, 256, 16)?,
+        NameOrder::LongerFirst,
         &mut out,
         &mut (),
     );

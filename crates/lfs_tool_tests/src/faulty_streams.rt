@@ -5,6 +5,7 @@ use crate::sources::memory_source_of_items;
 use crate::texts::{list_text, unpack_text, with_error_line};
 use lfs_device::{Error, Geometry};
 use lfs_fixtures::image_with_first_two_blocks;
+use lfs_model::NameOrder;
 use lfs_tool::{ImageLayout, WatchedStream, create, list};
 use std::alloc::{AllocError, Global};
 use std::io;
@@ -177,6 +178,7 @@ fn text_from_failing_writer(
             alloc,
             &mut source,
             Geometry::new(4096, 256, 16)?,
+            NameOrder::LongerFirst,
             &mut writer,
             &mut (),
         )

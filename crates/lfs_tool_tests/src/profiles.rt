@@ -6,6 +6,7 @@ use crate::sources::{Items, memory_source_of_items};
 use crate::texts::{check_text, list_text, unpack_text, with_error_line};
 use lfs_device::{AcceptedVersions, Error, Geometry, Profile};
 use lfs_fixtures::{BlockFilling, FixtureEntries, image_with_second_commit};
+use lfs_model::NameOrder;
 use lfs_tool::{ImageLayout, WatchedStream, create};
 use std::alloc::{AllocError, Global};
 use std::test::Fail;
@@ -348,7 +349,14 @@ fn text_of_made_image(alloc: Global, items: Items<'_>, profile: Profile) -> Resu
     let mut source = memory_source_of_items(alloc, items)?;
     let geometry = Geometry::new(4096, 256, 16)?.with_profile(profile);
     let mut out = WatchedStream::new(Vec::new(alloc));
-    let result = create(alloc, &mut source, geometry, &mut out, &mut ());
+    let result = create(
+        alloc,
+        &mut source,
+        geometry,
+        NameOrder::LongerFirst,
+        &mut out,
+        &mut (),
+    );
     let image = out.into_inner();
     if result.is_err() {
         let text = with_error_line(alloc, image, result)?;

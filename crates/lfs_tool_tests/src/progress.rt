@@ -5,6 +5,7 @@ use crate::images::{BELOW, ENTRIES};
 use crate::sources::memory_source_of_items;
 use lfs_device::{Error, Geometry};
 use lfs_fixtures::image_with_second_commit;
+use lfs_model::NameOrder;
 use lfs_tool::{
     FilesAndBytes, FollowsProgress, ImageLayout, Progress, RealPlaces, WatchedStream, create,
     run_and_return_exit_status, unpack,
@@ -173,7 +174,14 @@ fn progress_of_making_image(alloc: Global) -> Result<RecordedProgress, Error> {
     let mut out = WatchedStream::new(Vec::new(alloc));
     let mut told = no_progress_told(alloc);
     let geometry = Geometry::new(4096, 256, 16)?;
-    let _ = create(alloc, &mut source, geometry, &mut out, &mut told);
+    let _ = create(
+        alloc,
+        &mut source,
+        geometry,
+        NameOrder::LongerFirst,
+        &mut out,
+        &mut told,
+    );
     Ok(told)
 }
 

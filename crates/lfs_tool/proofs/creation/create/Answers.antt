@@ -14,9 +14,9 @@ pub returns-in-Ok-clause-ok : goal.returns-in-Ok-clause-ok
 returns-in-Ok-clause-ok g c =
     let entries = c.in_ok-entries.entries.items in
     let all = c.in_ok-entries.ensures.entries in
-    let l = passed c.args.geometry entries c.as_slice.result.now (bytes_of_new_image_device c.in-Ok.image) (bytes_padded_to_size c.size.result c.bytes_in_memory.result.now) c.as_slice.ensures.value (ap (bytes_padded_to_size c.size.result) c.bytes_in_memory.ensures ∙ sym c.size.ensures.bytes) c.in-Ok.ensures.ok in
+    let l = passed c.args.geometry c.args.order entries c.as_slice.result.now (bytes_of_new_image_device c.in-Ok.image) (bytes_padded_to_size c.size.result c.bytes_in_memory.result.now) c.as_slice.ensures.value (ap (bytes_padded_to_size c.size.result) c.bytes_in_memory.ensures ∙ sym c.size.ensures.bytes) c.in-Ok.ensures.ok in
     IfOk-weaker c.write_padded_bytes_and_flush.result _ _
-    (λ _ appends. (entries, (all, (carry_over (g.S.Source.shown c.args.source.now) entries all, ((bytes_padded_to_size c.size.result c.bytes_in_memory.result.now), (l, (made c.args.geometry (g.S.Source.shown c.args.source.now) entries (bytes_padded_to_size c.size.result c.bytes_in_memory.result.now) all l, appends)))))))
+    (λ _ appends. (entries, (all, (carry_over (g.S.Source.shown c.args.source.now) entries all, ((bytes_padded_to_size c.size.result c.bytes_in_memory.result.now), (l, (made c.args.geometry c.args.order (g.S.Source.shown c.args.source.now) entries (bytes_padded_to_size c.size.result c.bytes_in_memory.result.now) all l, appends)))))))
     c.write_padded_bytes_and_flush.ensures.ok
 
 pub returns-in-Ok-clause-writer : goal.returns-in-Ok-clause-writer
@@ -26,23 +26,23 @@ pub returns-in-Ok-clause-beginning : goal.returns-in-Ok-clause-beginning
 returns-in-Ok-clause-beginning g c = λ _.
     let entries = c.in_ok-entries.entries.items in
     let all = c.in_ok-entries.ensures.entries in
-    let l = passed c.args.geometry entries c.as_slice.result.now (bytes_of_new_image_device c.in-Ok.image) (bytes_padded_to_size c.size.result c.bytes_in_memory.result.now) c.as_slice.ensures.value (ap (bytes_padded_to_size c.size.result) c.bytes_in_memory.ensures ∙ sym c.size.ensures.bytes) c.in-Ok.ensures.ok in
-    ((bytes_padded_to_size c.size.result c.bytes_in_memory.result.now), (made c.args.geometry (g.S.Source.shown c.args.source.now) entries (bytes_padded_to_size c.size.result c.bytes_in_memory.result.now) all l, c.write_padded_bytes_and_flush.ensures.beginning))
+    let l = passed c.args.geometry c.args.order entries c.as_slice.result.now (bytes_of_new_image_device c.in-Ok.image) (bytes_padded_to_size c.size.result c.bytes_in_memory.result.now) c.as_slice.ensures.value (ap (bytes_padded_to_size c.size.result) c.bytes_in_memory.ensures ∙ sym c.size.ensures.bytes) c.in-Ok.ensures.ok in
+    ((bytes_padded_to_size c.size.result c.bytes_in_memory.result.now), (made c.args.geometry c.args.order (g.S.Source.shown c.args.source.now) entries (bytes_padded_to_size c.size.result c.bytes_in_memory.result.now) all l, c.write_padded_bytes_and_flush.ensures.beginning))
 
 pub returns-clause-refused : goal.returns-clause-refused
 returns-clause-refused g c = λ e is not_memory.
     let entries = c.in_ok-entries.entries.items in
     let error : c.in-Err.error ≡ e = cc in
-    let refused : RefusesCopyOfEntries c.args.geometry entries c.in-Err.error =
-    subst (λ (es : List SourceEntry). RefusesCopyOfEntries c.args.geometry es c.in-Err.error) c.as_slice.ensures.value (c.in-Err.ensures.err (λ x. not_memory (sym error ∙ x))) in
-    (entries, (c.in_ok-entries.ensures.entries, (carry_over (g.S.Source.shown c.args.source.now) entries c.in_ok-entries.ensures.entries, subst (RefusesCopyOfEntries c.args.geometry entries) error refused)))
+    let refused : RefusesCopyOfEntries c.args.geometry c.args.order entries c.in-Err.error =
+    subst (λ (es : List SourceEntry). RefusesCopyOfEntries c.args.geometry c.args.order es c.in-Err.error) c.as_slice.ensures.value (c.in-Err.ensures.err (λ x. not_memory (sym error ∙ x))) in
+    (entries, (c.in_ok-entries.ensures.entries, (carry_over (g.S.Source.shown c.args.source.now) entries c.in_ok-entries.ensures.entries, subst (RefusesCopyOfEntries c.args.geometry c.args.order entries) error refused)))
 
 pub returns-in-Ok-clause-told : goal.returns-in-Ok-clause-told
 returns-in-Ok-clause-told g c =
     let entries = c.in_ok-entries.entries.items in
     let old = g.F.FollowsProgress.told c.args.progress.now in
     let new = g.F.FollowsProgress.told c.new_image_of_entries.new.progress in
-    told_copied _ c.write_padded_bytes_and_flush.result c.args.geometry (g.S.Source.shown c.args.source.now) entries old new c.write_padded_bytes_and_flush.ensures.failed c.in_ok-entries.ensures.entries
+    told_copied _ c.write_padded_bytes_and_flush.result c.args.geometry c.args.order (g.S.Source.shown c.args.source.now) entries old new c.write_padded_bytes_and_flush.ensures.failed c.in_ok-entries.ensures.entries
     (subst (λ (es : List SourceEntry). new ≡ told_of_all_done (amounts_of_entries es) old) c.as_slice.ensures.value c.in-Ok.ensures.told)
 
 pub returns-clause-told : goal.returns-clause-told
@@ -51,6 +51,6 @@ returns-clause-told g c =
       c.in_ok-entries.entries.items,
       (
         c.in_ok-entries.ensures.entries,
-        subst (λ (es : List SourceEntry). IsToldOfCopyBeforeError c.args.geometry es (g.F.FollowsProgress.told c.args.progress.now) (g.F.FollowsProgress.told c.new_image_of_entries.new.progress) c.in-Err.error) c.as_slice.ensures.value c.in-Err.ensures.told_before,
+        subst (λ (es : List SourceEntry). IsToldOfCopyBeforeError c.args.geometry c.args.order es (g.F.FollowsProgress.told c.args.progress.now) (g.F.FollowsProgress.told c.new_image_of_entries.new.progress) c.in-Err.error) c.as_slice.ensures.value c.in-Err.ensures.told_before,
       ),
     )

@@ -18,9 +18,9 @@ returns-in-Some-Refused c layout image stated judged given =
     let inner = e.field-0-is in
     let is : c.args.verdict ≡ Some (verdict.Refused e.finding) = cc in
     let j = subst (IsVerdictOnBytes layout image) is judged in
-    c.refused_check_result.ensures layout image (λ image_is order. (j.1 order).0) stated (λ is. (subst (IsWrongNumberIfAny layout image) is stated, (j.0, λ order. (j.1 order).1))) given
+    c.refused_check_result.ensures layout image (λ image_is. j.1.0) stated (λ is. (subst (IsWrongNumberIfAny layout image) is stated, (j.0, j.1.1))) given
 
 pub returns-in-None : goal.returns-in-None
 returns-in-None c layout image stated judged given =
     let j = subst (IsVerdictOnBytes layout image) c.in-None.is judged in
-    c.refused_check_result-in-None.ensures layout image (λ image_is order. absurd (j image_is)) stated (λ is. (subst (IsWrongNumberIfAny layout image) is stated, j)) given
+    c.refused_check_result-in-None.ensures layout image (λ image_is. absurd (j image_is)) stated (λ is. (subst (IsWrongNumberIfAny layout image) is stated, j)) given

@@ -6,4 +6,4 @@ use Rattle.lfs_tool.proofs.examination.judge_image.Goals as goal
 pub returns-in_ok-verdict-in-Ok-clause-judged : goal.returns-in_ok-verdict-in-Ok-clause-judged
 returns-in_ok-verdict-in-Ok-clause-judged c =
     let v = c.in_ok-verdict-in-Ok in
-    (c.in-Ok.ensures.image, λ order. subst (λ (d : Disk). IsVerdictOnDisk d v.verdict) (c.in-Ok.ensures.disk order) (v.ensures.verdict order))
+    (c.in-Ok.ensures.image, subst (λ (d : Disk). IsVerdictOnDisk d v.verdict) c.in-Ok.ensures.disk v.ensures.verdict)

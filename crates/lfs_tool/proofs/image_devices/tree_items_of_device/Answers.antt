@@ -1,8 +1,8 @@
 use Rattle.std.proofs.Common.{◌∙◌, Err, ap, arith, subst, sym}
 use Rattle.lfs_thread.specs.Kept.{disk_of_device}
-use Rattle.lfs_mount.specs.Either.{ReturnsUnchangedDeviceWithError}
 use Rattle.lfs_model.specs.Disk.{disk_in_order, Disk}
 use Rattle.lfs_model.specs.History.{AreCallsSinceOnlyReads, fault_count_of_history}
+use Rattle.lfs_model.specs.declared.order.NameOrder.TheVariants.{LongerFirst}
 use Rattle.lfs_model.proofs.Histories.{goes_on_by}
 use Rattle.lfs_model.specs.View.{IsAcceptedImage}
 use Rattle.lfs_lookup.specs.Walk.{ArePathsAndStructsOfWalk, tree_items_view}
@@ -28,10 +28,9 @@ returns-in-Err-clause-back g c =
     let m = c.in_ok-thread.ensures.mounted in
     let e = c.in-Err.ensures.reading in
     let history = c.into_device.ensures.history in
-    subst (λ back. ReturnsUnchangedDeviceWithError g.D.BlockDevice c.args.device back c.in-Err.error) (sym c.into_inner.ensures)
-    (record {
-      disk = λ order. ap (λ (d : Disk). disk_in_order order d) (c.into_device.ensures.disk ∙ e.only.disk ∙ m.disk_is);
+    record {
+      disk = ap (disk_in_order LongerFirst) (c.into_device.ensures.disk ∙ e.only.disk ∙ m.disk_is);
       reads = subst (AreCallsSinceOnlyReads disk.blocks (g.D.BlockDevice.history c.args.device)) (sym history) (goes_on_by m.reads (subst (λ d. AreCallsSinceOnlyReads d.blocks c.in_ok-thread.thread.kept.history c.walk_tree.new.thread.kept.history) m.disk_is e.only.reads));
       fault = λ io. (let more = e.reported.fault (ap Err io) in omega (arith, more, m.no_fault, ap fault_count_of_history history));
       no_fault = λ other. ap fault_count_of_history history ∙ e.reported.no_fault (λ io. other (cc)) ∙ m.no_fault;
-    })
+    }

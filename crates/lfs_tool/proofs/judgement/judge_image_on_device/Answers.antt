@@ -1,14 +1,12 @@
-use Rattle.std.proofs.Common.{ap, subst, sym}
+use Rattle.std.proofs.Common.{subst, sym}
 use Rattle.std.proofs.lemmas.Result.{IfOk-weaker}
-use Rattle.lfs_device.specs.RamDevice.{ram_blocks, geometry_of_ram_device}
-use Rattle.lfs_device.specs.Shown.{disk_of_geometry_and_blocks}
 use Rattle.lfs_model.specs.Disk.{disk_in_order, Disk}
 use Rattle.lfs_model.specs.BlockSets.{AreExactlyTheUsedBlocks}
 use Rattle.lfs_model.specs.Shown.{used_blocks}
 use Rattle.lfs_model.specs.View.{IsAcceptedImage}
 use Rattle.lfs_model.specs.declared.order.NameOrder.TheVariants.{LongerFirst}
-use Rattle.lfs_tool.proofs.Judged.{verdict_alike}
-use Rattle.lfs_tool.proofs.Reordered.{found_alike}
+use Rattle.lfs_tool.specs.Findings.{IsTrueFindingOfDisk}
+use Rattle.lfs_tool.specs.Verdict.{IsVerdictOnDisk}
 use Rattle.lfs_tool.proofs.judgement.judge_image_on_device.Goals as goal
 
 pub judge_thread-requires-clause-used : goal.judge_thread-requires-clause-used
@@ -22,19 +20,15 @@ judge_thread-requires-clause-longer c = λ is (ps, a).
 
 pub returns-in-Ok-clause-verdict : goal.returns-in-Ok-clause-verdict
 returns-in-Ok-clause-verdict c =
-    let disk = disk_of_geometry_and_blocks (geometry_of_ram_device c.args.device) (ram_blocks c.args.device) in
-    let m = c.in-Ok.ensures.mounted in
-    IfOk-weaker c.judge_thread.result _ _ (λ v h order. verdict_alike c.in-Ok.thread.kept.disk (disk_in_order order disk) LongerFirst v (ap (λ (d : Disk). disk_in_order LongerFirst d) m.disk_is) h) c.judge_thread.ensures.verdict
+    IfOk-weaker c.judge_thread.result _ _ (λ v h. subst (λ (d : Disk). IsVerdictOnDisk (disk_in_order LongerFirst d) v) c.in-Ok.ensures.mounted.disk_is h) c.judge_thread.ensures.verdict
 
 pub finding_on_refused_device-requires : goal.finding_on_refused_device-requires
 finding_on_refused_device-requires c =
     let e = c.in-Err-default-Corrupt in
-    λ order ps a. e.ensures.corrupt e.field-0-1-is order ps (subst (λ (d : Disk). IsAcceptedImage d ps) (e.ensures.back.disk order) a)
+    λ order ps a. e.ensures.corrupt e.field-0-1-is order ps (subst (λ (d : Disk). IsAcceptedImage (disk_in_order order d) ps) e.ensures.back.disk a)
 
 pub returns-in_ok-finding-in-Err-default-Corrupt-clause-verdict : goal.returns-in_ok-finding-in-Err-default-Corrupt-clause-verdict
 returns-in_ok-finding-in-Err-default-Corrupt-clause-verdict c =
-    let e = c.in-Err-default-Corrupt in λ order. (
-      (λ other ps a. e.ensures.corrupt e.field-0-1-is other ps a),
-      found_alike (disk_of_geometry_and_blocks (geometry_of_ram_device e.device) (ram_blocks e.device)) (disk_in_order order (disk_of_geometry_and_blocks (geometry_of_ram_device c.args.device) (ram_blocks c.args.device))) LongerFirst c.in_ok-finding-in-Err-default-Corrupt.finding
-          (e.ensures.back.disk LongerFirst) c.in_ok-finding-in-Err-default-Corrupt.ensures.found,
-    )
+    let e = c.in-Err-default-Corrupt in
+    let found = c.in_ok-finding-in-Err-default-Corrupt in
+    (e.ensures.corrupt e.field-0-1-is, subst (λ (d : Disk). IsTrueFindingOfDisk d found.finding) e.ensures.back.disk found.ensures.found)

@@ -7,36 +7,36 @@ use Rattle.lfs_model.specs.Thread.{Pair, gstate_of_pairs}
 use Rattle.lfs_tool.specs.ImageSummaries.{IsSuperblockToldOf, is_file_item, has_half_done_operation}
 use Rattle.lfs_tool.specs.WritingProfiles.{IsWritingProfileOfImage}
 use Rattle.lfs_tool.proofs.Counts.{as_many, files_alike}
-use Rattle.lfs_tool.proofs.Judged.{read_on}
+use Rattle.lfs_tool.proofs.ActionsDone.{only_trans}
 use Rattle.std.proofs.Common.{List, count_by}
 use Rattle.lfs_tool.proofs.summaries.image_summary_of_thread.Goals as goal
 
 pub returns-in_err-root-clause-only : goal.returns-in_err-root-clause-only
-returns-in_err-root-clause-only c = (read_on _ _ _ c.tree_items_of_thread.ensures.only.0 c.root_index_of_thread.ensures.only.0, c.root_index_of_thread.ensures.only.1)
+returns-in_err-root-clause-only c = (only_trans c.tree_items_of_thread.ensures.only.0 c.root_index_of_thread.ensures.only.0, c.root_index_of_thread.ensures.only.1)
 
 pub returns-in_err-superblock-clause-only : goal.returns-in_err-superblock-clause-only
 returns-in_err-superblock-clause-only c =
-    let two = read_on _ _ _ c.tree_items_of_thread.ensures.only.0 c.root_index_of_thread.ensures.only.0 in
-    (read_on _ _ _ two c.superblock_to_tell_of.ensures.only.0, c.superblock_to_tell_of.ensures.only.1)
+    let two = only_trans c.tree_items_of_thread.ensures.only.0 c.root_index_of_thread.ensures.only.0 in
+    (only_trans two c.superblock_to_tell_of.ensures.only.0, c.superblock_to_tell_of.ensures.only.1)
 
 pub returns-in_err-writable-clause-only : goal.returns-in_err-writable-clause-only
 returns-in_err-writable-clause-only c =
-    let two = read_on _ _ _ c.tree_items_of_thread.ensures.only.0 c.root_index_of_thread.ensures.only.0 in
-    (read_on _ _ _ (read_on _ _ _ two c.superblock_to_tell_of.ensures.only.0) c.writing_profile_of_image.ensures.only.0, c.writing_profile_of_image.ensures.only.1)
+    let two = only_trans c.tree_items_of_thread.ensures.only.0 c.root_index_of_thread.ensures.only.0 in
+    (only_trans (only_trans two c.superblock_to_tell_of.ensures.only.0) c.writing_profile_of_image.ensures.only.0, c.writing_profile_of_image.ensures.only.1)
 
 pub returns-clause-only : goal.returns-clause-only
 returns-clause-only c =
-    let two = read_on _ _ _ c.tree_items_of_thread.ensures.only.0 c.root_index_of_thread.ensures.only.0 in
-    (read_on _ _ _ (read_on _ _ _ two c.superblock_to_tell_of.ensures.only.0) c.writing_profile_of_image.ensures.only.0, c.writing_profile_of_image.ensures.only.1)
+    let two = only_trans c.tree_items_of_thread.ensures.only.0 c.root_index_of_thread.ensures.only.0 in
+    (only_trans (only_trans two c.superblock_to_tell_of.ensures.only.0) c.writing_profile_of_image.ensures.only.0, c.writing_profile_of_image.ensures.only.1)
 
 pub returns-clause-summary : goal.returns-clause-summary
 returns-clause-summary c =
     let disk = c.args.thread.now.kept.disk in
     let pairs = c.args.thread.now.kept.pairs in
     let items = c.in_ok-items.items.items in
-    let two = read_on _ _ _ c.tree_items_of_thread.ensures.only.0 c.root_index_of_thread.ensures.only.0 in
-    let three = read_on _ _ _ two c.superblock_to_tell_of.ensures.only.0 in
-    let four = read_on _ _ _ three c.writing_profile_of_image.ensures.only.0 in
+    let two = only_trans c.tree_items_of_thread.ensures.only.0 c.root_index_of_thread.ensures.only.0 in
+    let three = only_trans two c.superblock_to_tell_of.ensures.only.0 in
+    let four = only_trans three c.writing_profile_of_image.ensures.only.0 in
     let (entries, (walk, shows)) = c.in_ok-items.ensures.walked in
     let count = c.count_files-files.ensures.count ∙ ap (λ xs. count_by is_file_item xs) c.deref.ensures.value in
     let below = c.count_files-files.ensures.below in

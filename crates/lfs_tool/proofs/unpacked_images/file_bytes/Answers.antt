@@ -14,4 +14,4 @@ not_a_fault e old new (inr memory) fault none = memory
 pub returns-in-Err-clause-err : goal.returns-in-Err-clause-err
 returns-in-Err-clause-err c =
     let reported = c.in-Err.ensures.reading.reported in
-    ap Fs (not_a_fault c.in-Err.error _ _ reported.errors (λ io. reported.fault (ap Err io)) (ap fault_count_of_history (sym c.device-device.ensures.history) ∙ c.device-device.result.now.inner.no_fault))
+    ap Fs (not_a_fault c.in-Err.error _ _ reported.errors (λ io. reported.fault (ap Err io)) (ap fault_count_of_history (sym c.device-device.ensures.history) ∙ c.device-device.result.now.no_fault))

@@ -78,9 +78,10 @@ pub fn read_file_in_pieces(
     count: u32,
     size: u32,
 ) -> Result<(), Error> {
+    let mut piece = Vec::from_elem(alloc, 0u8, size as usize)?;
     let fd = session.open(alloc, path, OpenFlags::READ)?;
     for _ in 0..count {
-        session.read(alloc, fd, size)?;
+        session.read_into(fd, &mut piece)?;
     }
     session.close(alloc, fd)
 }
@@ -92,11 +93,12 @@ pub fn read_at_random_positions(
     count: u32,
 ) -> Result<(), Error> {
     let fd = session.open(alloc, b"/big", OpenFlags::READ)?;
+    let mut piece = [0; 100];
     let mut state = 1u32;
     for _ in 0..count {
         state = state.wrapping_mul(1_103_515_245).wrapping_add(12345);
         session.seek(fd, (state >> 8) % 1_048_000)?;
-        session.read(alloc, fd, 100)?;
+        session.read_into(fd, &mut piece)?;
     }
     session.close(alloc, fd)
 }

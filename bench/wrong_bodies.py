@@ -1,5 +1,5 @@
 #!/usr/bin/env python3
-"""Tries the wrong bodies that the gate leaves out (docs/DECISIONS.md says which, and why): the prover must refuse each.
+"""Tries the wrong bodies that the gate leaves out (those in bench/wrong_bodies): the prover must refuse each.
 
 usage: bench/wrong_bodies.py [CRATE..]     at the top of the repository, with its last state committed; no name means all of them
 

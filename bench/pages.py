@@ -16,7 +16,7 @@ backticks:
 - in a column of definitions, and of what shows them, it is a word of `lfs_model`, unless another crate is named behind it;
 - in a column of files it is a definitions' file, a crate or a path;
 - an option is one of mklittlefs, of lfs_script, of littlefs-fuse or of a script in bench;
-- in `docs/USING.md, "Scripts"` there is such a heading.
+- in `docs/LIBRARY.md, "Scripts"` there is such a heading.
 
 Prints a line for each that isn't there, and fails then.
 """
@@ -35,7 +35,7 @@ LONG_OPTION, SHORT_OPTION = r"(?<![\w-])--[a-z][a-z0-9.-]*", r"(?<![\w-])-[a-z](
 DEFINITIONS = "crates/lfs_model/specs/"
 # columns of files, and of what other tools name
 FILES, OF_MODEL, OTHERS = {"File", "Files"}, {"Definition", "Shown by"}, {"littlefs's word", "There", "littlefs-python", "Where", "Setting", "Where the numbers are from"}
-OTHER_SECTIONS = {("docs/USING.md", "## A driver in C")}
+OTHER_SECTIONS = set()
 
 # Names from outside: of littlefs, of the kit and its language, of C, Python and Linux. An ending * stands for any.
 OUTSIDE = set("""

@@ -230,7 +230,7 @@ int64_t lfs_c_file_close(lfs_c_session *session, uint32_t file);
  * The changes are fetched complete and in order, each by its number. So the flash has at each moment what the image had after some
  * of its changes, with the next one done in part. Where power is lost then, the flash has the tree from before the call or the one
  * from after it. C owes three things: it makes the changes in order and each one whole, it makes those of a call before it relies
- * on that call, and an erase of its flash leaves bytes of 255. docs/USING.md has more. */
+ * on that call, and an erase of its flash leaves bytes of 255. docs/C_PYTHON.md has more. */
 
 #define LFS_C_PROGRAM 1
 #define LFS_C_ERASE 2

@@ -60,13 +60,13 @@ module _ {P I N F T R : Type 0} (places : Ghosts P I N F T R) (output : ToolOutp
 
   -- an image that is whole
   pub whole : (event : Option (List ℕ) → PlaceEvent) → places.history new ≡ event (output.contents after) ∷ places.history ends
-      → (g : _) × (HasSizesOfCommandLine line g × HasWrittenImageOfSource g (source.shown f) (output.contents i) (output.contents after)) → IsFlushedOnce output i after → IsToldOfRequestedImage line (source.shown f) before told (Ok (tt {0}))
+      → (g : _) × (HasSizesOfCommandLine line g × HasWrittenImageOfSource g line.order (source.shown f) (output.contents i) (output.contents after)) → IsFlushedOnce output i after → IsToldOfRequestedImage line (source.shown f) before told (Ok (tt {0}))
       → WritesWholeImage places output source line event old new folder
   whole event adds made flushed tells = (f, (at, (limit, (i, (path, (after, told, (history_with (event (output.contents after)) adds, (made, flushed), (before, (nothing, tells)))))))))
 
   -- one that can't be put in its place
   pub not_placed : (e : ToolError) → (e ≡ Output) × (places.history new ≡ ImageNotPlaced (output.contents after) ∷ places.history ends)
-      → (g : _) × (HasSizesOfCommandLine line g × HasWrittenImageOfSource g (source.shown f) (output.contents i) (output.contents after)) → IsFlushedOnce output i after → IsToldOfRequestedImage line (source.shown f) before told (Ok (tt {0}))
+      → (g : _) × (HasSizesOfCommandLine line g × HasWrittenImageOfSource g line.order (source.shown f) (output.contents i) (output.contents after)) → IsFlushedOnce output i after → IsToldOfRequestedImage line (source.shown f) before told (Ok (tt {0}))
       → LeavesNoNewImage places output source line old new folder e
   not_placed e (is, adds) made flushed tells = subst (LeavesNoNewImage places output source line old new folder) (sym is) (inr (whole ImageNotPlaced adds made flushed tells))
 
@@ -78,7 +78,7 @@ module _ {P I N F T R : Type 0} (places : Ghosts P I N F T R) (output : ToolOutp
   -- one that is discarded
   pub discarded : (X : Type 0) (e : ToolError) → output.faults i ≡ 0 → output.flushes i ≡ 0
       → places.history new ≡ ImageDiscarded (output.contents after) (output.faults after) (output.flushes after) ∷ places.history ends → ReportsWriterFaults {X = X} output i after (Err e)
-      → (IsErrOf {T = X} (Err e) Output → (g : _) × (HasSizesOfCommandLine line g × HasWrittenBeginningOfImage g (source.shown f) (output.contents i) (output.contents after))) → IsToldOfRequestedImage {X = Unit {0}} line (source.shown f) before told (Err e)
+      → (IsErrOf {T = X} (Err e) Output → (g : _) × (HasSizesOfCommandLine line g × HasWrittenBeginningOfImage g line.order (source.shown f) (output.contents i) (output.contents after))) → IsToldOfRequestedImage {X = Unit {0}} line (source.shown f) before told (Err e)
       → LeavesNoNewImage places output source line old new folder e
   discarded X Output sound unflushed adds reports begun tells =
       inl (f, (at, (limit, (i, (path, (after, told, (history_discarded 1 0 adds (reports.0 ∙ ap suc sound) (reports.1 ∙ unflushed), begun refl, (before, (nothing, tells)))))))))

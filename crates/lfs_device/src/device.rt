@@ -28,7 +28,7 @@ pub trait BlockDevice {
     ghost history: { Self → List DeviceCallEvent };
 
     /// Returns the geometry: the sizes of blocks and pages in bytes, the number of blocks, and the
-    /// order of names.
+    /// profile.
     fn geometry(&self) -> Geometry
         ensures { result ≡ geometry self.now };
 

@@ -1,18 +1,15 @@
-// The bytes of a file: those in a slot, and those of a skip list.
+// The bytes of a file that its slot has.
 
-ghost use Rattle.std.specs.Prelude.{◌≡◌, ◌≤◌, ◌<◌, ◌+◌, ◌^◌, List, ℕ, IfOk, IfErr, IsSome, Some, drop, false, length, slice_get, take};
+ghost use Rattle.std.specs.Prelude.{◌≡◌, ◌≤◌, ◌<◌, ◌+◌, List, ℕ, IfOk, IfErr, IsSome, Some, drop, false, length, slice_get, take};
 ghost use Rattle.std.specs.Option.{option_copied};
 ghost use Rattle.lfs_model.specs.History.{read_count_of_history};
-ghost use Rattle.lfs_model.specs.SkipLists.{IsSkipList};
 ghost use Rattle.lfs_model.specs.Slots.{PairContent as ModelContent, Inline, Slot};
-ghost use Rattle.lfs_model.specs.Shown.{skip_list_bytes_on_disk};
 ghost use Rattle.lfs_thread.specs.CachedLog.{IsLogBlockOfContent, cached_log};
 ghost use Rattle.lfs_lookup.specs.BytesAt.{IsSlotAtSpot, spot_and_storage_of_found_file};
 ghost use Rattle.lfs_lookup.specs.Reading.{OnlyReadsThreadAndReportsErrors};
 
 use crate::by_path::lookup_result_at_path;
 use crate::entry::FileStorage;
-use crate::file_bytes::zeros;
 use crate::path::Path;
 use crate::paths::VisiblePathLookup;
 use crate::search::SlotPosition;
@@ -24,7 +21,7 @@ use lfs_thread::Thread;
 use std::alloc::{AllocError, Global};
 
 // Returns the bytes from a position on, at most `count`.
-pub(crate) fn copy_bytes_from_position(
+fn copy_bytes_from_position(
     alloc: Global,
     bytes: &[u8],
     position: u32,
@@ -87,26 +84,6 @@ pub fn read_inline_bytes_at<D: BlockDevice>(
         position,
         count,
     )
-}
-
-// Returns some of the bytes of a skip list.
-pub(crate) fn read_list_bytes_from_position<D: BlockDevice>(
-    alloc: Global,
-    thread: &mut Thread<D>,
-    head: u32,
-    size: u32,
-    position: u32,
-    count: usize,
-) -> Result<Vec<u8>, Error>
-    requires works { thread.old.failed ≡ false }
-    requires list { IsSkipList thread.old.kept.disk.blocks thread.old.kept.disk.block_size head size }
-    ensures bytes { IfOk result (λ v. v.items ≡ take count (drop position (skip_list_bytes_on_disk thread.old.kept.disk head size))) }
-    ensures reading { OnlyReadsThreadAndReportsErrors thread.old thread.new result }
-{
-    let left = size.saturating_sub(position);
-    let mut bytes = zeros(alloc, min(count, left as usize))?;
-    thread.read_list(head, size, position, &mut bytes)?;
-    Ok(bytes)
 }
 
 /// Returns the slot of a file, and where the file's bytes are. Returns None where no file was

@@ -1,28 +1,23 @@
 // The contents of a file, as a reader keeps them.
 
-ghost use Rattle.std.specs.Prelude.{◌≡◌, ◌≤◌, ◌<◌, ◌+◌, ◌^◌, IfOk, IsSome, List, ℕ, drop, false, length, sum_by, take};
+ghost use Rattle.std.specs.Prelude.{◌≡◌, ◌≤◌, ◌<◌, ◌+◌, IfOk, IsSome, List, false, sum_by};
 ghost use Rattle.lfs_model.specs.Frame.{pair_count_of_directory_at, ancestor_paths_of_path};
 ghost use Rattle.lfs_model.specs.History.{read_count_of_history};
 ghost use Rattle.lfs_model.specs.Shown.{tree_on_disk};
 ghost use Rattle.lfs_model.specs.Slots.{Inline, Slot};
 ghost use Rattle.lfs_model.specs.Slots.{zero_gstate};
 ghost use Rattle.lfs_model.specs.Thread.{gstate_of_pairs, pair_count_before_root};
-ghost use Rattle.lfs_model.specs.Tree.{Path as ModelPath};
-ghost use Rattle.lfs_model.specs.TreeEdits.{file_bytes_of_node};
-ghost use Rattle.lfs_model.specs.View.{IsAcceptedImage, IsSkipListIfCtzStruct};
+ghost use Rattle.lfs_model.specs.View.{IsAcceptedImage};
 ghost use Rattle.lfs_thread.specs.CachedLog.{cached_log};
 ghost use Rattle.lfs_lookup.specs.CachedPairs.{AreDirectoriesAtThesePathsCached};
 ghost use Rattle.lfs_lookup.specs.BytesAt.{IsFileSlotAtSpot};
-ghost use Rattle.lfs_lookup.specs.FileContents.{IsInlineBytesOrSkipListOfFileAtPath, AreFileContentsOfStruct, AreContentsOfFileAtPathOrNone, AreInlineContentsShorterThanTagLength, struct_of_file_contents};
+ghost use Rattle.lfs_lookup.specs.FileContents.{AreFileContentsOfStruct, AreContentsOfFileAtPathOrNone};
 ghost use Rattle.lfs_lookup.specs.Finds.{IsFoundNodeAtPath};
 ghost use Rattle.lfs_lookup.specs.Halves.{ReadsAtMostBinarySearchesOnPaths};
 ghost use Rattle.lfs_lookup.specs.Reading.{OnlyReadsThreadAndReportsErrors};
 
 use crate::by_path::{found_node_from_lookup_result, lookup_result_at_path};
-use crate::bytes::{
-    copy_bytes_from_position, read_inline_bytes_at, read_list_bytes_from_position,
-    spot_and_storage_of_file,
-};
+use crate::bytes::{read_inline_bytes_at, spot_and_storage_of_file};
 use crate::entry::FileStorage;
 use crate::found_entries::FoundNode;
 use crate::path::Path;
@@ -108,31 +103,4 @@ pub fn find_file_contents_at_path<D: BlockDevice>(
         finding,
         contents: Some(contents),
     })
-}
-
-/// Returns the bytes from a position on, at most `count`, of a file with these contents. The sum of
-/// position and count is less than 2^32. Inline bytes take no reads.
-///
-/// Errors: `Io` where a read failed. `NoMemory` where memory isn't granted.
-pub fn read_file_contents_from_position<D: BlockDevice>(
-    alloc: Global,
-    thread: &mut Thread<D>,
-    contents: &FileContents,
-    position: u32,
-    count: usize,
-) -> Result<Vec<u8>, Error>
-    requires works { thread.old.failed ≡ false }
-    requires fits { AreInlineContentsShorterThanTagLength contents.now }
-    requires list { IsSkipListIfCtzStruct thread.old.kept.disk (struct_of_file_contents contents.now) }
-    ensures bytes { (path : ModelPath) → IsInlineBytesOrSkipListOfFileAtPath thread.old.kept.pairs path contents.now → IfOk result (λ v. v.items ≡ take count (drop position (file_bytes_of_node (tree_on_disk thread.old.kept.disk thread.old.kept.pairs path)))) }
-    ensures end { IfOk result (λ v. position + length v.items < 2 ^ 32) }
-    ensures none { (own : List ℕ) → struct_of_file_contents contents.now ≡ Inline own → thread.new ≡ thread.old }
-    ensures reading { OnlyReadsThreadAndReportsErrors thread.old thread.new result }
-{
-    match contents {
-        FileContents::Inline(bytes) => Ok(copy_bytes_from_position(alloc, bytes, position, count)?),
-        FileContents::List { head, size } => {
-            read_list_bytes_from_position(alloc, thread, *head, *size, position, count)
-        }
-    }
 }

@@ -38,9 +38,7 @@ pub use directory::{
 };
 pub use entry::{FileOrDirectory, FileStorage, entry_of_struct};
 pub use file_bytes::read_file_bytes_of_struct;
-pub use file_contents::{
-    FileContents, FoundFile, find_file_contents_at_path, read_file_contents_from_position,
-};
+pub use file_contents::{FileContents, FoundFile, find_file_contents_at_path};
 pub use found_entries::{FoundAttribute, FoundNode, Listing, Node, NodeAndEmptiness};
 pub use image_superblock::superblock;
 pub use items::{NameAndOwnedStruct, OwnedStruct, owned_copy_of_struct};

@@ -23,6 +23,7 @@ pub mod Thread
 pub mod Tree
 pub mod Shown
 pub mod View
+pub mod Violations
 pub mod Profile
 pub mod Fresh
 pub mod BlockBytes

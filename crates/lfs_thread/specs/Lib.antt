@@ -4,5 +4,6 @@ pub mod Steps
 pub mod CachedLog
 pub mod Begun
 pub mod Reading
+pub mod MountErrors
 pub mod Beside
 pub mod Places

@@ -8,6 +8,7 @@ mod deltas;
 mod drops;
 mod headers;
 mod joins;
+mod mount_error;
 mod pair_numbers;
 mod parts;
 mod places;
@@ -15,6 +16,7 @@ mod splits;
 mod thread;
 
 pub use deltas::gstate_xor_delta;
+pub use mount_error::MountError;
 pub use pair_numbers::pair_number_at_address;
 pub use parts::ThreadParts;
 pub use places::PairAddressList;

@@ -1,7 +1,8 @@
 -- A session on a fresh disk, for examples: its disk's pairs, and what a loss of power leaves before the first call.
 use Rattle.std.proofs.Common.{ℕ, ◌≡◌, ◌<◌, inl, true, List, [], ◌∷◌, Some, refl, sym, ap, ◌∙◌, arith}
 use Rattle.std.specs.Prelude.{All, slice_index}
-use Rattle.lfs_model.specs.Disk.{Disk, block_bytes_on_disk, block_count, default_profile}
+use Rattle.lfs_model.specs.Disk.{Disk, disk_in_order, block_bytes_on_disk, block_count, default_profile}
+use Rattle.lfs_model.specs.declared.order.NameOrder.{NameOrder}
 use Rattle.lfs_model.specs.Content.{content_of_pair_at}
 use Rattle.lfs_model.specs.Slots.{zero_gstate}
 use Rattle.lfs_model.specs.Thread.{Pair, AreLinkedByTails, anchor_pair_address, blocks_of_pairs}
@@ -30,9 +31,12 @@ are_accepted = accepted small_fresh_image fresh
 pub in_profile : IsAcceptedWritableDisk small_fresh_image
 in_profile = (pairs, (are_accepted, writable small_fresh_image fresh))
 
--- the tree of any accepted thread of it
+-- the tree of any accepted thread of it, in either order of names
+pub tree_in_order : (order : NameOrder) (ps : List Pair) → IsAcceptedImage (disk_in_order order small_fresh_image) ps → tree_on_disk small_fresh_image ps ≡ empty_tree
+tree_in_order order ps ok = ap (tree_on_disk small_fresh_image) (one_thread (content_of_pair_at small_fresh_image) (block_count small_fresh_image) ps pairs ok.thread are_accepted.thread) ∙ shows small_fresh_image
+
 pub tree_is_empty : (ps : List Pair) → IsAcceptedImage small_fresh_image ps → tree_on_disk small_fresh_image ps ≡ empty_tree
-tree_is_empty ps ok = ap (tree_on_disk small_fresh_image) (one_thread (content_of_pair_at small_fresh_image) (block_count small_fresh_image) ps pairs ok.thread are_accepted.thread) ∙ shows small_fresh_image
+tree_is_empty ps ok = tree_in_order small_fresh_image.order ps ok
 
 abbrev pub around : DiskSummary
 around = record { writable = true; profile = default_profile; block_size = 1024; page = 128; block_count = 2; used = 0 ∷ 1 ∷ []; gstate = zero_gstate }
@@ -47,12 +51,15 @@ pub still_there : (before after : Tree) → before ≡ empty_tree → HasTreeBef
 still_there before after e = record { pairs = pairs; accepted = are_accepted; writable = writable small_fresh_image fresh; tree = inl (shows small_fresh_image ∙ sym e) }
 
 -- a disk without blocks has no thread
-pub none_accepted : (ps : List Pair) → IsAcceptedImage disk_without_blocks ps → ⊥
-none_accepted ps ok = go ps ok.thread.links ok.thread.in_range
+pub none_in_order : (order : NameOrder) (ps : List Pair) → IsAcceptedImage (disk_in_order order disk_without_blocks) ps → ⊥
+none_in_order order ps ok = go ps ok.thread.links ok.thread.in_range
   where
     go : (ps : List Pair) → AreLinkedByTails (Some anchor_pair_address) ps → All (λ b. b < 0) (blocks_of_pairs ps) → ⊥
     go [] l r = absurd (cc)
     go (p ∷ ps) l r = let k = r 0 0 (omega arith) in absurd (omega arith)
+
+pub none_accepted : (ps : List Pair) → IsAcceptedImage disk_without_blocks ps → ⊥
+none_accepted ps ok = none_in_order disk_without_blocks.order ps ok
 
 pub differ : small_fresh_image ≡ image_of_two_commits → ⊥
 differ e = apart (slice_index (block_bytes_on_disk small_fresh_image 0) 128) (slice_index (block_bytes_on_disk image_of_two_commits 0) 128) refl refl (ap (λ (d : Disk). slice_index (block_bytes_on_disk d 0) 128) e)

@@ -1,7 +1,7 @@
 -- What runs of a session keep: the session that the accepted operations define, the writing profile, and nothing to recover.
 use Rattle.std.proofs.Common.{◌≡◌, Bool, true, false, cond, List, [], ◌∷◌, Option, Some, None, refl, sym, ap, subst, ◌∙◌}
 use Rattle.std.proofs.lemmas.Option.{same_Some}
-use Rattle.lfs_model.specs.Disk.{Disk, block_count}
+use Rattle.lfs_model.specs.Disk.{Disk, block_count, disk_in_order}
 use Rattle.lfs_model.specs.Content.{content_of_pair_at}
 use Rattle.lfs_model.specs.Thread.{Pair}
 use Rattle.lfs_model.specs.Tree.{Tree}
@@ -21,6 +21,7 @@ use Rattle.lfs_model.specs.Run.{SystemState, IsTreeOfDiskOrNone, HealthySessionH
 use Rattle.lfs_model.specs.Headline.{IsStateReachedFromFreshDisk, session_after_operation, session_after_operations, IsSessionHealthyWithDiskTree, IsDiskWritableAndRecovered, IsSessionAgreeingWithItsDisk}
 use Rattle.lfs_model.specs.RepeatedPowerLoss.{IsJustMounted}
 use Rattle.lfs_model.proofs.Uniqueness.{one_thread}
+use Rattle.lfs_model.proofs.OtherOrder.{same_tree}
 use Rattle.lfs_model.proofs.Fresh.{accepted, writable}
 use Rattle.lfs_model.proofs.SessionSteps.{IsHealthy, session_step_is_healthy, session_steps_are_healthy, session_steps_agree, true_from, fresh_agrees, question_answered, reader_answered}
 use Rattle.lfs_model.proofs.StepsMade.{no_refusal}
@@ -59,11 +60,11 @@ defined_next around from to op reply s healthy agrees turn =
     refused a None e = same_effect a around s op ∙ sym (ap (λ b. cond b s effect) (no_refusal a s op)) ∙ ap (λ r. cond (is_refusal r) s effect) e
     refused a (Some error) e = ap (λ r. cond (is_refusal r) s effect) e
 
-    remount : (shown : Option Tree) → IsTreeOfDiskOrNone from.disk shown → reply_and_session_health_after_remount shown ≡ (Some reply, to.state) → to.state ≡ Healthy (cond (is_refusal reply) s (session_after_mount s.tree))
+    remount : (shown : Option Tree) → IsTreeOfDiskOrNone (disk_in_order to.disk.order from.disk) shown → reply_and_session_health_after_remount shown ≡ (Some reply, to.state) → to.state ≡ Healthy (cond (is_refusal reply) s (session_after_mount s.tree))
     remount None h e = absurd (let k = ap (λ (z : Option Reply × SessionHealth). z.0) e in cc)
     remount (Some tree) h e =
         let done = same_Some ops.Done reply (ap (λ (z : Option Reply × SessionHealth). z.0) e) in
-        let same = one_tree from.disk tree s.tree h (subst (HealthySessionHasTreeOfDisk from.disk) healthy agrees) in
+        let same = same_tree to.disk.order from.disk tree s.tree h (subst (HealthySessionHasTreeOfDisk from.disk) healthy agrees) in
         sym (ap (λ (z : Option Reply × SessionHealth). z.1) e) ∙ ap (λ t. Healthy (session_after_mount t)) same ∙ ap (λ r. Healthy (cond (is_refusal r) s (session_after_mount s.tree))) done
 
     go : (b : Bool) → is_remount_operation op ≡ b → cond b (reply_and_session_health_after_remount turn.answered.shown) (reply_and_session_health_unless_remount turn.answered.around (Healthy s) op) ≡ (Some reply, to.state) →

@@ -1,6 +1,8 @@
 -- From what an operation does to the disk to its step in a run.
 use Rattle.std.proofs.Common.{◌≡◌, true, false, cond, List, [], ◌++◌, Option, Some, None, refl, sym, ap, subst, ◌∙◌}
-use Rattle.lfs_model.specs.Disk.{Disk, SameGeometry, block_count}
+use Rattle.lfs_model.specs.Disk.{Disk, SameGeometry, block_count, disk_in_order}
+use Rattle.lfs_model.specs.declared.order.NameOrder.{NameOrder}
+use Rattle.lfs_model.specs.declared.order.NameOrder.TheVariants.{LongerFirst, ShorterFirst}
 use Rattle.lfs_model.specs.Content.{content_of_pair_at}
 use Rattle.lfs_model.specs.Slots.{zero_gstate}
 use Rattle.lfs_model.specs.Thread.{Pair, gstate_of_pairs}
@@ -15,8 +17,9 @@ use Rattle.lfs_model.specs.Refusals.{refusal_of_operation}
 use Rattle.lfs_model.specs.Effects.{effect_of_operation, read_effect, result_after_refusal_check}
 use Rattle.lfs_model.specs.State.{IsSummaryOfDisk, SessionHealth, HasFailed, Healthy, is_remount_operation, reply_and_session_health_after_remount, reply_and_session_health_unless_remount, session_after_mount}
 use Rattle.lfs_model.specs.Recovery.{IsNothingLeftToRecover, operation_recovers_first}
-use Rattle.lfs_model.specs.Run.{IsReplyAndSessionHealthFromDisk, is_refusal, is_read_only_operation, opens_existing_file, is_write_or_truncate, needs_no_device_call, renames_to_itself, is_recover_operation, edits_slots_in_pairs, AreCallsWithoutWrites, IsDiskUntouched, IsOperationEffectOnDisk, IsSessionStep}
+use Rattle.lfs_model.specs.Run.{IsReplyAndSessionHealthFromDisk, is_refusal, is_read_only_operation, opens_existing_file, is_write_or_truncate, needs_no_device_call, renames_to_itself, is_recover_operation, edits_slots_in_pairs, AreCallsWithoutWrites, IsDiskUntouched, disk_read_by_operation, IsOperationEffectOnDisk, IsSessionStep}
 use Rattle.lfs_model.proofs.Uniqueness.{one_thread}
+use Rattle.lfs_model.proofs.OtherOrder.{same_pairs, writable_in_order}
 use Rattle.lfs_model.proofs.Arranged.{IsFinished}
 
 same_session : (s t : Session) → Healthy s ≡ Healthy t → s ≡ t
@@ -32,15 +35,22 @@ pub record IsOver (disk : Disk) (ps : List Pair) (s : Session) (around : DiskSum
   pub surrounds : IsSummaryOfDisk disk ps around
   pub tree : s.tree ≡ tree_on_disk disk ps
 
-answered_by : (disk : Disk) (ps : List Pair) (s : Session) (around : DiskSummary) (op : Operation) (reply : Reply) (after : Session) → IsOver disk ps s around → is_remount_operation op ≡ false →
-    result_after_refusal_check (refusal_of_operation around s op) s (effect_of_operation around s op) ≡ (reply, after) → IsReplyAndSessionHealthFromDisk disk (Healthy s) op reply (Healthy after)
-answered_by disk ps s around op reply after over other e = record {
+answered_by : (disk : Disk) (order : NameOrder) (ps : List Pair) (s : Session) (around : DiskSummary) (op : Operation) (reply : Reply) (after : Session) → IsOver disk ps s around → is_remount_operation op ≡ false →
+    result_after_refusal_check (refusal_of_operation around s op) s (effect_of_operation around s op) ≡ (reply, after) → IsReplyAndSessionHealthFromDisk disk order (Healthy s) op reply (Healthy after)
+answered_by disk order ps s around op reply after over other e = record {
   around = around;
   shown = None;
   surrounds = λ t f. (ps, (over.accepted, over.surrounds));
   shows = λ f. absurd (let k = sym other ∙ f in cc);
   answers = ap (λ b. cond b (reply_and_session_health_after_remount None) (reply_and_session_health_unless_remount around (Healthy s) op)) other ∙ ap (λ z. (Some z.0, Healthy z.1)) e;
 }
+
+-- a remount alone finds another order of names
+same_disk_read : (op : Operation) (order : NameOrder) (disk : Disk) → is_remount_operation op ≡ false → disk_read_by_operation op order disk ≡ disk
+same_disk_read op order disk other = ap (λ b. cond b (disk_in_order order disk) disk) other
+
+same_geometry : (op : Operation) (disk new : Disk) → is_remount_operation op ≡ false → SameGeometry disk new → SameGeometry (disk_read_by_operation op new.order disk) new
+same_geometry op disk new other geometry = subst (λ d. SameGeometry d new) (sym (same_disk_read op new.order disk other)) geometry
 
 -- what an applied operation does is said of any pairs, and those of an accepted disk are known
 carried_any : (disk new : Disk) (ps qs : List Pair) (s : Session) (op : Operation) (calls : List DeviceCallEvent) → IsAcceptedImage disk ps → IsAcceptedImage new qs → IsOperationEffectOnDisk disk ps s op calls new qs →
@@ -65,9 +75,9 @@ pub refused_step : (disk : Disk) (ps : List Pair) (s : Session) (around : DiskSu
     refusal_of_operation around s op ≡ Some error → AreCallsWithoutWrites calls →
     IsSessionStep (record { disk = disk; calls = old; state = Healthy s }) op (ops.Refused error) (record { disk = disk; calls = calls ++ old; state = Healthy s })
 refused_step disk ps s around op error calls old over other e writes = record {
-  answered = answered_by disk ps s around op (ops.Refused error) s over other (ap (λ r. result_after_refusal_check r s (effect_of_operation around s op)) e);
+  answered = answered_by disk disk.order ps s around op (ops.Refused error) s over other (ap (λ r. result_after_refusal_check r s (effect_of_operation around s op)) e);
   agrees = (ps, (over.accepted, over.tree));
-  geometry = record { block_size = refl; page = refl; order = refl; profile = refl; count = refl };
+  geometry = same_geometry op disk disk other (record { block_size = refl; page = refl; order = refl; profile = refl; count = refl });
   calls = calls;
   called = refl;
   refused = λ h. (refl, writes);
@@ -93,9 +103,9 @@ pub completed_step : (disk : Disk) (ps : List Pair) (s : Session) (around : Disk
     refusal_of_operation around s op ≡ None → IsProper disk ps s op calls new → IsFinished disk ps s op new qs →
     IsSessionStep (record { disk = disk; calls = old; state = Healthy s }) op (effect_of_operation around s op).0 (record { disk = new; calls = calls ++ old; state = Healthy (effect_of_operation around s op).1 })
 completed_step disk ps s around op new qs calls old over accepted proper done = record {
-  answered = answered_by disk ps s around op (effect_of_operation around s op).0 (effect_of_operation around s op).1 over proper.other (ap (λ r. result_after_refusal_check r s (effect_of_operation around s op)) accepted);
+  answered = answered_by disk new.order ps s around op (effect_of_operation around s op).0 (effect_of_operation around s op).1 over proper.other (ap (λ r. result_after_refusal_check r s (effect_of_operation around s op)) accepted);
   agrees = (qs, (done.accepted, sym (done.tree around)));
-  geometry = proper.geometry;
+  geometry = same_geometry op disk new proper.other proper.geometry;
   calls = calls;
   called = refl;
   refused = λ h. absurd (never h);
@@ -128,9 +138,9 @@ pub idle_step : (disk : Disk) (ps : List Pair) (s : Session) (around : DiskSumma
     is_remount_operation op ≡ false → (effect_of_operation around s op).1.tree ≡ s.tree → operation_recovers_first op ≡ false → edits_slots_in_pairs s op ≡ false → AreCallsWithoutWrites calls → (needs_no_device_call s op ≡ true → calls ≡ []) →
     IsSessionStep (record { disk = disk; calls = old; state = Healthy s }) op (effect_of_operation around s op).0 (record { disk = disk; calls = calls ++ old; state = Healthy (effect_of_operation around s op).1 })
 idle_step disk ps s around op calls old over accepted other same none still writes silent = record {
-  answered = answered_by disk ps s around op (effect_of_operation around s op).0 (effect_of_operation around s op).1 over other (ap (λ r. result_after_refusal_check r s (effect_of_operation around s op)) accepted);
+  answered = answered_by disk disk.order ps s around op (effect_of_operation around s op).0 (effect_of_operation around s op).1 over other (ap (λ r. result_after_refusal_check r s (effect_of_operation around s op)) accepted);
   agrees = (ps, (over.accepted, same ∙ over.tree));
-  geometry = record { block_size = refl; page = refl; order = refl; profile = refl; count = refl };
+  geometry = same_geometry op disk disk other (record { block_size = refl; page = refl; order = refl; profile = refl; count = refl });
   calls = calls;
   called = refl;
   refused = λ h. (refl, writes);
@@ -141,7 +151,7 @@ idle_step disk ps s around op calls old over accepted other same none still writ
   where
     carried : IsOperationEffectOnDisk disk ps s op calls disk ps
     carried = record {
-      asks = λ e. (refl, writes);
+      asks = λ e. (sym (same_disk_read op disk.order disk other), writes);
       opens = λ e f. refl;
       fills = λ e. (refl, λ view h. h);
       recovered = λ e. absurd (let k = sym none ∙ e in cc);
@@ -164,9 +174,9 @@ pub filled_step : (disk : Disk) (ps : List Pair) (s : Session) (around : DiskSum
     refusal_of_operation around s op ≡ None → is_write_or_truncate op ≡ true → needs_no_device_call s op ≡ false → SameGeometry disk new → IsAcceptedImage new qs → qs ≡ ps → view_of_disk new qs ≡ view_of_disk disk ps → IsNothingLeftToRecover qs → (IsWritableImage disk ps → IsWritableImage new qs) →
     IsSessionStep (record { disk = disk; calls = old; state = Healthy s }) op (effect_of_operation around s op).0 (record { disk = new; calls = calls ++ old; state = Healthy (effect_of_operation around s op).1 })
 filled_step disk ps s around op new qs calls old over accepted fill needs geometry ok pairs same recovered profile = record {
-  answered = answered_by disk ps s around op (effect_of_operation around s op).0 (effect_of_operation around s op).1 over (other op fill) (ap (λ r. result_after_refusal_check r s (effect_of_operation around s op)) accepted);
+  answered = answered_by disk new.order ps s around op (effect_of_operation around s op).0 (effect_of_operation around s op).1 over (other op fill) (ap (λ r. result_after_refusal_check r s (effect_of_operation around s op)) accepted);
   agrees = (qs, (ok, tree op fill ∙ over.tree ∙ sym (ap (λ (v : DiskView). v.tree) same)));
-  geometry = geometry;
+  geometry = same_geometry op disk new (other op fill) geometry;
   calls = calls;
   called = refl;
   refused = λ h. absurd (let k = sym (no_refusal around s op) ∙ h in cc);
@@ -230,7 +240,7 @@ failed_step disk around op old other = record {
     answers = ap (λ b. cond b (reply_and_session_health_after_remount None) (reply_and_session_health_unless_remount around HasFailed op)) other;
   };
   agrees = tt;
-  geometry = record { block_size = refl; page = refl; order = refl; profile = refl; count = refl };
+  geometry = same_geometry op disk disk other (record { block_size = refl; page = refl; order = refl; profile = refl; count = refl });
   calls = [];
   called = refl;
   refused = λ h. (refl, (refl, refl));
@@ -239,14 +249,15 @@ failed_step disk around op old other = record {
   effect_on_disk = λ h. absurd (cc);
 }
 
--- the surroundings are asked for, and not used
-pub remounted_step : (disk : Disk) (ps : List Pair) (around : DiskSummary) (state : SessionHealth) (calls old : List DeviceCallEvent) → IsAcceptedImage disk ps → IsSummaryOfDisk disk ps around → AreCallsWithoutWrites calls →
-    IsSessionStep (record { disk = disk; calls = old; state = state }) ops.Remount ops.Done (record { disk = disk; calls = calls ++ old; state = Healthy (session_after_mount (tree_on_disk disk ps)) })
-remounted_step disk ps around state calls old ok surrounds writes = record {
+-- What surrounds a session that worked is asked for, and not used.
+pub remounted_step : (disk : Disk) (order : NameOrder) (ps : List Pair) (around : DiskSummary) (state : SessionHealth) (calls old : List DeviceCallEvent) → ((s : Session) → state ≡ Healthy s → (xs : List Pair) × (IsAcceptedImage disk xs × IsSummaryOfDisk disk xs around)) →
+    IsAcceptedImage (disk_in_order order disk) ps → (order ≡ ShorterFirst → (qs : List Pair) → IsAcceptedImage (disk_in_order LongerFirst disk) qs → ⊥) → AreCallsWithoutWrites calls →
+    IsSessionStep (record { disk = disk; calls = old; state = state }) ops.Remount ops.Done (record { disk = disk_in_order order disk; calls = calls ++ old; state = Healthy (session_after_mount (tree_on_disk disk ps)) })
+remounted_step disk order ps around state calls old surrounds ok longer writes = record {
   answered = record {
     around = around;
     shown = Some (tree_on_disk disk ps);
-    surrounds = λ s e. (ps, (ok, surrounds));
+    surrounds = surrounds;
     shows = λ f. (ps, (ok, refl));
     answers = refl;
   };
@@ -254,15 +265,15 @@ remounted_step disk ps around state calls old ok surrounds writes = record {
   geometry = record { block_size = refl; page = refl; order = refl; profile = refl; count = refl };
   calls = calls;
   called = refl;
-  refused = λ h. (refl, writes);
-  remounted = λ h. (refl, writes);
+  refused = λ h. absurd (cc);
+  remounted = λ h. record { untouched = (refl, writes); longer = longer };
   failed = λ h. absurd (cc);
   effect_on_disk = λ h t e xs ys x y. carried_of t xs ys x y;
 }
   where
-    carried_of : (t : Session) (xs ys : List Pair) → IsAcceptedImage disk xs → IsAcceptedImage disk ys → IsOperationEffectOnDisk disk xs t ops.Remount calls disk ys
+    carried_of : (t : Session) (xs ys : List Pair) → IsAcceptedImage disk xs → IsAcceptedImage (disk_in_order order disk) ys → IsOperationEffectOnDisk disk xs t ops.Remount calls (disk_in_order order disk) ys
     carried_of t xs ys x y =
-        let same = one_thread (content_of_pair_at disk) (block_count disk) xs ys x.thread y.thread in
+        let same = same_pairs order disk xs ys x y in
         record {
           asks = λ f. (refl, writes);
           opens = λ f. absurd (cc);
@@ -270,7 +281,7 @@ remounted_step disk ps around state calls old ok surrounds writes = record {
           recovered = λ f. absurd (cc);
           stays = subst IsNothingLeftToRecover same;
           arranged = λ f. absurd (cc);
-          profile = subst (IsWritableImage disk) same;
+          profile = λ w. writable_in_order order disk ys (subst (IsWritableImage disk) same w);
           silent = λ f. absurd (cc);
           itself = λ f. absurd (cc);
           nothing_left = λ f. absurd (cc);

@@ -1,10 +1,12 @@
 -- What a loss of power in a run leaves, and what a mount and a recovery make of it. So it is for any number of them.
-use Rattle.std.proofs.Common.{◌≡◌, ◌⊎◌, inl, inr, ℕ, true, not, List, [], ◌∷◌, ◌++◌, Option, Some, None, refl, sym, ap, ap₂, subst, ◌∙◌, append_assoc}
-use Rattle.std.specs.Prelude.{Any}
+use Rattle.std.proofs.Common.{◌≡◌, ◌⊎◌, inl, inr, ℕ, Bool, true, false, cond, not, List, [], ◌∷◌, ◌++◌, Option, Some, None, refl, sym, ap, ap₂, subst, ◌∙◌, append_assoc}
+use Rattle.std.specs.Prelude.{All, Any}
+use Rattle.std.proofs.lemmas.List.Elements.{recursion_from_All}
+use Rattle.lfs_model.proofs.Counts.{Each, each_left}
 use Rattle.std.proofs.lemmas.Option.{same_Some}
 use Rattle.std.proofs.lemmas.List.{append_cancel_right}
 use Rattle.lfs_model.specs.Blocks.{Blocks}
-use Rattle.lfs_model.specs.Disk.{Disk, SameGeometry, block_count}
+use Rattle.lfs_model.specs.Disk.{Disk, SameGeometry, block_count, disk_in_order}
 use Rattle.lfs_model.specs.declared.order.NameOrder.{NameOrder}
 use Rattle.lfs_model.specs.declared.limits.Profile.{Profile}
 use Rattle.lfs_model.specs.Content.{content_of_pair_at}
@@ -17,7 +19,7 @@ use Rattle.lfs_model.specs.Operations as ops
 use Rattle.lfs_model.specs.Operations.{Operation, Reply, ReadOnly}
 use Rattle.lfs_model.specs.Session.{Session, DiskSummary, refuse_if}
 use Rattle.lfs_model.specs.Effects.{refusal_or_effect_of_operation, result_after_refusal_check}
-use Rattle.lfs_model.specs.State.{SessionHealth, Healthy, reply_and_session_health_unless_remount, session_after_mount}
+use Rattle.lfs_model.specs.State.{SessionHealth, Healthy, is_remount_operation, reply_and_session_health_unless_remount, session_after_mount}
 use Rattle.lfs_model.specs.Recovery.{IsNothingLeftToRecover}
 use Rattle.lfs_model.specs.Run.{SystemState, IsTreeOfDiskOrNone, HealthySessionHasTreeOfDisk, is_refusal, IsSessionStep}
 use Rattle.lfs_model.specs.Headline.{IsSessionHealthyWithDiskTree}
@@ -163,30 +165,36 @@ stop_leaves from to op s ps around left agrees work survives_loss cleanly stop =
 
 -- ---- a stop in a run
 
--- a disk that was left, with the tree that it has where it was cut
-record IsSurvivedWith (Cut : Tree → Type 0) (left : Disk) : Type 0 where
+-- a disk that was left, with the tree that it has where it was cut, and the order of its names there
+record IsSurvivedWith (Cut : Disk → Tree → Type 0) (NoRemount : Type 0) (left : Disk) : Type 0 where
+  order : NameOrder
+  stays : NoRemount → order ≡ left.order
   tree : Tree
-  cut : Cut tree
-  safe : IsWritableDiskWhoseTreeRecoveryKeeps tree left
+  cut : Cut (disk_in_order order left) tree
+  safe : IsWritableDiskWhoseTreeRecoveryKeeps tree (disk_in_order order left)
 
 -- in one operation
-in_one : (from next : SystemState) (op : Operation) (left : Disk) → IsSessionHealthyWithDiskTree from → IsAcceptedWritableDisk from.disk → IsOperationSurvivingPowerLoss from op next →
-    IsTrueOfEachCallSince LeavesNoNewLogIfSuccessfulErase from.calls next.calls → IsDiskLeftByPowerLossBetweenStates from next left → IsSurvivedWith (IsPowerLostInOperationOfRun from op next left) left
-in_one from next op left agrees profile survives_loss cleanly stop =
+in_one : (NoRemount : Type 0) (from next : SystemState) (op : Operation) (left : Disk) → IsSessionHealthyWithDiskTree from → IsAcceptedWritableDisk from.disk → IsOperationSurvivingPowerLoss from op next →
+    IsTrueOfEachCallSince LeavesNoNewLogIfSuccessfulErase from.calls next.calls → IsDiskLeftByPowerLossBetweenStates from next left → IsSurvivedWith (IsPowerLostInOperationOfRun from op next) NoRemount left
+in_one NoRemount from next op left agrees profile survives_loss cleanly stop =
     let work = at_work from agrees profile in
     let k = stop_leaves from next op agrees.session profile.0 (around_of from.disk profile.0) left agrees work survives_loss cleanly stop in
     record {
+      order = left.order;
+      stays = λ none. refl;
       tree = tree_on_disk left k.pairs;
       cut = record { stop = stop; session = agrees.session; pairs = profile.0; around = around_of from.disk profile.0; work = work; either = k.tree };
       safe = safe_with left k.pairs k.accepted k.writable;
     }
 
 -- at the end
-at_end : (at : SystemState) (left : Disk) → IsSessionHealthyWithDiskTree at → IsAcceptedWritableDisk at.disk → IsDiskLeftByPowerLossBetweenStates at at left → IsSurvivedWith (IsPowerLostAfterRun at left) left
-at_end at left agrees profile stop =
+at_end : (NoRemount : Type 0) (at : SystemState) (left : Disk) → IsSessionHealthyWithDiskTree at → IsAcceptedWritableDisk at.disk → IsDiskLeftByPowerLossBetweenStates at at left → IsSurvivedWith (IsPowerLostAfterRun at) NoRemount left
+at_end NoRemount at left agrees profile stop =
     let work = at_work at agrees profile in
     let k = subst (λ d. HasTreeBeforeOrAfterOperation d agrees.session.tree agrees.session.tree) (sym (here stop)) (stays at agrees.session profile.0 (around_of at.disk profile.0) agrees.session.tree agrees work) in
     record {
+      order = left.order;
+      stays = λ none. refl;
       tree = tree_on_disk left k.pairs;
       cut = record { stays = here stop; session = agrees.session; healthy = agrees.healthy; is = either_is k.tree };
       safe = safe_with left k.pairs k.accepted k.writable;
@@ -227,15 +235,25 @@ same_blocks : (disk new : Disk) (blocks : Blocks) → SameGeometry disk new → 
 same_blocks disk new blocks g =
     ap₂ (λ b p. disk_with b p disk.order disk.profile blocks) (sym g.block_size) (sym g.page) ∙ ap₂ (λ o v. disk_with new.block_size new.page o v blocks) (sym g.order) (sym g.profile)
 
+-- a remount alone changes the order of the names
+shape_in_order : (b : Bool) (disk new : Disk) → SameGeometry (cond b (disk_in_order new.order disk) disk) new → SameGeometry (disk_in_order new.order disk) new
+shape_in_order true disk new g = g
+shape_in_order false disk new g = record { block_size = g.block_size; page = g.page; order = refl; profile = g.profile; count = g.count }
+
+order_stays : (b : Bool) (disk new : Disk) → SameGeometry (cond b (disk_in_order new.order disk) disk) new → b ≡ false → new.order ≡ disk.order
+order_stays true disk new g e = absurd (cc)
+order_stays false disk new g e = g.order
+
 -- ---- the run
 
 -- one operation before others that are survived
-further : (before : Option Operation) (op : Operation) (reply : Reply) (Others : Tree → Type 0) (from next to : SystemState) (left : Disk) → IsStepSurvivingLossWithinReadBounds before from op reply next → IsTrueOfEachCallSince IsAny next.calls to.calls →
-    (MeetsPremisesForSurvivingPowerLoss next to → IsDiskLeftByPowerLossBetweenStates next to left → IsSurvivedWith Others left) → MeetsPremisesForSurvivingPowerLoss from to → IsDiskLeftByPowerLossBetweenStates from to left → IsSurvivedWith (λ tree. IsPowerLostInOperationOfRun from op next left tree ⊎ Others tree) left
-further before op reply Others from next to left one second last may stop = go stop
+further : (before : Option Operation) (op : Operation) (reply : Reply) (Others : Disk → Tree → Type 0) (NoRemount : Type 0) (from next to : SystemState) (left : Disk) → IsStepSurvivingLossWithinReadBounds before from op reply next → IsTrueOfEachCallSince IsAny next.calls to.calls →
+    (MeetsPremisesForSurvivingPowerLoss next to → (left : Disk) → IsDiskLeftByPowerLossBetweenStates next to left → IsSurvivedWith Others NoRemount left) → MeetsPremisesForSurvivingPowerLoss from to → IsDiskLeftByPowerLossBetweenStates from to left →
+    IsSurvivedWith (λ disk tree. IsPowerLostInOperationOfRun from op next disk tree ⊎ Others disk tree) ((is_remount_operation op ≡ false) × NoRemount) left
+further before op reply Others NoRemount from next to left one second last may stop = go stop
   where
     Here : Type 0
-    Here = IsSurvivedWith (λ tree. IsPowerLostInOperationOfRun from op next left tree ⊎ Others tree) left
+    Here = IsSurvivedWith (λ disk tree. IsPowerLostInOperationOfRun from op next disk tree ⊎ Others disk tree) ((is_remount_operation op ≡ false) × NoRemount) left
 
     first : IsTrueOfEachCallSince IsAny from.calls next.calls
     first = calls_since from.calls next.calls one.turn.calls one.turn.called
@@ -252,49 +270,71 @@ further before op reply Others from next to left one second last may stop = go s
 
     here : IsDiskLeftByPowerLossBetweenStates from next left → Here
     here k =
-        let s = in_one from next op left may.agrees may.profile one.survives_loss (IsTrueOfEachCallSince-until may.cleanly first second) k in
-        record { tree = s.tree; cut = inl s.cut; safe = s.safe }
+        let s = in_one NoRemount from next op left may.agrees may.profile one.survives_loss (IsTrueOfEachCallSince-until may.cleanly first second) k in
+        record { order = s.order; stays = λ none. s.stays none.1; tree = s.tree; cut = inl s.cut; safe = s.safe }
 
-    there : IsDiskLeftByPowerLossBetweenStates next to left → Here
-    there k = let s = last may_later k in record { tree = s.tree; cut = inr s.cut; safe = s.safe }
+    -- with its names in the order that they have then
+    there : (order : NameOrder) → (is_remount_operation op ≡ false → order ≡ left.order) → IsDiskLeftByPowerLossBetweenStates next to (disk_in_order order left) → Here
+    there order kept k =
+        let s = last may_later (disk_in_order order left) k in
+        record { order = s.order; stays = λ none. s.stays none.1 ∙ kept none.0; tree = s.tree; cut = inr s.cut; safe = s.safe }
 
     in_part : (blocks : Blocks) → left ≡ disk_with_blocks blocks from.disk → IsEither from next to blocks → Here
     in_part blocks e (inl k) = here (inr (inl (blocks, (e, k))))
-    in_part blocks e (inr k) = there (inr (inl (blocks, (e ∙ same_blocks from.disk next.disk blocks one.turn.geometry, k))))
+    in_part blocks e (inr k) = there next.disk.order
+        (λ other. order_stays (is_remount_operation op) from.disk next.disk one.turn.geometry other ∙ sym (ap (λ (disk : Disk). disk.order) e))
+        (inr (inl (
+          blocks,
+          (
+            ap (disk_in_order next.disk.order) e ∙ same_blocks (disk_in_order next.disk.order from.disk) next.disk blocks (shape_in_order (is_remount_operation op) from.disk next.disk one.turn.geometry),
+            k,
+          ),
+        )))
 
     go : IsDiskLeftByPowerLossBetweenStates from to left → Here
     go (inl e) = here (inl e)
     go (inr (inl (blocks, (e, since)))) = in_part blocks e (either_part from next to blocks first second since)
-    go (inr (inr (e, fails))) = there (inr (inr (e, IsTrueOfEachCallSince-behind fails first second)))
+    go (inr (inr (e, fails))) = there left.order (λ other. refl) (inr (inr (e, IsTrueOfEachCallSince-behind fails first second)))
+
+-- these operations don't remount
+abbrev NoRemountAmong : List Operation → Type 0
+NoRemountAmong operations = Each (λ op. is_remount_operation op ≡ false) operations
 
 -- what comes after these operations is survived, so they are
-run_survived : (before : Option Operation) (operations : List Operation) (replies : List Reply) (AtEnd : Tree → Type 0) (from at to : SystemState) (left : Disk) (h : AreStepsSurvivingLossWithinReadBounds before from operations replies at) → IsTrueOfEachCallSince IsAny at.calls to.calls →
-    (MeetsPremisesForSurvivingPowerLoss at to → IsDiskLeftByPowerLossBetweenStates at to left → IsSurvivedWith AtEnd left) → MeetsPremisesForSurvivingPowerLoss from to → IsDiskLeftByPowerLossBetweenStates from to left → IsSurvivedWith (λ tree. IsPowerLostInOrAfterOperations before from operations replies at h left tree (AtEnd tree)) left
-run_survived before [] [] AtEnd from at to left h tail last may stop = last (subst (λ m. MeetsPremisesForSurvivingPowerLoss m to) h may) (subst (λ m. IsDiskLeftByPowerLossBetweenStates m to left) h stop)
+run_survived : (before : Option Operation) (operations : List Operation) (replies : List Reply) (AtEnd : Disk → Tree → Type 0) (from at to : SystemState) (left : Disk) (h : AreStepsSurvivingLossWithinReadBounds before from operations replies at) → IsTrueOfEachCallSince IsAny at.calls to.calls →
+    (MeetsPremisesForSurvivingPowerLoss at to → (left : Disk) → IsDiskLeftByPowerLossBetweenStates at to left → IsSurvivedWith AtEnd (NoRemountAmong []) left) → MeetsPremisesForSurvivingPowerLoss from to → IsDiskLeftByPowerLossBetweenStates from to left →
+    IsSurvivedWith (λ disk tree. IsPowerLostInOrAfterOperations before from operations replies at h disk tree (AtEnd disk tree)) (NoRemountAmong operations) left
+run_survived before [] [] AtEnd from at to left h tail last may stop = last (subst (λ m. MeetsPremisesForSurvivingPowerLoss m to) h may) left (subst (λ m. IsDiskLeftByPowerLossBetweenStates m to left) h stop)
 run_survived before [] (reply ∷ replies) AtEnd from at to left h tail last may stop = absurd h
 run_survived before (op ∷ operations) [] AtEnd from at to left h tail last may stop = absurd h
 run_survived before (op ∷ operations) (reply ∷ replies) AtEnd from at to left (next, (one, rest)) tail last may stop =
-    further before op reply (λ tree. IsPowerLostInOrAfterOperations (operation_unless_reply_is_refusal op reply) next operations replies at rest left tree (AtEnd tree)) from next to left one
+    further before op reply (λ disk tree. IsPowerLostInOrAfterOperations (operation_unless_reply_is_refusal op reply) next operations replies at rest disk tree (AtEnd disk tree)) (NoRemountAmong operations) from next to left one
     (goes_on_by (performed_since (operation_unless_reply_is_refusal op reply) operations replies next at rest) tail)
-    (λ may stop. run_survived (operation_unless_reply_is_refusal op reply) operations replies AtEnd next at to left rest tail last may stop) may stop
+    (λ may left stop. run_survived (operation_unless_reply_is_refusal op reply) operations replies AtEnd next at to left rest tail last may stop) may stop
 
 once_survived : (from : SystemState) (operations : List Operation) (to : SystemState) (left : Disk) (run : IsRunOfOperationsOrEndedByError from operations to) → MeetsPremisesForSurvivingPowerLoss from to → IsDiskLeftByPowerLossBetweenStates from to left → IsPowerLossSurvived from operations to run left
 once_survived from operations to left (inl (replies, h)) may stop =
-    let s = run_survived None operations replies (IsPowerLostAfterRun to left) from to to left h began (λ may stop. at_end to left may.agrees may.profile stop) may stop in
-    record { tree = s.tree; cut = s.cut; safe = s.safe }
+    let s = run_survived None operations replies (IsPowerLostAfterRun to) from to to left h began (λ may left stop. at_end (NoRemountAmong []) to left may.agrees may.profile stop) may stop in
+    record { order = s.order; stays = λ none. s.stays (recursion_from_All (λ op. is_remount_operation op ≡ false) operations none); tree = s.tree; cut = s.cut; safe = s.safe }
 once_survived from operations to left (inr c) may stop =
-    let s = run_survived None c.done c.replies (IsPowerLostInOperationOfRun c.at c.next to left) from c.at to left c.performed (calls_since c.at.calls to.calls c.fails.calls c.fails.called)
-    (λ may stop. in_one c.at to c.next left may.agrees may.profile c.survives_loss may.cleanly stop) may stop in
-    record { tree = s.tree; cut = s.cut; safe = s.safe }
+    let s = run_survived None c.done c.replies (IsPowerLostInOperationOfRun c.at c.next to) from c.at to left c.performed (calls_since c.at.calls to.calls c.fails.calls c.fails.called)
+    (λ may left stop. in_one (NoRemountAmong []) c.at to c.next left may.agrees may.profile c.survives_loss may.cleanly stop) may stop in
+    record {
+      order = s.order;
+      stays = λ none. s.stays (each_left (λ op. is_remount_operation op ≡ false) c.done (c.next ∷ c.others) (recursion_from_All (λ op. is_remount_operation op ≡ false) (c.done ++ c.next ∷ c.others) (subst (All (λ op. is_remount_operation op ≡ false)) c.are none)));
+      tree = s.tree;
+      cut = s.cut;
+      safe = s.safe;
+    }
 
 -- ---- any number of them
 
-pub again_survived : (disk : Disk) (tree : Tree) (lefts : List Disk) → IsWritableDiskWhoseTreeRecoveryKeeps tree disk → (losses : AreDisksLeftByPowerLosses disk lefts) → ArePowerLossesSurvived disk lefts losses
-again_survived disk tree [] safe losses = tt
-again_survived disk tree (left ∷ others) safe (o, more) = (one, again_survived left one.tree others one.safe more)
+pub again_survived : (order : NameOrder) (disk : Disk) (tree : Tree) (lefts : List Disk) → IsWritableDiskWhoseTreeRecoveryKeeps tree (disk_in_order order disk) → (losses : AreDisksLeftByPowerLosses disk lefts) → ArePowerLossesSurvived disk lefts losses
+again_survived order disk tree [] safe losses = tt
+again_survived order disk tree (left ∷ others) safe (o, more) = (one, again_survived one.order left one.tree others one.safe more)
   where
-    f : IsFound disk safe.pairs o.begin
-    f = found disk o.other safe.pairs o.begin safe.accepted safe.writable o.same o.mounts
+    f : IsFound (disk_in_order order disk) safe.pairs o.begin
+    f = found (disk_in_order order disk) o.other safe.pairs o.begin safe.accepted safe.writable o.same o.mounts
 
     one : IsPowerLossSurvived o.begin o.operations o.to o.run left
     one = once_survived o.begin o.operations o.to left o.run
@@ -304,5 +344,5 @@ pub run_survives : (from : SystemState) (operations : List Operation) (to : Syst
 run_survives from operations to run may = record {
   run = run;
   once = λ left stop. once_survived from operations to left run may stop;
-  again = λ left lefts stop losses. let k = once_survived from operations to left run may stop in again_survived left k.tree lefts k.safe losses;
+  again = λ left lefts stop losses. let k = once_survived from operations to left run may stop in again_survived k.order left k.tree lefts k.safe losses;
 }

@@ -1,11 +1,11 @@
 -- Session steps that survive stops survive them.
-use Rattle.std.proofs.Common.{ℕ, ◌≡◌, Bool, true, false, cond, List, Option, refl, sym, ap, ap₂, subst, ◌∙◌}
+use Rattle.std.proofs.Common.{ℕ, ◌≡◌, Bool, true, false, cond, List, Option, Some, refl, sym, ap, ap₂, subst, ◌∙◌}
 use Rattle.lfs_model.specs.declared.limits.Profile.{Profile}
 use Rattle.lfs_model.specs.Content.{content_of_pair_at}
-use Rattle.lfs_model.specs.Disk.{Disk, block_count}
+use Rattle.lfs_model.specs.Disk.{Disk, block_count, disk_in_order}
 use Rattle.lfs_model.specs.Operations.{Operation, Reply}
 use Rattle.lfs_model.specs.PowerLoss.{IsHealthySessionOnWritableDisk, HasTreeBeforeOrAfterOperation, IsOperationSurvivingPowerLossInCalls, IsOperationSurvivingPowerLoss}
-use Rattle.lfs_model.specs.Run.{HealthySessionHasTreeOfDisk, IsSessionStep, SystemState, is_refusal}
+use Rattle.lfs_model.specs.Run.{HealthySessionHasTreeOfDisk, IsTreeOfDiskOrNone, IsSessionStep, SystemState, is_refusal}
 use Rattle.lfs_model.specs.Session.{Session, DiskSummary}
 use Rattle.lfs_model.specs.Slots.{Gstate}
 use Rattle.lfs_model.specs.State.{Healthy, SessionHealth, IsSummaryOfDisk, reply_and_session_health_unless_remount, is_remount_operation, reply_and_session_health_after_remount}
@@ -14,7 +14,10 @@ use Rattle.lfs_model.specs.Thread.{Pair}
 use Rattle.lfs_model.specs.View.{IsAcceptedImage}
 use Rattle.lfs_model.specs.Shown.{tree_on_disk}
 use Rattle.lfs_model.proofs.AfterStops.{left_after, left_before}
+use Rattle.lfs_model.specs.Profile.{IsWritableImage}
 use Rattle.lfs_model.proofs.Kept.{one_tree}
+use Rattle.lfs_model.proofs.OtherOrder.{same_pairs, same_tree, writable_in_order}
+use Rattle.lfs_model.proofs.SessionSteps.{IsHealthy, session_step_is_healthy, true_from}
 use Rattle.lfs_model.proofs.Uniqueness.{one_thread}
 
 -- ---- what an operation takes from a disk is one
@@ -50,6 +53,17 @@ session_step_survives_loss from op reply to agrees turn survives = record { stop
             (left_before from.disk ps s.tree (refusal_or_effect_of_operation around s op).1.tree work.accepted work.writable
             (one_tree from.disk (tree_on_disk from.disk ps) s.tree (ps, (work.accepted, refl)) (subst (HealthySessionHasTreeOfDisk from.disk) work.healthy agrees)))
 
+        -- by a remount, in the order that it found
+        read_anew : to.disk ≡ disk_in_order to.disk.order from.disk → HasTreeBeforeOrAfterOperation to.disk s.tree (refusal_or_effect_of_operation around s op).1.tree
+        read_anew e =
+            let known = true_from to (session_step_is_healthy from to op reply turn (subst IsHealthy (sym work.healthy) tt)) turn.agrees in
+            let shown = subst (λ d. IsTreeOfDiskOrNone d (Some known.session.tree)) e known.shows in
+            let pairs = same_pairs to.disk.order from.disk ps shown.0 work.accepted shown.1.0 in
+            subst (λ d. HasTreeBeforeOrAfterOperation d s.tree (refusal_or_effect_of_operation around s op).1.tree) (sym e)
+            (left_before (disk_in_order to.disk.order from.disk) shown.0 s.tree (refusal_or_effect_of_operation around s op).1.tree shown.1.0
+            (writable_in_order to.disk.order from.disk shown.0 (subst (IsWritableImage from.disk) pairs work.writable))
+            (same_tree to.disk.order from.disk (tree_on_disk from.disk shown.0) s.tree (shown.0, (shown.1.0, refl)) (subst (HealthySessionHasTreeOfDisk from.disk) work.healthy agrees)))
+
         done : is_remount_operation op ≡ false → is_refusal reply ≡ false → HasTreeBeforeOrAfterOperation to.disk s.tree (refusal_or_effect_of_operation around s op).1.tree
         done other accepted =
             let a = turn.answered in
@@ -67,5 +81,5 @@ session_step_survives_loss from op reply to agrees turn survives = record { stop
         by_reply false e other = done other e
 
         by_op : (b : Bool) → is_remount_operation op ≡ b → HasTreeBeforeOrAfterOperation to.disk s.tree (refusal_or_effect_of_operation around s op).1.tree
-        by_op true e = untouched (turn.remounted e).0
+        by_op true e = read_anew (turn.remounted e).untouched.0
         by_op false e = by_reply (is_refusal reply) refl e

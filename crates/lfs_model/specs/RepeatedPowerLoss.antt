@@ -1,8 +1,9 @@
 -- Losses of power in runs, any number of them one after another.
 use Rattle.std.proofs.Common.{inl, inr}
-use Rattle.std.specs.Prelude.{◌≡◌, ◌⊎◌, List, [], ◌∷◌, ◌++◌, Option, Some, None, Any}
+use Rattle.std.specs.Prelude.{◌≡◌, ◌⊎◌, false, List, [], ◌∷◌, ◌++◌, Option, Some, None, All, Any}
 use Rattle.lfs_model.specs.Blocks.{Blocks}
-use Rattle.lfs_model.specs.Disk.{Disk}
+use Rattle.lfs_model.specs.Disk.{Disk, disk_in_order}
+use Rattle.lfs_model.specs.declared.order.NameOrder.{NameOrder}
 use Rattle.lfs_model.specs.Thread.{Pair}
 use Rattle.lfs_model.specs.Tree.{Tree}
 use Rattle.lfs_model.specs.View.{IsAcceptedImage}
@@ -14,7 +15,7 @@ use Rattle.lfs_model.specs.Operations as ops
 use Rattle.lfs_model.specs.Operations.{Operation, Reply}
 use Rattle.lfs_model.specs.Session.{Session, DiskSummary}
 use Rattle.lfs_model.specs.Effects.{refusal_or_effect_of_operation}
-use Rattle.lfs_model.specs.State.{Healthy, session_after_mount}
+use Rattle.lfs_model.specs.State.{Healthy, is_remount_operation, session_after_mount}
 use Rattle.lfs_model.specs.Recovery.{IsNothingLeftToRecover}
 use Rattle.lfs_model.specs.Run.{SystemState, IsTreeOfDiskOrNone, IsSessionStep}
 use Rattle.lfs_model.specs.Headline.{IsSessionHealthyWithDiskTree}
@@ -100,11 +101,14 @@ IsPowerLostInOrAfterRun from operations to (inr short) left tree = IsPowerLostIn
 
 -- ---- a loss of power in a run
 
--- The disk that was left has the tree from before the operation that was cut, or from after it. A mount and a recovery keep that tree.
+-- The disk that was left has the tree from before the operation that was cut, or from after it. A mount and a recovery keep that
+-- tree. The names are in the order that the session had there, which only a remount finds anew.
 pub record IsPowerLossSurvived (from : SystemState) (operations : List Operation) (to : SystemState) (run : IsRunOfOperationsOrEndedByError from operations to) (left : Disk) : Type 0 where
+  pub order : NameOrder
+  pub stays : All (λ op. is_remount_operation op ≡ false) operations → order ≡ left.order
   pub tree : Tree
-  pub cut : IsPowerLostInOrAfterRun from operations to run left tree
-  pub safe : IsWritableDiskWhoseTreeRecoveryKeeps tree left
+  pub cut : IsPowerLostInOrAfterRun from operations to run (disk_in_order order left) tree
+  pub safe : IsWritableDiskWhoseTreeRecoveryKeeps tree (disk_in_order order left)
 
 -- A session mounts the disk and performs operations, a recovery for example. Power is lost during them, and another disk is left.
 pub record IsDiskLeftByPowerLossAfterMount (disk left : Disk) : Type 0 where

@@ -33,7 +33,8 @@ abbrev pub is_remount_operation : Operation → Bool
 is_remount_operation ops.Remount = true
 is_remount_operation _ = false
 
--- A remount takes the tree of the disk, or none where the disk isn't accepted. Then the remount fails and gives no reply.
+-- A remount takes the tree of the disk, or none where the disk is accepted in neither order of names. Then the remount fails and
+-- gives no reply.
 abbrev pub reply_and_session_health_after_remount : Option Tree → Option Reply × SessionHealth
 reply_and_session_health_after_remount None = (None, HasFailed)
 reply_and_session_health_after_remount (Some tree) = (Some ops.Done, Healthy (session_after_mount tree))

@@ -2,7 +2,7 @@ use Rattle.std.proofs.Common.{◌≡◌, inl, inr, List, [], ◌∷◌, ◌++◌
 use Rattle.lfs_model.specs.Operations.{Operation}
 use Rattle.lfs_model.specs.RepeatedPowerLoss.{IsPowerLostAfterRun, IsPowerLossSurvived}
 use Rattle.lfs_model.specs.Performed.{IsRunOfOperationsOrEndedByError}
-use Rattle.lfs_model.specs.Disk.{Disk}
+use Rattle.lfs_model.specs.Disk.{Disk, disk_in_order}
 use Rattle.lfs_model.specs.Run.{SystemState}
 use Rattle.lfs_model.specs.Session.{Session}
 use Rattle.lfs_model.specs.examples.Runs.{fresh_system_state}
@@ -11,7 +11,7 @@ use Rattle.lfs_model.specs.Fresh.{empty_tree}
 use Rattle.lfs_model.specs.State.{SessionHealth, HasFailed, Healthy, session_after_mount}
 use Rattle.lfs_model.proofs.Fresh.{shows}
 use Rattle.lfs_model.specs.examples.Images.{small_fresh_image}
-use Rattle.lfs_model.proofs.FreshSession.{pairs, are_accepted, in_profile, tree_is_empty, none_accepted}
+use Rattle.lfs_model.proofs.FreshSession.{pairs, are_accepted, in_profile, none_in_order, tree_in_order}
 use Rattle.lfs_model.proofs.Survived.{run_survives}
 use Rattle.lfs_model.proofs.losses.power_loss_is_survived.Goals as goal
 
@@ -26,10 +26,10 @@ returns-clause-may c = record {
 }
 
 pub returns-clause-not_lost : goal.returns-clause-not_lost
-returns-clause-not_lost c = λ to run s. none_accepted s.safe.pairs s.safe.accepted
+returns-clause-not_lost c = λ to run s. none_in_order s.order s.safe.pairs s.safe.accepted
 
 pub returns-clause-not_changed : goal.returns-clause-not_changed
-returns-clause-not_changed c = λ to run s e. absurd (let k = ap (λ (t : Tree). t []) (sym (tree_is_empty s.safe.pairs s.safe.accepted) ∙ s.safe.shows ∙ e) in cc)
+returns-clause-not_changed c = λ to run s e. absurd (let k = ap (λ (t : Tree). t []) (sym (tree_in_order s.order s.safe.pairs s.safe.accepted) ∙ s.safe.shows ∙ e) in cc)
 
 same_session : (s t : Session) → Healthy s ≡ Healthy t → s ≡ t
 same_session s t e = ap (λ z. or_else z) e
@@ -47,7 +47,7 @@ at_end : (from at : SystemState) (left : Disk) (tree : Tree) → from.state ≡ 
 at_end from at left tree begun same cut = cut.is ∙ sym (ap (λ (s : Session). s.tree) (same_session (session_after_mount empty_tree) cut.session (sym begun ∙ ap (λ (m : SystemState). m.state) same ∙ cut.healthy)))
 
 none_begun : (to : SystemState) (run : IsRunOfOperationsOrEndedByError fresh_system_state [] to) (left : Disk) (s : IsPowerLossSurvived fresh_system_state [] to run left) → s.tree ≡ empty_tree
-none_begun to (inl ([], same)) left s = at_end fresh_system_state to left s.tree refl same s.cut
+none_begun to (inl ([], same)) left s = at_end fresh_system_state to (disk_in_order s.order left) s.tree refl same s.cut
 none_begun to (inl (reply ∷ replies, steps)) left s = absurd steps
 none_begun to (inr short) left s = absurd (none_short short.done short.next short.others short.are)
 

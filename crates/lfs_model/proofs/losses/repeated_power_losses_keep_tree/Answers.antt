@@ -11,7 +11,7 @@ use Rattle.lfs_model.specs.examples.Runs.{fresh_system_state, disk_without_block
 use Rattle.lfs_model.proofs.Fresh.{shows}
 use Rattle.lfs_model.proofs.AskedStep.{asked}
 use Rattle.lfs_model.proofs.Survived.{again_survived}
-use Rattle.lfs_model.proofs.FreshSession.{pairs, are_accepted, none_accepted}
+use Rattle.lfs_model.proofs.FreshSession.{pairs, are_accepted, none_in_order}
 use Rattle.lfs_model.proofs.SafeImage.{is_safe}
 use Rattle.lfs_model.proofs.losses.repeated_power_losses_keep_tree.Goals as goal
 
@@ -37,8 +37,8 @@ returns-clause-again c = (once, (once, tt))
 
 pub returns-clause-not_all : goal.returns-clause-not_all
 returns-clause-not_all c = λ o.
-    let s = again_survived small_fresh_image empty_tree (disk_without_blocks ∷ []) is_safe (o, tt) in
-    none_accepted s.0.safe.pairs s.0.safe.accepted
+    let s = again_survived small_fresh_image.order small_fresh_image empty_tree (disk_without_blocks ∷ []) is_safe (o, tt) in
+    none_in_order s.0.order s.0.safe.pairs s.0.safe.accepted
 
 pub returns-clause-in_a_read : goal.returns-clause-in_a_read
 returns-clause-in_a_read c = λ blocks. record {

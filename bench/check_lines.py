@@ -379,7 +379,7 @@ def wrong_move(pairs):
     slots = [slot for pair in pairs if set(pair.address) == set(address) for slot in pair.slots[ident : ident + 1]]
     is_entry = kind == SET_MOVE and any(slot.kind != SUPERBLOCK for slot in slots)
     if not is_entry and (kind, ident, address) != (0, 0, (0, 0)):
-        yield "bad move", "global state: its move names no entry"
+        yield "bad move", "global state: " + ("its move names no entry" if kind else "no move is set, but it names a slot")
 
 
 def wrong_first_entry(pairs):

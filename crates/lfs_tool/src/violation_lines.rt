@@ -21,6 +21,7 @@ use crate::superblocks::wrong_number_in_superblock_fields;
 use crate::verdict::BrokenRule;
 use lfs_device::{BlockDevice, Error, Geometry, RamDevice};
 use lfs_model::Violation;
+use lfs_tag::MoveState;
 use lfs_thread::Thread;
 use std::alloc::{AllocError, Global};
 
@@ -165,6 +166,17 @@ fn push_slot_line(
     }
 }
 
+// Adds what is wrong with the move of a global state.
+fn push_move_line(rule: &mut BrokenRule, state: &MoveState) -> Result<(), AllocError> {
+    match rule.violation {
+        Violation::Move if state.kind == 0 => {
+            push_text(&mut rule.line, "global state: no move is set, but it names a slot")
+        }
+        Violation::Move => push_text(&mut rule.line, "global state: its move names no entry"),
+        _ => Ok(()),
+    }
+}
+
 // Adds the line of a rule for which the slots of a whole thread are read.
 fn push_thread_line(
     alloc: Global,
@@ -183,6 +195,7 @@ fn push_thread_line(
         state: &state,
         root: root_pair_index(&pairs),
     };
+    push_move_line(rule, &state)?;
     push_slot_line(rule, &geometry, &pairs)?;
     push_directory_line(alloc, rule, &slots, other)?;
     let mut device = thread.into_device();
@@ -201,7 +214,6 @@ fn push_plain_line(
         Violation::NoSuperblock => push_text(text, NO_SUPERBLOCK)?,
         Violation::FirstEntry { pair } => push_pair_line(text, pair, OTHER_FIRST_ENTRY)?,
         Violation::NoPath { pair } => push_pair_line(text, pair, NO_PATH)?,
-        Violation::Move => push_text(text, "global state: its move names no entry")?,
         _ => return Ok(false),
     }
     Ok(true)

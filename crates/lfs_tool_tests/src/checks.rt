@@ -451,7 +451,7 @@ const BROKEN_MOVES_AND_LISTS: [Row<'static>; 9] = [
     (
         &[(MOVE_STATE, &[0, 4, 0, 0, 0, 0, 0, 0, 0, 0, 0, 0])],
         &[],
-        "corrupt\nglobal state: its move names no entry\n",
+        "corrupt\nglobal state: no move is set, but it names a slot\n",
     ),
     // a superblock's slot that was a file's, and one that was made behind a pair without slots
     (

@@ -1,16 +1,20 @@
 -- The bytes of an extender that do not fill a block.
-use Rattle.std.proofs.Common.{ℕ, ◌≡◌, ◌<◌, ◌+◌, ◌-◌, ◌*◌, ◌^◌, length, drop, subst, arith, length-drop}
+use Rattle.std.proofs.Common.{ℕ, ◌≡◌, ◌<◌, ◌+◌, ◌-◌, ◌*◌, ◌^◌, length, drop, sym, subst, arith, length-drop}
 use Rattle.std.proofs.lemmas.List.{length-take-le}
 use Rattle.lfs_model.specs.SkipLists.{pointer_count_of_list_block}
-use Rattle.lfs_ctz.specs.declared.extender.Extender.TheInside.{Inside}
+use Rattle.lfs_ctz.specs.declared.extender.ExtenderState.{ExtenderState}
 use Rattle.lfs_ctz.specs.Fields.{HasOneBlockBufferAndConsistentNumbers, growing_list_view}
 use Rattle.lfs_ctz.specs.Growing.{GrowingList, AreLastBytesShorterThanBlock, size_of_growing_list}
 
 -- how many there are
-pub rest_long : (e : Inside) → HasOneBlockBufferAndConsistentNumbers e → length (growing_list_view e).rest + 4 * pointer_count_of_list_block e.full ≡ e.filled
+pub rest_long : (e : ExtenderState) → HasOneBlockBufferAndConsistentNumbers e → length (growing_list_view e).rest + 4 * pointer_count_of_list_block e.full ≡ e.filled
 rest_long e has =
     let p : ℕ = 4 * pointer_count_of_list_block e.full in
     omega (arith, length-take-le (e.filled - p) (drop p e.buffer.items) (omega (arith, has.one_block, has.in_step.high, length-drop p e.buffer.items)), has.in_step.low)
+
+-- the invariant of a state that is lent
+pub lent : {e f : ExtenderState} → e ≡ f → HasOneBlockBufferAndConsistentNumbers f → HasOneBlockBufferAndConsistentNumbers e
+lent same has = subst HasOneBlockBufferAndConsistentNumbers (sym same) has
 
 -- they do not fill a block, and the size counts them
 pub record IsCounted (g : GrowingList) (size : ℕ) : Type 0 where
@@ -18,7 +22,7 @@ pub record IsCounted (g : GrowingList) (size : ℕ) : Type 0 where
   pub sum : size ≡ size_of_growing_list g
   pub fits : size < 2 ^ 31
 
-pub counted : (e : Inside) (g : GrowingList) → HasOneBlockBufferAndConsistentNumbers e → growing_list_view e ≡ g → IsCounted g e.size
+pub counted : (e : ExtenderState) (g : GrowingList) → HasOneBlockBufferAndConsistentNumbers e → growing_list_view e ≡ g → IsCounted g e.size
 counted e g has is =
     let rest = rest_long e has in
     subst (λ (v : GrowingList). IsCounted v e.size) is

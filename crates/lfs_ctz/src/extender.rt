@@ -4,6 +4,7 @@ ghost use Rattle.lfs_ctz.specs.Calls.{ReportsNoErrorButIo, ReportsIoOrNoMemory};
 ghost use Rattle.lfs_ctz.specs.Counts.{AddsOneEraseAndProgramPerBlock};
 ghost use Rattle.lfs_ctz.specs.Extended.{GrowingListHasBytesAndBlocks};
 ghost use Rattle.lfs_ctz.specs.Extending.{CanFinishGrowingList, IsDeviceBlockOutsideFullBlocksOfList, CanPushBytesToList, CanResumeListAfterFirstBytes, HasTheseBytesOnlyInBuffer, HasPushedBytesToList, IsResumedList, IsStartedEmptyList};
+ghost use Rattle.lfs_ctz.specs.Fields.{HasOneBlockBufferAndConsistentNumbers, growing_list_view};
 ghost use Rattle.lfs_ctz.specs.Finished.{IsSkipListWithBytesAndBlocks};
 ghost use Rattle.lfs_ctz.specs.Growing.{HasAllBytesInBuffer, HasUnwrittenBlockAmongTheseBlocks, blocks_of_growing_list, bytes_of_growing_list, size_of_growing_list, count_of_blocks_to_append, block_for_next_bytes_with_used_count, unwritten_block_of_list};
 ghost use Rattle.lfs_device.specs.Calls.{ChangesOnlyThisBlock, ChangesOnlyTheseBlocks, ReadsOnly};
@@ -31,6 +32,13 @@ use std::marker::Model;
 /// A contract sees the list that grows: its full blocks, and the bytes after them.
 #[derive(Drop)]
 pub struct Extender {
+    // An extender is moved through several layers at each write, so its fields are on the heap.
+    state: Box<ExtenderState>,
+}
+
+// The fields of an extender.
+#[derive(Drop)]
+struct ExtenderState {
     geometry: Geometry,
     buffer: Vec<u8>,
     full: u32,
@@ -47,9 +55,9 @@ impl Model for Extender {
 
     ghost use Rattle.lfs_ctz.specs.Fields.{HasOneBlockBufferAndConsistentNumbers, growing_list_view};
 
-    ghost view = { growing_list_view };
+    ghost view = { λ e. growing_list_view e.state.value };
 
-    ghost invariant = { HasOneBlockBufferAndConsistentNumbers };
+    ghost invariant = { λ e. HasOneBlockBufferAndConsistentNumbers e.state.value };
 }
 
 // Writes bytes over those from a place on.
@@ -70,6 +78,16 @@ fn fill_buffer_range_with_byte(all: &mut Vec<u8>, at: usize, end: usize, byte: u
 }
 
 impl Extender {
+    // Makes an extender whose fields are these.
+    fn of_state(alloc: Global, state: ExtenderState) -> Result<Extender, Error>
+        requires { HasOneBlockBufferAndConsistentNumbers state }
+        ensures list { IfOk result (λ list. list ≡ growing_list_view state) }
+        ensures error { IfErr result (λ e. e ≡ Error.NoMemory) }
+    {
+        let state = Box::new(alloc, state)?;
+        Ok(Extender { state })
+    }
+
     /// Makes an extender of an empty list.
     ///
     /// Errors: `NoMemory` where memory for a block isn't granted.
@@ -78,7 +96,7 @@ impl Extender {
         ensures errors { IfErr result (λ e. e ≡ Error.NoMemory) }
     {
         let buffer = Vec::from_elem(alloc, 0u8, geometry.block_size as usize)?;
-        Ok(Extender {
+        let state = ExtenderState {
             geometry,
             buffer,
             full: 0,
@@ -86,7 +104,8 @@ impl Extender {
             filled: 0,
             size: 0,
             stand: RestLocation::Closed,
-        })
+        };
+        Extender::of_state(alloc, state)
     }
 
     /// Makes an extender of the first `keep` bytes of a well-formed list, whose last block is
@@ -111,7 +130,7 @@ impl Extender {
         let (index, off) = place(block_size, keep - 1);
         let block = find_block_at_index(dev, head, blocks_for(block_size, size) - 1, index)?;
         if off + 1 == block_size {
-            return Ok(Extender {
+            let state = ExtenderState {
                 geometry,
                 buffer,
                 full: index + 1,
@@ -119,11 +138,12 @@ impl Extender {
                 filled: 4 * pointer_count_at_index(index + 1),
                 size: keep,
                 stand: RestLocation::Closed,
-            });
+            };
+            return Extender::of_state(alloc, state);
         }
         let head = head_of_list_before_block(dev, block, index)?;
         read_block_bytes_into_buffer_range(dev, block, 0, buffer.as_mut_slice(), 0, off + 1)?;
-        Ok(Extender {
+        let state = ExtenderState {
             geometry,
             buffer,
             full: index,
@@ -131,7 +151,8 @@ impl Extender {
             filled: off + 1,
             size: keep,
             stand: RestLocation::Shared(block),
-        })
+        };
+        Extender::of_state(alloc, state)
     }
 
     /// Replaces the contents by these bytes, in memory and in no block. What the extender had
@@ -142,12 +163,13 @@ impl Extender {
         requires { length bytes.now < self.old.geometry.block_size }
         ensures { HasTheseBytesOnlyInBuffer self.old.geometry self.new bytes.now }
     {
-        overwrite_buffer_bytes(&mut self.buffer, 0, bytes);
-        self.full = 0;
-        self.head = 0;
-        self.filled = bytes.len() as u32;
-        self.size = self.filled;
-        self.stand = RestLocation::Held;
+        let state = &mut *self.state;
+        overwrite_buffer_bytes(&mut state.buffer, 0, bytes);
+        state.full = 0;
+        state.head = 0;
+        state.filled = bytes.len() as u32;
+        state.size = state.filled;
+        state.stand = RestLocation::Held;
     }
 
     /// Returns the contents, which are all in memory and none in a block.
@@ -155,7 +177,8 @@ impl Extender {
         requires { HasAllBytesInBuffer self.now }
         ensures { result.now ≡ self.now.rest }
     {
-        &self.buffer[..self.filled as usize]
+        let state = &*self.state;
+        &state.buffer[..state.filled as usize]
     }
 
     /// Writes bytes over those from the place `at` on, or after them. The contents are all in
@@ -167,11 +190,12 @@ impl Extender {
         requires room { at + length bytes.now < self.old.geometry.block_size }
         ensures { HasTheseBytesOnlyInBuffer self.old.geometry self.new (with_bytes self.old.rest at bytes.now) }
     {
-        let from = self.filled.max(at);
-        fill_buffer_range_with_byte(&mut self.buffer, self.filled as usize, from as usize, 0);
-        overwrite_buffer_bytes(&mut self.buffer, at as usize, bytes);
-        self.filled = self.filled.max(at + bytes.len() as u32);
-        self.size = self.filled;
+        let state = &mut *self.state;
+        let from = state.filled.max(at);
+        fill_buffer_range_with_byte(&mut state.buffer, state.filled as usize, from as usize, 0);
+        overwrite_buffer_bytes(&mut state.buffer, at as usize, bytes);
+        state.filled = state.filled.max(at + bytes.len() as u32);
+        state.size = state.filled;
     }
 
     /// Keeps the first `len` bytes of contents that are all in memory and none in a block.
@@ -182,22 +206,23 @@ impl Extender {
         requires within { len ≤ length self.old.rest }
         ensures { HasTheseBytesOnlyInBuffer self.old.geometry self.new (take len self.old.rest) }
     {
-        self.filled = len;
-        self.size = len;
+        let state = &mut *self.state;
+        state.filled = len;
+        state.size = len;
     }
 
     /// Returns how many bytes the list has.
     pub fn size(&self) -> u32
         ensures { result ≡ size_of_growing_list self.now }
     {
-        self.size
+        self.state.size
     }
 
     /// Returns how many blocks are full and on the device.
     pub fn full_block_count(&self) -> u32
         ensures { result ≡ self.now.full }
     {
-        self.full
+        self.state.full
     }
 
     /// Returns how many blocks a push of `n` bytes takes. The full blocks of a resumed list are
@@ -211,15 +236,16 @@ impl Extender {
         ensures count { result ≡ count_of_blocks_to_append self.now n }
         ensures within { self.now.full + length (unwritten_block_of_list self.now) ≤ list_block_count_for_size self.now.geometry.block_size (size_of_growing_list self.now + n) }
     {
-        let begun = match self.stand {
+        let state = &*self.state;
+        let begun = match state.stand {
             RestLocation::Handed(_) => 1,
             _ => 0,
         };
         // Bytes that fit in the block of the last ones take no further block.
-        if begun == 1 && n <= self.geometry.block_size - self.filled {
+        if begun == 1 && n <= state.geometry.block_size - state.filled {
             return 0;
         }
-        blocks_for(self.geometry.block_size, self.size + n) - (self.full + begun)
+        blocks_for(state.geometry.block_size, state.size + n) - (state.full + begun)
     }
 
     // Returns the block that takes the next bytes, and how many of the blocks that were handed in
@@ -228,7 +254,7 @@ impl Extender {
         requires { unwritten_block_of_list self.now ≡ [] → used < length blocks.now }
         ensures { result ≡ block_for_next_bytes_with_used_count self.now.stand blocks.now used }
     {
-        match self.stand {
+        match self.state.stand {
             RestLocation::Handed(block) => (block, used),
             _ => (blocks[used], used + 1),
         }
@@ -256,23 +282,24 @@ impl Extender {
         ensures device { ChangesOnlyThisBlock D.BlockDevice block dev.old dev.new }
         ensures io { ReportsNoErrorButIo D.BlockDevice dev.old dev.new result }
     {
-        let block_size = self.geometry.block_size;
-        let start = self.filled as usize;
+        let state = &mut *self.state;
+        let block_size = state.geometry.block_size;
+        let start = state.filled as usize;
         let n = bytes.len().min(block_size as usize - start);
-        overwrite_buffer_bytes(&mut self.buffer, start, &bytes[..n]);
+        overwrite_buffer_bytes(&mut state.buffer, start, &bytes[..n]);
         if start + n < block_size as usize {
-            self.filled += n as u32;
-            self.size += n as u32;
-            self.stand = RestLocation::Handed(block);
+            state.filled += n as u32;
+            state.size += n as u32;
+            state.stand = RestLocation::Handed(block);
             return Ok(n);
         }
-        let buffer = self.buffer.as_mut_slice();
-        write_block(dev, self.head, self.full, block, buffer, block_size)?;
-        self.full += 1;
-        self.head = block;
-        self.filled = 4 * pointer_count_at_index(self.full);
-        self.size += n as u32;
-        self.stand = RestLocation::Closed;
+        let buffer = state.buffer.as_mut_slice();
+        write_block(dev, state.head, state.full, block, buffer, block_size)?;
+        state.full += 1;
+        state.head = block;
+        state.filled = 4 * pointer_count_at_index(state.full);
+        state.size += n as u32;
+        state.stand = RestLocation::Closed;
         Ok(n)
     }
 
@@ -318,10 +345,11 @@ impl Extender {
         ensures device { ChangesOnlyThisBlock D.BlockDevice block dev.old dev.new }
         ensures io { ReportsNoErrorButIo D.BlockDevice dev.old dev.new result }
     {
-        let end = self.filled.next_multiple_of(self.geometry.page);
-        fill_buffer_range_with_byte(&mut self.buffer, self.filled as usize, end as usize, 0xff);
-        let buffer = self.buffer.as_mut_slice();
-        write_block(dev, self.head, self.full, block, buffer, end)?;
+        let state = &mut *self.state;
+        let end = state.filled.next_multiple_of(state.geometry.page);
+        fill_buffer_range_with_byte(&mut state.buffer, state.filled as usize, end as usize, 0xff);
+        let buffer = state.buffer.as_mut_slice();
+        write_block(dev, state.head, state.full, block, buffer, end)?;
         Ok(())
     }
 
@@ -342,10 +370,12 @@ impl Extender {
         ensures device { ChangesOnlyTheseBlocks D.BlockDevice (unwritten_block_of_list self) dev.old dev.new }
         ensures io { ReportsNoErrorButIo D.BlockDevice dev.old dev.new result }
     {
-        let size = self.size;
-        match self.stand {
-            RestLocation::Closed => Ok((self.head, size)),
-            RestLocation::Held => Ok((self.head, size)),
+        let state = &*self.state;
+        let head = state.head;
+        let size = state.size;
+        match state.stand {
+            RestLocation::Closed => Ok((head, size)),
+            RestLocation::Held => Ok((head, size)),
             RestLocation::Shared(block) => Ok((block, size)),
             RestLocation::Handed(block) => {
                 self.write_last_block(dev, block)?;

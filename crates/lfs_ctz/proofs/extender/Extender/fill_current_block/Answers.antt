@@ -5,7 +5,7 @@ use Rattle.lfs_device.specs.declared.geometry.Geometry.{Geometry}
 use Rattle.lfs_model.proofs.Overwrites.{length-overwritten}
 use Rattle.lfs_model.specs.Blocks.{Blocks, block_bytes_by_number, bytes_after_overwrite_at}
 use Rattle.lfs_model.specs.SkipLists.{pointer_count_of_list_block, byte_count_before_list_block, list_blocks_from_head}
-use Rattle.lfs_ctz.specs.declared.extender.Extender.TheInside.{Inside}
+use Rattle.lfs_ctz.specs.declared.extender.ExtenderState.{ExtenderState}
 use Rattle.lfs_ctz.specs.Extended.{GrowingListHasBytesAndBlocks}
 use Rattle.lfs_ctz.specs.Extending.{IsDeviceBlockOutsideFullBlocksOfList}
 use Rattle.lfs_ctz.specs.Fields.{HasOneBlockBufferAndConsistentNumbers, growing_list_view}
@@ -13,14 +13,14 @@ use Rattle.lfs_ctz.specs.Growing.{GrowingList, bytes_of_growing_list, size_of_gr
 use Rattle.lfs_ctz.proofs.Called.{not_read, only_read}
 use Rattle.lfs_ctz.proofs.Geometries.{shaped}
 use Rattle.lfs_ctz.specs.declared.rest.RestLocation.TheVariants.{Closed, Handed}
-use Rattle.lfs_ctz.proofs.Rests.{rest_long}
+use Rattle.lfs_ctz.proofs.Rests.{lent, rest_long}
 use Rattle.lfs_ctz.proofs.Stands.{is_grown}
 use Rattle.lfs_ctz.proofs.Sizes.{byte_count_before_list_block-least, pointer_count_of_list_block-le}
 use Rattle.lfs_ctz.proofs.Filling.{rest_more, joined_full}
 use Rattle.lfs_ctz.proofs.extender.Extender.fill_current_block.Goals as goal
 
 -- the rest, with more bytes after it
-longer : (e : Inside) (bytes new : List ℕ) (n : ℕ) → HasOneBlockBufferAndConsistentNumbers e → n ≤ length bytes → e.filled + n ≤ e.geometry.block_size → new ≡ bytes_after_overwrite_at e.buffer.items e.filled (take n bytes)
+longer : (e : ExtenderState) (bytes new : List ℕ) (n : ℕ) → HasOneBlockBufferAndConsistentNumbers e → n ≤ length bytes → e.filled + n ≤ e.geometry.block_size → new ≡ bytes_after_overwrite_at e.buffer.items e.filled (take n bytes)
     → take (e.filled + n - 4 * pointer_count_of_list_block e.full) (drop (4 * pointer_count_of_list_block e.full) new) ≡ (growing_list_view e).rest ++ take n bytes
 longer e bytes new n has le fits is =
     ap (λ (l : List ℕ). take (e.filled + n - 4 * pointer_count_of_list_block e.full) (drop (4 * pointer_count_of_list_block e.full) l)) is
@@ -28,9 +28,9 @@ longer e bytes new n has le fits is =
 
 pub returns-then-start-n-clause-filled : goal.returns-then-start-n-clause-filled
 returns-then-start-n-clause-filled g c =
-    let e = c.self.inside in
-    let has = c.self.invariant in
-    let shown = sym c.self.view_is in
+    let e = c.deref_mut-state.result.now in
+    let has = lent c.deref_mut-state.ensures.value c.self.invariant in
+    let shown = sym (ap growing_list_view c.deref_mut-state.ensures.value ∙ c.self.view_is) in
     let n : ℕ = c.min-n.result in
     let bytes : List ℕ = c.args.bytes.now in
     let old : Blocks = g.D.BlockDevice.blocks c.args.dev.now in
@@ -42,7 +42,7 @@ returns-then-start-n-clause-filled g c =
     let long = length-take-le n bytes few in
     let all = length-append (growing_list_view e).rest (take n bytes) in
     let new : GrowingList = growing_list_view (record e { buffer = c.overwrite_buffer_bytes.new.all; filled = e.filled + n; size = e.size + n; stand = Handed c.args.block }) in
-    subst (λ (v : GrowingList). GrowingListHasBytesAndBlocks v.geometry old new (bytes_of_growing_list old v ++ take n bytes) (size_of_growing_list v + n) (list_blocks_from_head old v.full v.head ++ c.args.block ∷ []) (list_blocks_from_head old v.full v.head ++ c.args.block ∷ [])) c.self.view_is
+    subst (λ (v : GrowingList). GrowingListHasBytesAndBlocks v.geometry old new (bytes_of_growing_list old v ++ take n bytes) (size_of_growing_list v + n) (list_blocks_from_head old v.full v.head ++ c.args.block ∷ []) (list_blocks_from_head old v.full v.head ++ c.args.block ∷ [])) (sym shown)
     (is_grown e.geometry old new _ _ _ _ _ (shaped old _ e.geometry (sym same) shape) refl
     (omega (arith, ap length rest, all, long, rest_long e has, c.if-start-n.true))
     (record {
@@ -69,49 +69,50 @@ returns-clause-waits g c = record { listed = refl; pending = λ other apart k x 
 pub returns-clause-writes : goal.returns-clause-writes
 returns-clause-writes g c =
     let one = c.in_ok-write_block.ensures.writes in
-    let full = ap (λ (v : GrowingList). v.full) c.self.view_is in
+    let full = ap (λ (v : GrowingList). v.full) (ap growing_list_view c.deref_mut-state.ensures.value ∙ c.self.view_is) in
     record { erased = omega (arith, one.erased, full); programmed = omega (arith, one.programmed, full) }
 
-pub overflow_add-self-2 : goal.overflow_add-self-2
-overflow_add-self-2 g c =
-    let e = c.self.inside in
-    let has = c.self.invariant in
-    let room = subst (λ (v : GrowingList). size_of_growing_list v + length c.args.bytes.now < 2 ^ 31) (sym c.self.view_is) c.requires.room in
+pub overflow_add-state-2 : goal.overflow_add-state-2
+overflow_add-state-2 g c =
+    let e = c.deref_mut-state.result.now in
+    let has = lent c.deref_mut-state.ensures.value c.self.invariant in
+    let room = subst (λ (v : GrowingList). size_of_growing_list v + length c.args.bytes.now < 2 ^ 31) (sym (ap growing_list_view c.deref_mut-state.ensures.value ∙ c.self.view_is)) c.requires.room in
     let few = byte_count_before_list_block-least e.geometry.block_size e.full e.geometry.valid.no_smaller in
     let sum = has.in_step.sum in
     let fits = has.in_step.fits in
     omega arith
 
-pub overflow_mul-self : goal.overflow_mul-self
-overflow_mul-self g c = let few = pointer_count_of_list_block-le (c.self.inside.full + 1) in omega (arith, c.pointer_count_at_index.ensures)
+pub overflow_mul-state : goal.overflow_mul-state
+overflow_mul-state g c = let few = pointer_count_of_list_block-le (c.deref_mut-state.result.now.full + 1) in omega (arith, c.pointer_count_at_index.ensures)
 
 pub invariant_of-self-2 : goal.invariant_of-self-2
 invariant_of-self-2 g c =
-    let e = c.self.inside in
+    let e = c.deref_mut-state.result.now in
+    let has = lent c.deref_mut-state.ensures.value c.self.invariant in
     let size : ℕ = e.geometry.block_size in
     let large = e.geometry.valid.no_smaller in
     let few = pointer_count_of_list_block-le (e.full + 1) in
-    let low = c.self.invariant.in_step.low in
-    let high = c.self.invariant.in_step.high in
-    let sum = c.self.invariant.in_step.sum in
+    let low = has.in_step.low in
+    let high = has.in_step.high in
+    let sum = has.in_step.sum in
     let next = ap (byte_count_before_list_block size) (add-one e.full) in
     let here = pointer_count_of_list_block-le e.full in
-    let rest = rest_long e c.self.invariant in
-    let room = subst (λ (v : GrowingList). size_of_growing_list v + length c.args.bytes.now < 2 ^ 31) (sym c.self.view_is) c.requires.room in
+    let rest = rest_long e has in
+    let room = subst (λ (v : GrowingList). size_of_growing_list v + length c.args.bytes.now < 2 ^ 31) (sym (ap growing_list_view c.deref_mut-state.ensures.value ∙ c.self.view_is)) c.requires.room in
     let taken = c.min-n.ensures in
     let many = c.pointer_count_at_index.ensures in
     let long = length-take-le c.min-n.result c.args.bytes.now (omega (arith, taken)) in
     record {
       one_block = ap length (with_items_is c.overwrite_buffer_bytes.new.all c.write_block.new.buf (omega (arith, c.write_block.auto.buf, c.as_mut_slice-buffer.ensures.len, c.overwrite_buffer_bytes.new.all.ok.0)))
-          ∙ omega (arith, c.write_block.auto.buf, ap length c.as_mut_slice-buffer.ensures.value, ap length c.overwrite_buffer_bytes.ensures, length-overwritten e.buffer.items e.filled (take c.min-n.result c.args.bytes.now) (omega (arith, long, c.self.invariant.one_block)), c.self.invariant.one_block);
+          ∙ omega (arith, c.write_block.auto.buf, ap length c.as_mut_slice-buffer.ensures.value, ap length c.overwrite_buffer_bytes.ensures, length-overwritten e.buffer.items e.filled (take c.min-n.result c.args.bytes.now) (omega (arith, long, has.one_block)), has.one_block);
       in_step = record { low = omega arith; high = omega arith; sum = omega arith; fits = omega arith };
     }
 
 pub returns-clause-filled : goal.returns-clause-filled
 returns-clause-filled g c =
-    let e = c.self.inside in
-    let has = c.self.invariant in
-    let shown = sym c.self.view_is in
+    let e = c.deref_mut-state.result.now in
+    let has = lent c.deref_mut-state.ensures.value c.self.invariant in
+    let shown = sym (ap growing_list_view c.deref_mut-state.ensures.value ∙ c.self.view_is) in
     let p : ℕ = 4 * pointer_count_of_list_block e.full in
     let n : ℕ = c.min-n.result in
     let size : ℕ = e.geometry.block_size in
@@ -128,14 +129,14 @@ returns-clause-filled g c =
     ∙ ap (λ (l : List ℕ). take (size - p) (drop p l)) (c.as_mut_slice-buffer.ensures.value ∙ c.overwrite_buffer_bytes.ensures)
     ∙ ap (λ k. take (k - p) (drop p (bytes_after_overwrite_at e.buffer.items e.filled (take n c.args.bytes.now)))) (sym whole)
     ∙ rest_more e.buffer.items (take n c.args.bytes.now) p e.filled n has.in_step.low (length-take-le n c.args.bytes.now (omega (arith, c.min-n.ensures))) (omega (arith, has.one_block)) in
-    let later : Inside = record e { buffer = with_items c.overwrite_buffer_bytes.new.all c.write_block.new.buf; full = e.full + 1; head = c.args.block; filled = 4 * c.pointer_count_at_index.result; size = e.size + n; stand = Closed } in
+    let later : ExtenderState = record e { buffer = with_items c.overwrite_buffer_bytes.new.all c.write_block.new.buf; full = e.full + 1; head = c.args.block; filled = 4 * c.pointer_count_at_index.result; size = e.size + n; stand = Closed } in
     let rest : (growing_list_view later).rest ≡ [] =
     ap (λ k. take k (drop (4 * pointer_count_of_list_block (e.full + 1)) (with_items c.overwrite_buffer_bytes.new.all c.write_block.new.buf).items)) (let none : 4 * c.pointer_count_at_index.result - 4 * pointer_count_of_list_block (e.full + 1) ≡ 0 = omega (arith, c.pointer_count_at_index.ensures) in none) in
     let appended = c.in_ok-write_block.ensures.appended in
     let device = c.write_block.ensures.device in
     let long = length-take-le n c.args.bytes.now (omega (arith, c.min-n.ensures)) in
     let old_rest = rest_long e has in
-    subst (λ (v : GrowingList). GrowingListHasBytesAndBlocks v.geometry new (growing_list_view later) (bytes_of_growing_list old v ++ take n c.args.bytes.now) (size_of_growing_list v + n) (list_blocks_from_head old v.full v.head ++ c.args.block ∷ []) (list_blocks_from_head old v.full v.head ++ c.args.block ∷ [])) c.self.view_is
+    subst (λ (v : GrowingList). GrowingListHasBytesAndBlocks v.geometry new (growing_list_view later) (bytes_of_growing_list old v ++ take n c.args.bytes.now) (size_of_growing_list v + n) (list_blocks_from_head old v.full v.head ++ c.args.block ∷ []) (list_blocks_from_head old v.full v.head ++ c.args.block ∷ [])) (sym shown)
     (is_grown e.geometry new (growing_list_view later) _ _ _ _ _ (shaped new _ e.geometry (sym (device.geometry ∙ same)) (g.met.D.BlockDevice.shape c.write_block.new.dev)) refl
     (omega (arith, ap length rest, pointer_count_of_list_block-le (e.full + 1), e.geometry.valid.no_smaller))
     (record { chain = appended.chain; stand = rest })

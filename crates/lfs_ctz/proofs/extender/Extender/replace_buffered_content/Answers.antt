@@ -1,4 +1,4 @@
-use Rattle.std.proofs.Common.{refl, ◌<◌, length, ap, subst, sym, arith}
+use Rattle.std.proofs.Common.{refl, ◌<◌, length, ap, subst, sym, ◌∙◌, arith}
 use Rattle.lfs_ctz.specs.Extending.{HasTheseBytesOnlyInBuffer}
 use Rattle.lfs_ctz.specs.declared.rest.RestLocation.TheVariants.{Held}
 use Rattle.lfs_ctz.specs.Fields.{growing_list_view}
@@ -9,9 +9,10 @@ use Rattle.lfs_ctz.proofs.extender.Extender.replace_buffered_content.Goals as go
 
 pub returns : goal.returns
 returns c =
-    let e = c.self.inside in
-    let room = subst (λ (v : GrowingList). length c.args.bytes.now < v.geometry.block_size) (sym c.self.view_is) c.requires in
+    let e = c.deref_mut-state.result.now in
+    let shown = ap growing_list_view c.deref_mut-state.ensures.value ∙ c.self.view_is in
+    let room = subst (λ (v : GrowingList). length c.args.bytes.now < v.geometry.block_size) (sym shown) c.requires in
     let rest = held_front e.buffer.items c.overwrite_buffer_bytes.new.all.items c.args.bytes.now c.overwrite_buffer_bytes.ensures in
     let new : GrowingList = growing_list_view (record e { buffer = c.overwrite_buffer_bytes.new.all; full = 0; head = 0; filled = length c.args.bytes.now; size = length c.args.bytes.now; stand = Held }) in
-    subst (λ (v : GrowingList). HasTheseBytesOnlyInBuffer v.geometry new c.args.bytes.now) c.self.view_is
+    subst (λ (v : GrowingList). HasTheseBytesOnlyInBuffer v.geometry new c.args.bytes.now) shown
     (is_holding e.geometry new _ refl (omega (arith, ap length rest, room)) rest (record { held = refl; none = refl }))

@@ -1,12 +1,13 @@
-use Rattle.std.proofs.Common.{refl, suc, ℕ, ◌≡◌, ◌≤◌, ◌<◌, ◌+◌, ◌-◌, ◌*◌, ◌++◌, ◌⊎◌, inl, inr, List, [], ◌∷◌, length, take, drop, slice_index, Result, Err, sym, ap, ◌∙◌, arith}
+use Rattle.std.proofs.Common.{refl, suc, ℕ, ◌≡◌, ◌≤◌, ◌<◌, ◌+◌, ◌-◌, ◌*◌, ◌++◌, ◌⊎◌, inl, inr, List, [], ◌∷◌, length, take, drop, slice_index, Result, Err, sym, ap, subst, ◌∙◌, arith}
 use Rattle.std.specs.Vec.{with_items}
 use Rattle.std.proofs.lemmas.List.{append-nil, length-take, with_items_is}
-use Rattle.std.proofs.lemmas.Result.{err_from_is_err_and}
+use Rattle.std.proofs.lemmas.Result.{IfOk-weaker, err_from_is_err_and}
 use Rattle.lfs_device.specs.declared.error.Error.{Error}
 use Rattle.lfs_device.specs.declared.geometry.Geometry.{Geometry}
 use Rattle.lfs_model.specs.Blocks.{Blocks, HasBlocksOfCountAndSize, block_bytes_by_number}
 use Rattle.lfs_model.specs.SkipLists.{AreListBlocks, IsSkipList, IsPlaceOfByteInList, pointer_count_of_list_block, byte_count_before_list_block, list_blocks_from_head, list_block_count_for_size, bytes_of_skip_list, word_at_offset}
-use Rattle.lfs_ctz.specs.Growing.{data_of_list_blocks, AreLastBytesInSharedBlock}
+use Rattle.lfs_ctz.specs.Extending.{IsResumedList}
+use Rattle.lfs_ctz.specs.Growing.{GrowingList, data_of_list_blocks, AreLastBytesInSharedBlock}
 use Rattle.lfs_ctz.proofs.Sizes.{blocks_for-last, place-lt, pointer_count_of_list_block-le, place-le}
 use Rattle.lfs_ctz.proofs.Chains.{in_range_at, back-pointer0}
 use Rattle.lfs_ctz.proofs.Geometries.{last_is, chain, sized, shaped}
@@ -41,8 +42,8 @@ returns-in_err-block-clause-reports g c =
           (chain _ _ _ _ _ c.geometry-geometry.result.valid.no_smaller c.blocks_for.ensures (sized _ _ _ _ _ c.geometry-geometry.ensures c.requires.list)));
     })
 
-pub overflow_add-result : goal.overflow_add-result
-overflow_add-result g c =
+pub overflow_add-state : goal.overflow_add-state
+overflow_add-state g c =
     let few = place-le _ _ _ _ c.geometry-geometry.result.valid.no_smaller c.place-index.ensures in
     omega arith
 
@@ -144,8 +145,8 @@ read_rest d same old new items block off p block_size e is read long within low 
     ap (λ (l : List ℕ). take (off + 1 - p) (drop p l)) (is ∙ read ∙ ap (λ b. take (off + 1) (block_bytes_by_number b block) ++ drop (0 + (off + 1)) old) e)
     ∙ data-written (block_bytes_by_number d block) (drop (0 + (off + 1)) old) (off + 1) p (omega arith) low
 
-pub invariant_of-result : goal.invariant_of-result
-invariant_of-result g c =
+pub of_state-requires : goal.of_state-requires
+of_state-requires g c =
     let full = is_full _ _ _ _ _ _ _ _ _ _ c.geometry-geometry.ensures c.blocks_for.ensures (g.met.D.BlockDevice.shape c.args.dev.now) c.requires.list c.requires.some c.requires.within c.place-index.ensures c.in_ok-block.ensures.found c.if-off-block_size.true in
     let few = pointer_count_of_list_block-le (c.place-index.result.0 + 1) in
     let large = c.geometry-geometry.result.valid.no_smaller in
@@ -163,7 +164,9 @@ returns-then-off-block_size-clause-resumed g c =
     let i : ℕ = c.place-index.result.0 in
     let rest : take (4 * c.pointer_count_at_index.result - 4 * pointer_count_of_list_block (i + 1)) (drop (4 * pointer_count_of_list_block (i + 1)) c.in_ok-buffer.buffer.items) ≡ [] =
     ap (λ k. take k (drop (4 * pointer_count_of_list_block (i + 1)) c.in_ok-buffer.buffer.items)) (let none : 4 * c.pointer_count_at_index.result - 4 * pointer_count_of_list_block (i + 1) ≡ 0 = omega (arith, c.pointer_count_at_index.ensures) in none) in
-    record {
+    let resumed : GrowingList → Type 0 = IsResumedList old (g.D.BlockDevice.geometry c.args.dev.now) c.args.head c.args.size c.args.keep in
+    IfOk-weaker c.of_state.result _ resumed
+    (λ list is. subst resumed (sym is) (record {
       grown =
           is_grown _ old _ _ _ _ _ _ (g.met.D.BlockDevice.shape c.args.dev.now) made
           (omega (arith, ap length rest, pointer_count_of_list_block-le (i + 1), c.geometry-geometry.result.valid.no_smaller))
@@ -172,7 +175,8 @@ returns-then-off-block_size-clause-resumed g c =
           (omega (arith, ap length rest, full.sum, ap (λ (k : Geometry). byte_count_before_list_block k.block_size (i + 1)) made))
           full.kept full.blocks_are;
       waits = record { listed = refl; pending = λ other apart. apart };
-    }
+    }))
+    c.of_state.ensures.list
 
 pub returns-in_err-head-clause-device : goal.returns-in_err-head-clause-device
 returns-in_err-head-clause-device g c = read_on g.D.BlockDevice c.find_block_at_index.ensures.reading.device c.head_of_list_before_block.ensures.reading.device
@@ -198,7 +202,7 @@ pub returns-clause-device : goal.returns-clause-device
 returns-clause-device g c = read_on g.D.BlockDevice (read_on g.D.BlockDevice c.find_block_at_index.ensures.reading.device c.head_of_list_before_block.ensures.reading.device) c.read_block_bytes_into_buffer_range.ensures.device
 
 -- the bytes of the block that are kept
-rest_is : (g : _) (c : goal.In_ok-read_block_bytes_into_buffer_range g) → take (c.place-index.result.1 + 1 - 4 * pointer_count_of_list_block c.place-index.result.0) (drop (4 * pointer_count_of_list_block c.place-index.result.0) (with_items c.in_ok-buffer.buffer c.read_block_bytes_into_buffer_range.new.buf).items)
+rest_is : (g : _) (c : goal.After-of_state-2 g) → take (c.place-index.result.1 + 1 - 4 * pointer_count_of_list_block c.place-index.result.0) (drop (4 * pointer_count_of_list_block c.place-index.result.0) (with_items c.in_ok-buffer.buffer c.read_block_bytes_into_buffer_range.new.buf).items)
     ≡ take (c.place-index.result.1 + 1 - 4 * pointer_count_of_list_block c.place-index.result.0) (drop (4 * pointer_count_of_list_block c.place-index.result.0) (block_bytes_by_number (g.D.BlockDevice.blocks c.args.dev.now) c.in_ok-block.block))
 rest_is g c =
     let made = c.geometry-geometry.ensures in
@@ -212,7 +216,7 @@ rest_is g c =
     (omega (arith, shape.sizes c.in_ok-block.block in_range, ap (λ (k : Geometry). k.block_size) made))
     (omega arith) (let at = place.at in omega arith)
 
-opened : (g : _) (c : goal.In_ok-read_block_bytes_into_buffer_range g) → IsOpen (g.D.BlockDevice.blocks c.args.dev.now) (g.D.BlockDevice.geometry c.args.dev.now) c.geometry-geometry.result c.args.head c.args.size c.args.keep c.place-index.result.0 c.place-index.result.1
+opened : (g : _) (c : goal.After-of_state-2 g) → IsOpen (g.D.BlockDevice.blocks c.args.dev.now) (g.D.BlockDevice.geometry c.args.dev.now) c.geometry-geometry.result c.args.head c.args.size c.args.keep c.place-index.result.0 c.place-index.result.1
     c.in_ok-block.block c.in_ok-head.head (take (c.place-index.result.1 + 1 - 4 * pointer_count_of_list_block c.place-index.result.0) (drop (4 * pointer_count_of_list_block c.place-index.result.0) (with_items c.in_ok-buffer.buffer c.read_block_bytes_into_buffer_range.new.buf).items))
 opened g c =
     is_open _ _ _ _ _ _ _ _ _ _ _ _ c.geometry-geometry.ensures c.blocks_for.ensures (g.met.D.BlockDevice.shape c.args.dev.now) c.requires.list c.requires.some c.requires.within c.place-index.ensures c.in_ok-block.ensures.found
@@ -224,7 +228,9 @@ pub returns-clause-resumed : goal.returns-clause-resumed
 returns-clause-resumed g c =
     let o = opened g c in
     let made = c.geometry-geometry.ensures in
-    record {
+    let resumed : GrowingList → Type 0 = IsResumedList (g.D.BlockDevice.blocks c.args.dev.now) (g.D.BlockDevice.geometry c.args.dev.now) c.args.head c.args.size c.args.keep in
+    IfOk-weaker c.of_state-2.result _ resumed
+    (λ list is. subst resumed (sym is) (record {
       grown =
           is_grown _ (g.D.BlockDevice.blocks c.args.dev.now) _ _ _ _ _ _ (g.met.D.BlockDevice.shape c.args.dev.now) made
           (omega (
@@ -236,4 +242,5 @@ returns-clause-resumed g c =
           ))
           (record { chain = o.chain_is; stand = o.shared }) o.content (omega (arith, o.sum, ap (λ (k : Geometry). byte_count_before_list_block k.block_size c.place-index.result.0) made)) o.kept o.blocks_are;
       waits = record { listed = refl; pending = λ other apart. apart };
-    }
+    }))
+    c.of_state-2.ensures.list

@@ -4,15 +4,17 @@ ghost use Rattle.lfs_ctz.specs.Calls.{ReportsNoErrorButIo, ReportsIoOrNoMemory};
 ghost use Rattle.lfs_ctz.specs.Counts.{AddsOneEraseAndProgramPerBlock};
 ghost use Rattle.lfs_ctz.specs.Extended.{GrowingListHasBytesAndBlocks};
 ghost use Rattle.lfs_ctz.specs.Extending.{CanFinishGrowingList, IsDeviceBlockOutsideFullBlocksOfList, CanPushBytesToList, CanResumeListAfterFirstBytes, HasTheseBytesOnlyInBuffer, HasPushedBytesToList, IsResumedList, IsStartedEmptyList};
+ghost use Rattle.lfs_ctz.specs.FewReads.{FillsBlocksByFewReads, WritesLastBlockByFewReads};
 ghost use Rattle.lfs_ctz.specs.Fields.{HasOneBlockBufferAndConsistentNumbers, growing_list_view};
 ghost use Rattle.lfs_ctz.specs.Finished.{IsSkipListWithBytesAndBlocks};
 ghost use Rattle.lfs_ctz.specs.Growing.{HasAllBytesInBuffer, HasUnwrittenBlockAmongTheseBlocks, blocks_of_growing_list, bytes_of_growing_list, size_of_growing_list, count_of_blocks_to_append, block_for_next_bytes_with_used_count, unwritten_block_of_list};
+ghost use Rattle.lfs_ctz.specs.Known.{AreKnownListBlocks};
 ghost use Rattle.lfs_device.specs.Calls.{ChangesOnlyThisBlock, ChangesOnlyTheseBlocks, ReadsOnly};
 ghost use Rattle.lfs_model.specs.Blocks.{block_bytes_by_number, bytes_after_overwrite_at};
 ghost use Rattle.lfs_model.specs.Writers.{contents_after_write as with_bytes};
 ghost use Rattle.lfs_model.specs.SkipLists.{list_blocks_from_head, list_block_count_for_size, pointer_count_of_list_block};
 
-use crate::block::write_block;
+use crate::block::{FullBlocks, write_block};
 use crate::read::{
     find_block_at_index, head_of_list_before_block, pointer_count_at_index,
     read_block_bytes_into_buffer_range,
@@ -41,8 +43,7 @@ pub struct Extender {
 struct ExtenderState {
     geometry: Geometry,
     buffer: Vec<u8>,
-    full: u32,
-    head: u32,
+    front: FullBlocks,
     filled: u32,
     size: u32,
     stand: RestLocation,
@@ -53,6 +54,7 @@ impl Model for Extender {
 
     ghost Value = { GrowingList };
 
+    ghost use Rattle.lfs_ctz.specs.FewReads.{FillsBlocksByFewReads, WritesLastBlockByFewReads};
     ghost use Rattle.lfs_ctz.specs.Fields.{HasOneBlockBufferAndConsistentNumbers, growing_list_view};
 
     ghost view = { λ e. growing_list_view e.state.value };
@@ -99,8 +101,7 @@ impl Extender {
         let state = ExtenderState {
             geometry,
             buffer,
-            full: 0,
-            head: 0,
+            front: FullBlocks::new(0, 0),
             filled: 0,
             size: 0,
             stand: RestLocation::Closed,
@@ -133,8 +134,7 @@ impl Extender {
             let state = ExtenderState {
                 geometry,
                 buffer,
-                full: index + 1,
-                head: block,
+                front: FullBlocks::new(index + 1, block),
                 filled: 4 * pointer_count_at_index(index + 1),
                 size: keep,
                 stand: RestLocation::Closed,
@@ -146,8 +146,7 @@ impl Extender {
         let state = ExtenderState {
             geometry,
             buffer,
-            full: index,
-            head,
+            front: FullBlocks::new(index, head),
             filled: off + 1,
             size: keep,
             stand: RestLocation::Shared(block),
@@ -165,8 +164,7 @@ impl Extender {
     {
         let state = &mut *self.state;
         overwrite_buffer_bytes(&mut state.buffer, 0, bytes);
-        state.full = 0;
-        state.head = 0;
+        state.front = FullBlocks::new(0, 0);
         state.filled = bytes.len() as u32;
         state.size = state.filled;
         state.stand = RestLocation::Held;
@@ -222,7 +220,7 @@ impl Extender {
     pub fn full_block_count(&self) -> u32
         ensures { result ≡ self.now.full }
     {
-        self.state.full
+        self.state.front.count
     }
 
     /// Returns how many blocks a push of `n` bytes takes. The full blocks of a resumed list are
@@ -245,7 +243,7 @@ impl Extender {
         if begun == 1 && n <= state.geometry.block_size - state.filled {
             return 0;
         }
-        blocks_for(state.geometry.block_size, state.size + n) - (state.full + begun)
+        blocks_for(state.geometry.block_size, state.size + n) - (state.front.count + begun)
     }
 
     // Returns the block that takes the next bytes, and how many of the blocks that were handed in
@@ -269,10 +267,12 @@ impl Extender {
         block: u32,
     ) -> Result<usize, Error>
         requires follows { IsDeviceBlockOutsideFullBlocksOfList D.BlockDevice dev.old self.old.full self.old.head block }
+        requires known { AreKnownListBlocks (list_blocks_from_head (D.blocks dev.old) self.old.full self.old.head) self.old.known }
         requires geometry { D.geometry dev.old ≡ self.old.geometry }
         requires some { 1 ≤ length bytes.now }
         requires room { size_of_growing_list self.old + length bytes.now < 2 ^ 31 }
         ensures count { IfOk result (λ n. (1 ≤ n) × (n ≤ length bytes.now)) }
+        ensures few { OnOk result (FillsBlocksByFewReads self.old self.new (D.history dev.old) (D.history dev.new)) }
         ensures filled { IfOk result (λ n. GrowingListHasBytesAndBlocks self.old.geometry (D.blocks dev.new) self.new
             (bytes_of_growing_list (D.blocks dev.old) self.old ++ take n bytes.now) (size_of_growing_list self.old + n)
             (list_blocks_from_head (D.blocks dev.old) self.old.full self.old.head ++ block ∷ [])
@@ -294,10 +294,9 @@ impl Extender {
             return Ok(n);
         }
         let buffer = state.buffer.as_mut_slice();
-        write_block(dev, state.head, state.full, block, buffer, block_size)?;
-        state.full += 1;
-        state.head = block;
-        state.filled = 4 * pointer_count_at_index(state.full);
+        write_block(dev, &mut state.front, block, buffer, block_size)?;
+        state.front.add(block);
+        state.filled = 4 * pointer_count_at_index(state.front.count);
         state.size += n as u32;
         state.stand = RestLocation::Closed;
         Ok(n)
@@ -322,6 +321,7 @@ impl Extender {
         ensures pushed { OnOk result (HasPushedBytesToList (D.blocks dev.old) self.old bytes.now blocks.now (D.blocks dev.new) self.new) }
         // A block that fills is erased once and programmed once.
         ensures writes { OnOk result (AddsOneEraseAndProgramPerBlock self.old.full self.new.full (D.history dev.old) (D.history dev.new)) }
+        ensures few { OnOk result (FillsBlocksByFewReads self.old self.new (D.history dev.old) (D.history dev.new)) }
         ensures device { ChangesOnlyTheseBlocks D.BlockDevice (unwritten_block_of_list self.old ++ blocks.now) dev.old dev.new }
         ensures io { ReportsNoErrorButIo D.BlockDevice dev.old dev.new result }
     {
@@ -338,10 +338,12 @@ impl Extender {
     // Pads the current block to whole pages, and writes it.
     fn write_last_block<D: BlockDevice>(&mut self, dev: &mut D, block: u32) -> Result<(), Error>
         requires follows { IsDeviceBlockOutsideFullBlocksOfList D.BlockDevice dev.old self.old.full self.old.head block }
+        requires known { AreKnownListBlocks (list_blocks_from_head (D.blocks dev.old) self.old.full self.old.head) self.old.known }
         requires geometry { D.geometry dev.old ≡ self.old.geometry }
         ensures appended { OnOk result (IsBlockAppendedToList (D.blocks dev.old) (D.blocks dev.new) self.old.full self.old.head block) }
         ensures bytes { OnOk result (take (length self.old.rest) (drop (4 * pointer_count_of_list_block self.old.full) (block_bytes_by_number (D.blocks dev.new) block)) ≡ self.old.rest) }
         ensures writes { OnOk result (AddsOneEraseAndProgramPerBlock 0 1 (D.history dev.old) (D.history dev.new)) }
+        ensures few { OnOk result (WritesLastBlockByFewReads self.old (D.history dev.old) (D.history dev.new)) }
         ensures device { ChangesOnlyThisBlock D.BlockDevice block dev.old dev.new }
         ensures io { ReportsNoErrorButIo D.BlockDevice dev.old dev.new result }
     {
@@ -349,7 +351,7 @@ impl Extender {
         let end = state.filled.next_multiple_of(state.geometry.page);
         fill_buffer_range_with_byte(&mut state.buffer, state.filled as usize, end as usize, 0xff);
         let buffer = state.buffer.as_mut_slice();
-        write_block(dev, state.head, state.full, block, buffer, end)?;
+        write_block(dev, &mut state.front, block, buffer, end)?;
         Ok(())
     }
 
@@ -367,11 +369,12 @@ impl Extender {
         ensures size { IfOk result (λ r. r.1 ≡ size_of_growing_list self) }
         ensures no_call { unwritten_block_of_list self ≡ [] → (D.history dev.new ≡ D.history dev.old) × (D.blocks dev.new ≡ D.blocks dev.old) }
         ensures writes { OnOk result (AddsOneEraseAndProgramPerBlock 0 (length (unwritten_block_of_list self)) (D.history dev.old) (D.history dev.new)) }
+        ensures few { OnOk result (WritesLastBlockByFewReads self (D.history dev.old) (D.history dev.new)) }
         ensures device { ChangesOnlyTheseBlocks D.BlockDevice (unwritten_block_of_list self) dev.old dev.new }
         ensures io { ReportsNoErrorButIo D.BlockDevice dev.old dev.new result }
     {
         let state = &*self.state;
-        let head = state.head;
+        let head = state.front.head;
         let size = state.size;
         match state.stand {
             RestLocation::Closed => Ok((head, size)),

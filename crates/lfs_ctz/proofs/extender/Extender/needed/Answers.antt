@@ -20,7 +20,7 @@ pub overflow_add-result : goal.overflow_add-result
 overflow_add-result c =
     let e = c.deref-state.result.now in
     let step = (subst HasOneBlockBufferAndConsistentNumbers (sym c.deref-state.ensures) c.self.invariant).in_step in
-    let few = byte_count_before_list_block-least e.geometry.block_size e.full e.geometry.valid.no_smaller in
+    let few = byte_count_before_list_block-least e.geometry.block_size e.front.count e.geometry.valid.no_smaller in
     let sum = step.sum in
     let fits = step.fits in
     elim c.match-state.branch [ in-Handed w ↦ omega arith | in_default w ↦ omega arith ]
@@ -30,7 +30,7 @@ overflow_sub-result c =
     let e = c.deref-state.result.now in
     let sum = (subst HasOneBlockBufferAndConsistentNumbers (sym c.deref-state.ensures) c.self.invariant).in_step.sum in
     let some = c.requires.some in
-    let more = list_block_count_for_size-above e.geometry.block_size (e.size + c.args.n) e.full e.geometry.valid.no_smaller (omega arith) in
+    let more = list_block_count_for_size-above e.geometry.block_size (e.size + c.args.n) e.front.count e.geometry.valid.no_smaller (omega arith) in
     elim c.match-state.branch [ in-Handed w ↦ omega (arith, c.blocks_for.ensures) | in_default w ↦ omega (arith, c.blocks_for.ensures) ]
 
 pub returns-clause-within : goal.returns-clause-within
@@ -43,8 +43,8 @@ none_needed e n has one fits =
     let step = has.in_step in
     let low = step.low in
     let high = step.high in
-    let rest = length-take (e.filled - 4 * pointer_count_of_list_block e.full) (drop (4 * pointer_count_of_list_block e.full) e.buffer.items) in
-    let within = list_block_count_for_size-within e.geometry.block_size (size_of_growing_list (growing_list_view e) + n) (suc e.full) e.geometry.valid.no_smaller (omega arith) in
+    let rest = length-take (e.filled - 4 * pointer_count_of_list_block e.front.count) (drop (4 * pointer_count_of_list_block e.front.count) e.buffer.items) in
+    let within = list_block_count_for_size-within e.geometry.block_size (size_of_growing_list (growing_list_view e) + n) (suc e.front.count) e.geometry.valid.no_smaller (omega arith) in
     omega arith
 
 pub returns-then-n-state-clause-count : goal.returns-then-n-state-clause-count

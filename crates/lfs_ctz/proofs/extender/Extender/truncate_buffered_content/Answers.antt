@@ -16,11 +16,11 @@ module _ (e : ExtenderState) (has : HasOneBlockBufferAndConsistentNumbers e) (le
   fits = omega (arith, rest_long e has)
 
   front : take len e.buffer.items ≡ take len (growing_list_view e).rest
-  front = cut_bytes e.buffer.items e.filled len fits ∙ ap (take len) (sym (rest_at e.buffer.items e.full e.filled held.none))
+  front = cut_bytes e.buffer.items e.filled len fits ∙ ap (take len) (sym (rest_at e.buffer.items e.front.count e.filled held.none))
 
   pub is_cut : HasTheseBytesOnlyInBuffer e.geometry (growing_list_view (record e { filled = len; size = len })) (take len (growing_list_view e).rest)
   is_cut =
-      let rest = rest_at e.buffer.items e.full len held.none ∙ front in
+      let rest = rest_at e.buffer.items e.front.count len held.none ∙ front in
       is_holding e.geometry (growing_list_view (record e { filled = len; size = len })) _ refl
       (omega (arith, ap length rest, length-take-le len (growing_list_view e).rest within, fits, has.in_step.high, ap pointer_count_of_list_block held.none)) rest (record { held = held.held; none = held.none })
 

@@ -1,6 +1,5 @@
 // The reasons for which lines are refused.
 
-use crate::names::CommandName;
 use std::fmt;
 
 /// The reason for which a line is no command. A place is that of a word: the command's name has 0.
@@ -10,10 +9,10 @@ pub enum LineObjection {
     Spaces,
     /// The first word is no command's name.
     Name,
-    /// The command takes more words.
-    TooFew(CommandName),
-    /// The command takes fewer words.
-    TooMany(CommandName),
+    /// The command takes more words: how it is written.
+    TooFew(&'static str),
+    /// The command takes fewer words: how it is written.
+    TooMany(&'static str),
     /// The word at this place isn't a decimal number below 2^32.
     Number(usize),
     /// The word at this place isn't a hexadecimal number below 2^32.
@@ -26,18 +25,13 @@ pub enum LineObjection {
     Options(usize),
 }
 
-// Returns the number of the word at a place, from 1 on.
-fn word_number_from_one(place: usize) -> usize {
-    place.saturating_add(1)
-}
-
-// Writes what the word at a place is instead of what is wanted.
+// Writes what the word at a place is instead of what is wanted. The number counts from 1 on.
 fn write_word_number_and_fault<W: fmt::Write>(
     f: &mut fmt::Formatter<W>,
     place: usize,
     fault: &str,
 ) -> fmt::Result {
-    write!(f, "word {} is {}", word_number_from_one(place), fault)
+    write!(f, "word {} is {}", place.saturating_add(1), fault)
 }
 
 impl fmt::Display for LineObjection {
@@ -45,29 +39,25 @@ impl fmt::Display for LineObjection {
         match self {
             LineObjection::Spaces => write!(f, "two spaces stand side by side"),
             LineObjection::Name => write!(f, "no command has this name (--help lists them)"),
-            LineObjection::TooFew(name) => write!(f, "too few words: {}", name.usage()),
-            LineObjection::TooMany(name) => write!(f, "too many words: {}", name.usage()),
+            LineObjection::TooFew(usage) => write!(f, "too few words: {}", *usage),
+            LineObjection::TooMany(usage) => write!(f, "too many words: {}", *usage),
             LineObjection::Number(place) => {
                 write_word_number_and_fault(f, *place, "no decimal number up to 4294967295")
             }
             LineObjection::Flags(place) => {
                 write_word_number_and_fault(f, *place, "no hexadecimal number up to ffffffff")
             }
-            LineObjection::Byte(place) => write_word_number_and_fault(
-                f,
-                *place,
-                "no hexadecimal number up to ff",
-            ),
+            LineObjection::Byte(place) => {
+                write_word_number_and_fault(f, *place, "no hexadecimal number up to ff")
+            }
             LineObjection::Spelling(place) => {
                 write_word_number_and_fault(f, *place, "not spelled as bytes are (--help says how)")
             }
-            LineObjection::Options(place) => {
-                write!(
-                    f,
-                    "from word {} on there are no options of the command",
-                    word_number_from_one(*place)
-                )
-            }
+            LineObjection::Options(place) => write!(
+                f,
+                "from word {} on there are no options of the command",
+                place.saturating_add(1)
+            ),
         }
     }
 }

@@ -25,10 +25,13 @@ fn push_listed_items(text: &mut Vec<u8>, items: &[Item]) -> io::Result<()> {
 }
 
 fn push_gstate(text: &mut Vec<u8>, gstate: &Gstate) -> io::Result<()> {
-    write!(text, "gstate {}", u8::from(gstate.sync))?;
-    match gstate.moving {
-        Some((pair, id)) => write!(text, " {} {} {}", pair[0], pair[1], id),
-        None => write!(text, " none"),
+    let sync = if gstate.sync { 1 } else { 0 };
+    match &gstate.moving {
+        Some(slot) => {
+            let pair = slot.0;
+            write!(text, "gstate {} {} {} {}", sync, pair[0], pair[1], slot.1)
+        }
+        None => write!(text, "gstate {} none", sync),
     }
 }
 

@@ -1,5 +1,7 @@
 // The words behind a command's name. A word that isn't there is read as an empty one.
 
+ghost use Rattle.std.specs.Prelude.{◌≤◌};
+
 use crate::lines::LineError;
 use crate::refusal::LineObjection;
 use crate::words::read_word;
@@ -30,11 +32,16 @@ pub(crate) fn read_number(word: &[u8], base: u32) -> Option<u32>
     }
 }
 
+// Returns the refusal of a word that isn't what stands at its place.
+fn no_such_word(place: usize, kind: &'static str) -> LineError {
+    LineError::Refused(LineObjection::Word(place, kind))
+}
+
 // Returns the decimal number at a place.
 pub(crate) fn number_at(words: &[&[u8]], place: usize) -> Result<u32, LineError> {
     match read_number(word_at(words, place), 10) {
         Some(number) => Ok(number),
-        None => Err(LineError::Refused(LineObjection::Number(place))),
+        None => Err(no_such_word(place, "no decimal number up to 4294967295")),
     }
 }
 
@@ -42,7 +49,7 @@ pub(crate) fn number_at(words: &[&[u8]], place: usize) -> Result<u32, LineError>
 pub(crate) fn flags_at(words: &[&[u8]], place: usize) -> Result<OpenFlags, LineError> {
     match read_number(word_at(words, place), 16) {
         Some(bits) => Ok(OpenFlags::from_bits_retain(bits)),
-        None => Err(LineError::Refused(LineObjection::Flags(place))),
+        None => Err(no_such_word(place, "no hexadecimal number up to ffffffff")),
     }
 }
 
@@ -50,7 +57,7 @@ pub(crate) fn flags_at(words: &[&[u8]], place: usize) -> Result<OpenFlags, LineE
 pub(crate) fn byte_at(words: &[&[u8]], place: usize) -> Result<u8, LineError> {
     match read_number(word_at(words, place), 16) {
         Some(number) if number < 256 => Ok(number as u8),
-        _ => Err(LineError::Refused(LineObjection::Byte(place))),
+        _ => Err(no_such_word(place, "no hexadecimal number up to ff")),
     }
 }
 
@@ -58,6 +65,6 @@ pub(crate) fn byte_at(words: &[&[u8]], place: usize) -> Result<u8, LineError> {
 pub(crate) fn bytes_at(alloc: Global, words: &[&[u8]], place: usize) -> Result<Vec<u8>, LineError> {
     match read_word(alloc, word_at(words, place))? {
         Some(bytes) => Ok(bytes),
-        None => Err(LineError::Refused(LineObjection::Spelling(place))),
+        None => Err(no_such_word(place, "not spelled as bytes are (--help says how)")),
     }
 }

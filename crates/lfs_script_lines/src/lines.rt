@@ -2,7 +2,7 @@
 
 use crate::arguments::{bytes_at, number_at, word_at};
 use crate::command::Command;
-use crate::forms::form_of_name;
+use crate::names::{CommandName, command_of_word};
 use crate::operations::operation_of_words;
 use crate::options::{
     erased_at, fault_of_words, order_and_erased, profile_of_words, scope_of_words,
@@ -11,7 +11,7 @@ use crate::refusal::LineObjection;
 use std::alloc::{AllocError, AllocFailed, Global};
 
 /// The cause for which there is no command of a line.
-#[derive(Clone, Copy, Debug, PartialEq, Eq)]
+#[derive(Clone, Copy)]
 pub enum LineError {
     /// The line is no command, for this reason.
     Refused(LineObjection),
@@ -31,20 +31,10 @@ impl<T: Drop> From<AllocFailed<T>> for LineError {
     }
 }
 
-// Returns the command that makes a device.
-fn device_command(alloc: Global, words: &[&[u8]]) -> Result<Command, LineError> {
+// Returns a blank device.
+fn fresh_command(words: &[&[u8]]) -> Result<Command, LineError> {
     let block_size = number_at(words, 1)?;
     let page = number_at(words, 2)?;
-    if word_at(words, 0) == b"image".as_slice() {
-        let file = bytes_at(alloc, words, 3)?;
-        let erased = erased_at(words, 4)?;
-        return Ok(Command::Image {
-            block_size,
-            page,
-            file,
-            erased,
-        });
-    }
     let block_count = number_at(words, 3)?;
     let (order, erased) = order_and_erased(words)?;
     Ok(Command::Fresh {
@@ -56,20 +46,38 @@ fn device_command(alloc: Global, words: &[&[u8]]) -> Result<Command, LineError> 
     })
 }
 
-// Returns the command that changes or shows bytes of the device in hand.
-fn bytes_command(alloc: Global, words: &[&[u8]]) -> Result<Command, LineError> {
+// Returns a device with the bytes of a file.
+fn image_command(alloc: Global, words: &[&[u8]]) -> Result<Command, LineError> {
+    let block_size = number_at(words, 1)?;
+    let page = number_at(words, 2)?;
+    let file = bytes_at(alloc, words, 3)?;
+    let erased = erased_at(words, 4)?;
+    Ok(Command::Image {
+        block_size,
+        page,
+        file,
+        erased,
+    })
+}
+
+// Returns bytes over those of a device.
+fn put_command(alloc: Global, words: &[&[u8]]) -> Result<Command, LineError> {
     let block = number_at(words, 1)?;
     let offset = number_at(words, 2)?;
-    if word_at(words, 0) == b"put".as_slice() {
-        let bytes = bytes_at(alloc, words, 3)?;
-        let erased = erased_at(words, 4)?;
-        return Ok(Command::Put {
-            block,
-            offset,
-            bytes,
-            erased,
-        });
-    }
+    let bytes = bytes_at(alloc, words, 3)?;
+    let erased = erased_at(words, 4)?;
+    Ok(Command::Put {
+        block,
+        offset,
+        bytes,
+        erased,
+    })
+}
+
+// Returns which bytes of a device are shown.
+fn bytes_command(words: &[&[u8]]) -> Result<Command, LineError> {
+    let block = number_at(words, 1)?;
+    let offset = number_at(words, 2)?;
     let count = number_at(words, 3)?;
     Ok(Command::Bytes {
         block,
@@ -78,53 +86,75 @@ fn bytes_command(alloc: Global, words: &[&[u8]]) -> Result<Command, LineError> {
     })
 }
 
-// Returns the command of a line's words.
-fn command_of_words(alloc: Global, words: &[&[u8]]) -> Result<Command, LineError> {
-    match word_at(words, 0) {
-        b"fresh" | b"image" => device_command(alloc, words),
-        b"put" | b"bytes" => bytes_command(alloc, words),
-        b"profile" => Ok(Command::Profile(profile_of_words(words)?)),
-        b"unmount" => Ok(Command::Unmount),
-        b"mount" => Ok(Command::Mount(fault_of_words(words)?)),
-        b"format" => Ok(Command::Format(fault_of_words(words)?)),
-        b"save" => Ok(Command::Save(bytes_at(alloc, words, 1)?)),
-        b"calls" => Ok(Command::Calls),
-        b"compare" => Ok(Command::Compare(scope_of_words(words)?)),
-        b"compare-with" => Ok(Command::CompareWith(bytes_at(alloc, words, 1)?)),
-        _ => Ok(Command::Perform(operation_of_words(alloc, words)?)),
+// Returns the command of that name.
+fn command_of_words(
+    alloc: Global,
+    name: CommandName,
+    words: &[&[u8]],
+) -> Result<Command, LineError> {
+    match name {
+        CommandName::Fresh => fresh_command(words),
+        CommandName::Image => image_command(alloc, words),
+        CommandName::Put => put_command(alloc, words),
+        CommandName::Bytes => bytes_command(words),
+        CommandName::Profile => Ok(Command::Profile(profile_of_words(words)?)),
+        CommandName::Unmount => Ok(Command::Unmount),
+        CommandName::Mount => Ok(Command::Mount(fault_of_words(words)?)),
+        CommandName::Format => Ok(Command::Format(fault_of_words(words)?)),
+        CommandName::Save => Ok(Command::Save(bytes_at(alloc, words, 1)?)),
+        CommandName::Calls => Ok(Command::Calls),
+        CommandName::Compare => Ok(Command::Compare(scope_of_words(words)?)),
+        CommandName::CompareWith => Ok(Command::CompareWith(bytes_at(alloc, words, 1)?)),
+        _ => Ok(Command::Perform(operation_of_words(alloc, name, words)?)),
     }
 }
 
-// Refuses a line with two spaces side by side, without a command's name, or with too few or too many
-// words behind it.
-fn check_words(words: &[&[u8]]) -> Result<(), LineObjection> {
+// Returns the name of a line's command, where no two spaces stand side by side and it has as many words
+// as the command takes.
+fn name_of_words(words: &[&[u8]]) -> Result<CommandName, LineError> {
     if words.iter().any(|word| word.is_empty()) {
-        return Err(LineObjection::Spaces);
+        return Err(LineError::Refused(LineObjection::Line("two spaces stand side by side")));
     }
-    let Some(form) = form_of_name(word_at(words, 0)) else {
-        return Err(LineObjection::Name);
+    let Some(name) = command_of_word(word_at(words, 0)) else {
+        return Err(LineError::Refused(LineObjection::Line(
+            "no command has this name (--help lists them)",
+        )));
     };
     let behind = words.len().saturating_sub(1);
-    if behind < form.least {
-        return Err(LineObjection::TooFew(form.usage));
+    let (least, most) = name.argument_counts();
+    if behind < least {
+        return Err(LineError::Refused(LineObjection::Words("too few", name.usage())));
     }
-    if behind > form.most {
-        return Err(LineObjection::TooMany(form.usage));
+    if behind > most {
+        return Err(LineError::Refused(LineObjection::Words("too many", name.usage())));
     }
-    Ok(())
+    Ok(name)
+}
+
+// Returns a text without this byte at its end.
+fn without_trailing_byte(text: &[u8], end: u8) -> &[u8] {
+    match text.split_last() {
+        Some((last, rest)) if *last == end => rest,
+        _ => text,
+    }
+}
+
+// Returns a text without the spaces around it.
+fn without_spaces_around(text: &[u8]) -> &[u8] {
+    let mut start = text.len();
+    let mut end = 0;
+    for (place, byte) in text.iter().enumerate() {
+        if *byte != b' ' {
+            start = start.min(place);
+            end = place.saturating_add(1);
+        }
+    }
+    text.get(start..end).unwrap_or_default()
 }
 
 // Returns a line without its newline, a CR before that, and the spaces around the rest.
 fn trimmed_line(line: &[u8]) -> &[u8] {
-    let text = line.strip_suffix(b"\n".as_slice()).unwrap_or(line);
-    let mut text = text.strip_suffix(b"\r".as_slice()).unwrap_or(text);
-    while let Some((b' ', behind)) = text.split_first() {
-        text = behind;
-    }
-    while let Some((b' ', before)) = text.split_last() {
-        text = before;
-    }
-    text
+    without_spaces_around(without_trailing_byte(without_trailing_byte(line, b'\n'), b'\r'))
 }
 
 /// Returns the command of a line. Returns None where the line is empty or begins with `#`.
@@ -141,9 +171,7 @@ pub fn read_line(alloc: Global, line: &[u8]) -> Result<Option<Command>, LineErro
         return Ok(None);
     }
     let words: Vec<&[u8]> = text.split(|byte| *byte == b' ').collect(alloc)?;
-    if let Err(objection) = check_words(&words) {
-        return Err(LineError::Refused(objection));
-    }
-    let command = command_of_words(alloc, &words)?;
+    let name = name_of_words(&words)?;
+    let command = command_of_words(alloc, name, &words)?;
     Ok(Some(command))
 }

@@ -1,45 +1,82 @@
 // The operations of lines.
 
-use crate::arguments::{byte_at, bytes_at, flags_at, number_at, word_at};
+use crate::arguments::{byte_at, bytes_at, flags_at, number_at};
 use crate::command::Operation;
 use crate::lines::LineError;
-use crate::refusal::LineObjection;
+use crate::names::CommandName;
 use std::alloc::Global;
 
 // Returns the operation of a line on an open file, or one of the whole session.
-fn file_or_session_operation(alloc: Global, words: &[&[u8]]) -> Result<Operation, LineError> {
-    Ok(match word_at(words, 0) {
-        b"read" => Operation::Read(number_at(words, 1)?, number_at(words, 2)?),
-        b"write" => Operation::Write(number_at(words, 1)?, bytes_at(alloc, words, 2)?),
-        b"seek" => Operation::Seek(number_at(words, 1)?, number_at(words, 2)?),
-        b"truncate" => Operation::Truncate(number_at(words, 1)?, number_at(words, 2)?),
-        b"sync" => Operation::Sync(number_at(words, 1)?),
-        b"close" => Operation::Close(number_at(words, 1)?),
-        b"gstate" => Operation::Gstate,
-        b"is-used" => Operation::IsUsed(number_at(words, 1)?),
-        b"used-count" => Operation::UsedCount,
-        b"recover" => Operation::Recover,
-        b"remount" => Operation::Remount,
-        _ => return Err(LineError::Refused(LineObjection::Name)),
-    })
+fn file_or_session_operation(
+    alloc: Global,
+    name: CommandName,
+    words: &[&[u8]],
+) -> Result<Operation, LineError> {
+    let operation = match name {
+        CommandName::Read => Operation::Read(number_at(words, 1)?, number_at(words, 2)?),
+        CommandName::Write => Operation::Write(number_at(words, 1)?, bytes_at(alloc, words, 2)?),
+        CommandName::Seek => Operation::Seek(number_at(words, 1)?, number_at(words, 2)?),
+        CommandName::Truncate => Operation::Truncate(number_at(words, 1)?, number_at(words, 2)?),
+        CommandName::Sync => Operation::Sync(number_at(words, 1)?),
+        CommandName::Close => Operation::Close(number_at(words, 1)?),
+        CommandName::Gstate => Operation::Gstate,
+        CommandName::IsUsed => Operation::IsUsed(number_at(words, 1)?),
+        CommandName::UsedCount => Operation::UsedCount,
+        CommandName::Recover => Operation::Recover,
+        _ => Operation::Remount,
+    };
+    Ok(operation)
+}
+
+// Returns the operation that sets an attribute.
+fn set_attr_operation(alloc: Global, words: &[&[u8]]) -> Result<Operation, LineError> {
+    let path = bytes_at(alloc, words, 1)?;
+    let kind = byte_at(words, 2)?;
+    let value = bytes_at(alloc, words, 3)?;
+    Ok(Operation::SetAttr(path, kind, value))
+}
+
+// Returns the operation that renames.
+fn rename_operation(alloc: Global, words: &[&[u8]]) -> Result<Operation, LineError> {
+    let old = bytes_at(alloc, words, 1)?;
+    let new = bytes_at(alloc, words, 2)?;
+    Ok(Operation::Rename(old, new))
+}
+
+// Returns the operation on a path, and on what a number beside it means.
+fn path_operation(
+    alloc: Global,
+    name: CommandName,
+    words: &[&[u8]],
+) -> Result<Operation, LineError> {
+    let path = bytes_at(alloc, words, 1)?;
+    match name {
+        CommandName::Open => Ok(Operation::Open(path, flags_at(words, 2)?)),
+        CommandName::GetAttr => Ok(Operation::GetAttr(path, byte_at(words, 2)?)),
+        CommandName::RemoveAttr => Ok(Operation::RemoveAttr(path, byte_at(words, 2)?)),
+        CommandName::Mkdir => Ok(Operation::Mkdir(path)),
+        CommandName::Remove => Ok(Operation::Remove(path)),
+        CommandName::List => Ok(Operation::List(path)),
+        _ => Ok(Operation::Stat(path)),
+    }
 }
 
 // Returns the operation of a line.
-pub(crate) fn operation_of_words(alloc: Global, words: &[&[u8]]) -> Result<Operation, LineError> {
-    Ok(match word_at(words, 0) {
-        b"open" => Operation::Open(bytes_at(alloc, words, 1)?, flags_at(words, 2)?),
-        b"mkdir" => Operation::Mkdir(bytes_at(alloc, words, 1)?),
-        b"remove" => Operation::Remove(bytes_at(alloc, words, 1)?),
-        b"rename" => Operation::Rename(bytes_at(alloc, words, 1)?, bytes_at(alloc, words, 2)?),
-        b"list" => Operation::List(bytes_at(alloc, words, 1)?),
-        b"stat" => Operation::Stat(bytes_at(alloc, words, 1)?),
-        b"get-attr" => Operation::GetAttr(bytes_at(alloc, words, 1)?, byte_at(words, 2)?),
-        b"set-attr" => Operation::SetAttr(
-            bytes_at(alloc, words, 1)?,
-            byte_at(words, 2)?,
-            bytes_at(alloc, words, 3)?,
-        ),
-        b"remove-attr" => Operation::RemoveAttr(bytes_at(alloc, words, 1)?, byte_at(words, 2)?),
-        _ => file_or_session_operation(alloc, words)?,
-    })
+pub(crate) fn operation_of_words(
+    alloc: Global,
+    name: CommandName,
+    words: &[&[u8]],
+) -> Result<Operation, LineError> {
+    match name {
+        CommandName::SetAttr => set_attr_operation(alloc, words),
+        CommandName::Rename => rename_operation(alloc, words),
+        CommandName::Open
+        | CommandName::GetAttr
+        | CommandName::RemoveAttr
+        | CommandName::Mkdir
+        | CommandName::Remove
+        | CommandName::List
+        | CommandName::Stat => path_operation(alloc, name, words),
+        _ => file_or_session_operation(alloc, name, words),
+    }
 }

@@ -11,21 +11,31 @@ fn no_options(place: usize) -> LineError {
     LineError::Refused(LineObjection::Options(place))
 }
 
+fn is_keyword(word: &[u8], keyword: &[u8]) -> bool {
+    word == keyword
+}
+
 // Returns how much of two sessions is compared.
 pub(crate) fn scope_of_words(words: &[&[u8]]) -> Result<ComparisonScope, LineError> {
-    match word_at(words, 1) {
-        b"" => Ok(ComparisonScope::Whole),
-        b"entries" => Ok(ComparisonScope::Entries),
-        _ => Ok(ComparisonScope::Kind(byte_at(words, 1)?)),
+    if words.len() < 2 {
+        Ok(ComparisonScope::Whole)
+    } else if is_keyword(word_at(words, 1), b"entries") {
+        Ok(ComparisonScope::Entries)
+    } else {
+        Ok(ComparisonScope::Kind(byte_at(words, 1)?))
     }
 }
 
 // Returns what erases leave, by the words from a place on.
 pub(crate) fn erased_at(words: &[&[u8]], place: usize) -> Result<Erased, LineError> {
-    match (word_at(words, place), words.len().saturating_sub(place)) {
-        (_, 0) => Ok(Erased::Fill(0xff)),
-        (b"keep", 1) => Ok(Erased::Keep),
-        (b"fill", 2) => Ok(Erased::Fill(byte_at(words, place.saturating_add(1))?)),
+    let word = word_at(words, place);
+    match words.len().saturating_sub(place) {
+        0 => Ok(Erased::Fill(0xff)),
+        1 if is_keyword(word, b"keep") => Ok(Erased::Keep),
+        2 if is_keyword(word, b"fill") => Ok(Erased::Fill(byte_at(
+            words,
+            place.saturating_add(1),
+        )?)),
         _ => Err(no_options(place)),
     }
 }
@@ -33,38 +43,58 @@ pub(crate) fn erased_at(words: &[&[u8]], place: usize) -> Result<Erased, LineErr
 // Returns the order of names and what erases leave, by the words from place 4 on. Without a word for
 // the order the longer names come first.
 pub(crate) fn order_and_erased(words: &[&[u8]]) -> Result<(NameOrder, Erased), LineError> {
-    match word_at(words, 4) {
-        b"longer-first" => Ok((NameOrder::LongerFirst, erased_at(words, 5)?)),
-        b"shorter-first" => Ok((NameOrder::ShorterFirst, erased_at(words, 5)?)),
-        _ => Ok((NameOrder::LongerFirst, erased_at(words, 4)?)),
-    }
+    let word = word_at(words, 4);
+    let is_shorter_first = is_keyword(word, b"shorter-first");
+    let order = if is_shorter_first {
+        NameOrder::ShorterFirst
+    } else {
+        NameOrder::LongerFirst
+    };
+    let place = if is_shorter_first || is_keyword(word, b"longer-first") {
+        5
+    } else {
+        4
+    };
+    let erased = erased_at(words, place)?;
+    Ok((order, erased))
 }
 
 // Returns what a failing call leaves, by the words from a place on.
 fn extent_at(words: &[&[u8]], place: usize) -> Result<FaultExtent, LineError> {
-    match (word_at(words, place), words.len().saturating_sub(place)) {
-        (_, 0) => Ok(FaultExtent::Nothing),
-        (b"whole", 1) => Ok(FaultExtent::Whole),
-        (b"torn", 2) => Ok(FaultExtent::FirstBytes(number_at(words, place.saturating_add(1))?)),
+    let word = word_at(words, place);
+    match words.len().saturating_sub(place) {
+        0 => Ok(FaultExtent::Nothing),
+        1 if is_keyword(word, b"whole") => Ok(FaultExtent::Whole),
+        2 if is_keyword(word, b"torn") => Ok(FaultExtent::FirstBytes(number_at(
+            words,
+            place.saturating_add(1),
+        )?)),
         _ => Err(no_options(place)),
     }
 }
 
-// Returns at which call a device fails, if it does.
-pub(crate) fn fault_of_words(words: &[&[u8]]) -> Result<PlannedFault, LineError> {
-    let which = match word_at(words, 1) {
-        b"any" | b"" => CountedCalls::Any,
-        b"read" => CountedCalls::Read,
-        b"program" => CountedCalls::Program,
-        b"erase" => CountedCalls::Erase,
-        _ => return Err(no_options(1)),
+// Returns the kind of calls that a word names, if it names one.
+fn call_kind_of_word(word: &[u8]) -> Option<CountedCalls> {
+    if is_keyword(word, b"any") {
+        Some(CountedCalls::Any)
+    } else if is_keyword(word, b"read") {
+        Some(CountedCalls::Read)
+    } else if is_keyword(word, b"program") {
+        Some(CountedCalls::Program)
+    } else if is_keyword(word, b"erase") {
+        Some(CountedCalls::Erase)
+    } else {
+        None
+    }
+}
+
+// Returns at which call a device fails, by at least two words behind the command's name.
+fn given_fault(words: &[&[u8]]) -> Result<PlannedFault, LineError> {
+    let Some(which) = call_kind_of_word(word_at(words, 1)) else {
+        return Err(no_options(1));
     };
-    let nth = match words.len() {
-        0 | 1 => 0,
-        2 => return Err(no_options(1)),
-        _ => number_at(words, 2)?,
-    };
-    let stops = word_at(words, 3) == b"stop".as_slice();
+    let nth = number_at(words, 2)?;
+    let stops = is_keyword(word_at(words, 3), b"stop");
     let extent = extent_at(words, if stops { 4 } else { 3 })?;
     Ok(PlannedFault {
         which,
@@ -74,38 +104,55 @@ pub(crate) fn fault_of_words(words: &[&[u8]]) -> Result<PlannedFault, LineError>
     })
 }
 
-// Gives a profile the limit of that name.
-fn set_limit(profile: &mut Profile, name: &[u8], bytes: u32) {
-    match name {
-        b"name-max" => profile.name_max = bytes,
-        b"file-max" => profile.file_max = bytes,
-        b"attr-max" => profile.attr_max = bytes,
-        _ => profile.inline_max = bytes,
+// Returns at which call a device fails, if it does.
+pub(crate) fn fault_of_words(words: &[&[u8]]) -> Result<PlannedFault, LineError> {
+    match words.len() {
+        0 | 1 => Ok(PlannedFault {
+            which: CountedCalls::Any,
+            nth: 0,
+            stops: false,
+            extent: FaultExtent::Nothing,
+        }),
+        2 => Err(no_options(1)),
+        _ => given_fault(words),
     }
 }
 
-fn is_limit(name: &[u8]) -> bool {
-    matches!(
-        name,
-        b"name-max" | b"file-max" | b"attr-max" | b"inline-max"
-    )
+// Returns the profile with another limit, if the word names one.
+fn with_limit(profile: Profile, name: &[u8], bytes: u32) -> Option<Profile> {
+    let mut profile = profile;
+    if is_keyword(name, b"name-max") {
+        profile.name_max = bytes;
+    } else if is_keyword(name, b"file-max") {
+        profile.file_max = bytes;
+    } else if is_keyword(name, b"attr-max") {
+        profile.attr_max = bytes;
+    } else if is_keyword(name, b"inline-max") {
+        profile.inline_max = bytes;
+    } else {
+        return None;
+    }
+    Some(profile)
 }
 
 // Returns the profile that the words behind the command's name give.
 pub(crate) fn profile_of_words(words: &[&[u8]]) -> Result<Profile, LineError> {
     let mut profile = Profile::new();
-    let mut limit = None;
-    for (place, word) in words.iter().enumerate() {
-        match limit {
-            Some(name) => {
-                set_limit(&mut profile, name, number_at(words, place)?);
-                limit = None;
+    let mut is_number = false;
+    for place in 1..words.len() {
+        let word = word_at(words, place);
+        if is_number {
+            is_number = false;
+        } else if is_keyword(word, b"also-2.1") {
+            profile.versions = AcceptedVersions::AlsoTwoOne;
+        } else {
+            let behind = place.saturating_add(1);
+            if behind == words.len() || with_limit(profile, word, 0).is_none() {
+                return Err(no_options(place));
             }
-            None if place == 0 => {}
-            None if *word == b"also-2.1".as_slice() => profile.versions =
-                AcceptedVersions::AlsoTwoOne,
-            None if is_limit(word) && words.len() - place > 1 => limit = Some(*word),
-            None => return Err(no_options(place)),
+            let bytes = number_at(words, behind)?;
+            profile = with_limit(profile, word, bytes).unwrap_or(profile);
+            is_number = true;
         }
     }
     Ok(profile)

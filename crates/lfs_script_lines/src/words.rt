@@ -1,5 +1,7 @@
 // Words that are bytes, read and written.
 
+ghost use Rattle.std.specs.Prelude.{◌<◌};
+
 use crate::arguments::read_number;
 use std::alloc::{AllocError, Global};
 

@@ -7,8 +7,8 @@ pub mod FewReads
 pub mod Fields
 pub mod Filled
 pub mod Finished
+pub mod Front
 pub mod Growing
 pub mod Known
-pub mod Pointers
 pub mod Right
 pub mod Way

@@ -4,7 +4,7 @@ ghost use Rattle.lfs_ctz.specs.Appended.{IsBlockAppendedToList};
 ghost use Rattle.lfs_ctz.specs.Calls.{ReportsNoErrorButIo};
 ghost use Rattle.lfs_ctz.specs.Counts.{AddsOneEraseAndProgramPerBlock};
 ghost use Rattle.lfs_ctz.specs.Extending.{IsDeviceBlockOutsideFullBlocksOfList};
-ghost use Rattle.lfs_ctz.specs.Pointers.{KeepsFullBlocks, ReadsOnlyUnknownPointers};
+ghost use Rattle.lfs_ctz.specs.Front.{KeepsFullBlocks, ReadsOnlyUnknownPointers};
 ghost use Rattle.lfs_ctz.specs.Known.{AreKnownIndicesBelow, AreKnownListBlocks, ArePointedBlocksKnown};
 ghost use Rattle.lfs_device.specs.Calls.{ChangesOnlyThisBlock, ReadsOnly};
 ghost use Rattle.lfs_model.specs.Blocks.{block_bytes_by_number};

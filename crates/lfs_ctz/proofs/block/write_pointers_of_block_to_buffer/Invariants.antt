@@ -2,7 +2,7 @@ use Rattle.std.proofs.Common.{ℕ, ◌≡◌, ◌≤◌, ◌<◌, ◌+◌, ◌-�
 use Rattle.lfs_device.specs.Calls.{ReadsOnly}
 use Rattle.lfs_model.specs.History.{fault_count_of_history, read_count_of_history}
 use Rattle.lfs_model.specs.SkipLists.{list_blocks_from_head, pointer_count_of_list_block, word_at_offset}
-use Rattle.lfs_ctz.specs.Pointers.{KeepsFullBlocks}
+use Rattle.lfs_ctz.specs.Front.{KeepsFullBlocks}
 use Rattle.lfs_ctz.specs.Known.{ArePointedBlocksKnown}
 use Rattle.lfs_ctz.proofs.block.write_pointers_of_block_to_buffer.Given as goal
 

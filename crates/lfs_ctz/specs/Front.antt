@@ -1,4 +1,4 @@
--- The full blocks of a list that grows, while the pointers of the next block are written.
+-- The full blocks of a list that grows, while a block after them is written.
 use Rattle.std.specs.Prelude.{ℕ, ◌≡◌, ◌≤◌, ◌+◌, ◌-◌, List}
 use Rattle.lfs_model.specs.History.{DeviceCallEvent, read_count_of_history}
 use Rattle.lfs_model.specs.SkipLists.{pointer_count_of_list_block}

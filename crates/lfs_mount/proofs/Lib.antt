@@ -27,6 +27,7 @@ pub mod FirstSlots
 pub mod Headers
 pub mod Heads
 pub mod Reported
+pub mod MountCalls
 pub mod KnownMoves
 pub mod KnownThread
 pub mod Mounts

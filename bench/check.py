@@ -10,9 +10,9 @@ ones whose newest log has one more commit, or that are checked with other sizes.
   Where it isn't writable, the cause is the first of those that are true: other limits, long inline, an empty pair, too large.
 - Of any other one, `corrupt` and a line that has to be true. check_lines.py makes each line that is true of the image, from the
   addresses, logs and slots that the reader finds in it. That of PROGRAM has to be one of these, and of the first part that
-  has any: the superblock in block 0 or 1 by its place, the sizes, the thread, the superblock's chain, the other slots, the walk
-  to all directories (the order of names in each, and where its entries lead), names in two orders, the directories that no path
-  reaches, the move, the first entry of the superblock's log, the lists of files.
+  has any: the superblock in block 0 or 1 by its place, the sizes, the thread, and then everything else: the superblock's chain
+  and its first entry, the other slots, the move, the lists of files, the order of names in each directory, where entries lead,
+  and the directories that no path reaches.
   One of them is for the rule at which the reader stops. So there always is one.
 
 Prints for each kind of image how many were accepted, how often each line on order, recovery and writing came of these, and for

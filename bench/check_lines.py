@@ -248,11 +248,12 @@ def same_superblocks(one, other, versions):
 
 
 def wrong_others(pairs, root, versions):
-    """Superblocks of the chain that differ from the root directory's."""
-    for pair in filter(is_headed, pairs[:root] if is_headed(pairs[root]) else []):
-        one, other = pair.slots[0].struct, pairs[root].slots[0].struct
-        if one[0] == other[0] == INLINE and not same_superblocks(one[1], other[1], versions):
-            yield "other superblock", "pair %d %d, superblock: another one than in pair %d %d" % (*pair.address, *pairs[root].address)
+    """Superblocks of the chain that differ from the first one."""
+    chain = list(filter(is_headed, pairs[: root + 1] if is_headed(pairs[root]) else []))
+    for pair in chain[1:]:
+        one, other = pair.slots[0].struct, chain[0].slots[0].struct
+        if other[0] == INLINE and not (one[0] == INLINE and same_superblocks(one[1], other[1], versions)):
+            yield "other superblock", "pair %d %d, superblock: another one than in pair %d %d" % (*pair.address, *chain[0].address)
 
 
 def wrong_superblock_name(pairs):
@@ -378,7 +379,7 @@ def wrong_move(pairs):
     slots = [slot for pair in pairs if set(pair.address) == set(address) for slot in pair.slots[ident : ident + 1]]
     is_entry = kind == SET_MOVE and any(slot.kind != SUPERBLOCK for slot in slots)
     if not is_entry and (kind, ident, address) != (0, 0, (0, 0)):
-        yield "bad move", "global state: its move names no entry"
+        yield "bad move", "global state: " + ("its move names no entry" if kind else "no move is set, but it names a slot")
 
 
 def wrong_first_entry(pairs):
@@ -422,9 +423,9 @@ def wrong_lists(blocks, pairs, moved):
 
 
 def true_lines(image, block_size, page, versions):
-    """The parts in the order of the search, each with the lines that are true. What is behind a broken thread isn't known.
+    """The parts in the order in which they are told, each with the lines that are true. What is behind a broken thread isn't known.
 
-    Names out of order and where entries lead are one part, as the search walks once and looks at both in each directory.
+    A mount stops at one of the rules on pairs, slots, directories and lists, whichever it comes to first.
     """
     parts = [list(wrong_by_place(image, block_size, versions)), list(wrong_sizes(image, block_size, page))]
     if parts[1]:
@@ -434,11 +435,10 @@ def true_lines(image, block_size, page, versions):
     if wrong:
         return parts + [wrong]
     root, moved = image_reader.last_superblock(pairs), moved_slots(pairs)
-    chain = [wrong_chain(pairs, root, block_size, len(blocks), versions), wrong_others(pairs, root, versions), wrong_superblock_name(pairs)]
-    slots = [wrong_slots(pairs, root)]
-    directories = [wrong(pairs, root, moved) for wrong in (wrong_walk, wrong_two_orders, wrong_unreached)]
-    rest = [wrong_move(pairs), wrong_first_entry(pairs), wrong_lists(blocks, pairs, moved)]
-    return parts + [list(part) for part in chain + slots + directories + rest]
+    rules = [wrong_chain(pairs, root, block_size, len(blocks), versions), wrong_others(pairs, root, versions), wrong_superblock_name(pairs)]
+    rules += [wrong_slots(pairs, root), wrong_move(pairs), wrong_first_entry(pairs), wrong_lists(blocks, pairs, moved)]
+    rules += [wrong(pairs, root, moved) for wrong in (wrong_walk, wrong_two_orders, wrong_unreached)]
+    return parts + [[line for rule in rules for line in rule]]
 
 
 def known_of(image, geometry, profile=profiles.DEFAULT):

@@ -52,10 +52,10 @@ still_call t fs now op r new is ready kept looks same ends answers survives =
     unasked_call now op r new kept looks (untouched_survives_loss (system_state_of_session_view now) op (system_state_of_session_view new) agrees stays survives) (λ e. untouched_others (system_state_of_session_view now) op (system_state_of_session_view new) stays) ends answers
 
 -- the disk may have changed
-pub changed_call : {A : Type 0} (t : TreeState) (fs : RuntimeOpenFilesByNumber) (now : SessionView) (op : Operation) (reply : A → Reply) (r : Result A Error) (new : SessionView) → session_view_of_tree_and_files t fs ≡ now → HasSessionInvariant t fs → IsDiskLeftByConformingDeviceCalls new.tree → is_answered_from_memory op ≡ false → is_look_up_operation op ≡ false →
+pub changed_call : {A : Type 0} (t : TreeState) (fs : RuntimeOpenFilesByNumber) (now : SessionView) (op : Operation) (reply : A → Reply) (r : Result A Error) (new : SessionView) → session_view_of_tree_and_files t fs ≡ now → HasSessionInvariant t fs → IsDiskLeftByConformingDeviceCalls new.tree → is_remount_operation op ≡ false → is_answered_from_memory op ≡ false → is_look_up_operation op ≡ false →
     OnOk r (SparesBlocksUnrelatedToOperation (system_state_of_session_view now) op (system_state_of_session_view new)) → MeetsReplyRules now op (reply_from_result reply r) new → IsSessionStepOrFailure now op (reply_from_result reply r) new → IsOperationSurvivingPowerLossInCalls (system_state_of_session_view now) op (system_state_of_session_view new) → IsSessionCallWithResult now op (reply_from_result reply r) new
-changed_call t fs now op reply r new is between reported kept looks alone ends answers survives =
-    unasked_call now op (reply_from_result reply r) new kept looks (call_survives_loss t fs now op (reply_from_result reply r) new is between reported answers survives) (λ e. ok_others now op reply r new answers alone e) ends answers
+changed_call t fs now op reply r new is between reported other kept looks alone ends answers survives =
+    unasked_call now op (reply_from_result reply r) new kept looks (call_survives_loss t fs now op (reply_from_result reply r) new is between reported other answers survives) (λ e. ok_others now op reply r new answers alone e) ends answers
 
 -- where it failed, nothing is said of what it left alone
 pub failed_others : {A : Type 0} (now : SessionView) (op : Operation) (new : SessionView) {e : Error} (r : Result A Error) → r ≡ Err e → OnOk r (SparesBlocksUnrelatedToOperation (system_state_of_session_view now) op (system_state_of_session_view new))
@@ -96,7 +96,7 @@ pub done_call : (C K : Type 0) (t mid new : TreeState) (fs : RuntimeOpenFilesByN
     renames_to_itself op ≡ false → t.writable ≡ true → (new.failed ≡ false → OpenFilesStaySameAndReady t new fs) → IsDiskLeftByConformingDeviceCalls new → OnOk r C → (C → IsOperationAppliedToTree mid op new) → OnOk r K → (K → LeavesUnconcernedBlocksAlone mid op new) → OnErr r (IsFailedTree mid new) → IfErr r (IsIoWithFaultOrNoMemory mid new) →
     SurvivesStopsInTreeCall mid new after → after ≡ (effect_of_operation (disk_summary_of_tree t) (session_of_session_view (session_view_of_tree_and_files t fs)) op).1.tree → IsSessionCallWithResult now op (reply_from_result (λ u. ops.Done) r) (session_view_of_tree_and_files new fs)
 done_call C K t mid new fs now op r after is between asked e other asks fill creates silent done files kept looks takes itself writable left reported c carried k rest broken errors survives makes =
-    changed_call t fs now op (λ u. ops.Done) r (session_view_of_tree_and_files new fs) is between reported kept looks
+    changed_call t fs now op (λ u. ops.Done) r (session_view_of_tree_and_files new fs) is between reported other kept looks
     (done_others C K t mid new fs now op r is between.ready asked c carried k rest)
     (carried_ends (session_view_of_tree_and_files t fs) now op (λ u. ops.Done) mid new (open_files_view new fs) r is e takes asked c (λ x. (carried x).no_fault) errors)
     (with_files now op (reply_from_result (λ u. ops.Done) r) new (open_files_view t fs) (open_files_view new fs) (λ works. (left works).same)
@@ -108,7 +108,7 @@ pub saving_call : {B : Type 0} (t new : TreeState) (fs : RuntimeOpenFilesByNumbe
     is_remount_operation op ≡ false → is_read_only_operation (session_of_session_view (session_view_of_tree_and_files t fs)) op ≡ false → renames_to_itself op ≡ false → is_answered_from_memory op ≡ false → is_look_up_operation op ≡ false → needs_no_device_or_memory (session_of_session_view (session_view_of_tree_and_files t fs)) op ≡ false → t.writable ≡ true →
     IsDiskLeftByConformingDeviceCalls new → IsFailedTree t new → IsIoWithFaultOrNoMemory t new e → r ≡ Err e → SurvivesStopsInTreeCall t new after → after ≡ (effect_of_operation (disk_summary_of_tree t) (session_of_session_view (session_view_of_tree_and_files t fs)) op).1.tree → IsSessionCallWithResult now op (reply_from_result reply r) (session_view_of_tree_and_files_view new files)
 saving_call t new fs files now op reply e r after is between accepted other asks itself kept looks takes writable reported broken error given survives makes =
-    changed_call t fs now op reply r (session_view_of_tree_and_files_view new files) is between reported kept looks
+    changed_call t fs now op reply r (session_view_of_tree_and_files_view new files) is between reported other kept looks
     (failed_others now op (session_view_of_tree_and_files_view new files) r given)
     (broken_ends (session_view_of_tree_and_files t fs) now op reply e r (session_view_of_tree_and_files_view new files) is accepted takes error.errors given)
     (saving_fails t new fs files now op reply e r is accepted other asks itself (between.ready (not_failed (session_view_of_tree_and_files t fs) op accepted)).sound writable broken error given)

@@ -10,7 +10,7 @@ use Rattle.lfs_model.specs.Operations.{Failed, Operation, Refusal, Reply}
 use Rattle.lfs_model.specs.Refusals.{refusal_of_operation}
 use Rattle.lfs_model.specs.Session.{OpenFilesByNumber}
 use Rattle.lfs_lookup.specs.Refusals.{is_refusal, refusal_of_error}
-use Rattle.lfs_tree.specs.TreeState.{WasTreeOnlyRead, IsIoWithFaultOrNoMemory, IsMountErrorWithCause, IsMountedTree, TreeState, disk_summary_of_tree}
+use Rattle.lfs_tree.specs.TreeState.{WasTreeOnlyRead, IsIoWithFaultOrNoMemory, IsMountErrorWithCause, IsRemountedTree, TreeState, disk_summary_of_tree}
 use Rattle.lfs_model.specs.Frame.{refusal_needs_no_look_up, needs_no_device_or_memory}
 use Rattle.lfs_fs.specs.CallEnds.{MeetsReplyRules}
 use Rattle.lfs_fs.specs.FileView.{RuntimeOpenFilesByNumber}
@@ -141,7 +141,7 @@ pub remount_refuses_not : {A : Type 0} (old new : TreeState) (r : Result A Error
 remount_refuses_not old new (Ok x) errors = tt
 remount_refuses_not old new (Err e) errors = no_refusal e errors.errors
 
-pub remount_ends : (old now : SessionView) (new : TreeState) (files : OpenFilesByNumber) (r : Result (Unit {0}) Error) → old ≡ now → OnOk r (IsMountedTree old.tree.disk old.tree.history new) → IfErr r (λ e. is_refusal e ≡ false) →
+pub remount_ends : (old now : SessionView) (new : TreeState) (files : OpenFilesByNumber) (r : Result (Unit {0}) Error) → old ≡ now → OnOk r (IsRemountedTree old.tree new) → IfErr r (λ e. is_refusal e ≡ false) →
     MeetsReplyRules now ops.Remount (reply_from_result (λ u. ops.Done) r) (session_view_of_tree_and_files_view new files)
 remount_ends old now new files r same mounted errors = subst (λ z. MeetsReplyRules z ops.Remount (reply_from_result (λ u. ops.Done) r) (session_view_of_tree_and_files_view new files)) same (record {
   failed = λ f other. absurd (cc);
@@ -155,6 +155,6 @@ remount_ends old now new files r same mounted errors = subst (λ z. MeetsReplyRu
     never_at_once true e is = ap (refusal_needs_no_look_up ops.Remount) (sym (same_Some Failed e is))
     never_at_once false e is = absurd (cc)
 
-    calm : (r : Result (Unit {0}) Error) → OnOk r (IsMountedTree old.tree.disk old.tree.history new) → IfErr r (λ e. is_refusal e ≡ false) → is_err (reply_from_result (λ u. ops.Done) r) ≡ false → fault_count_of_history new.history ≡ fault_count_of_history old.tree.history
-    calm (Ok u) m errors k = m.no_fault
+    calm : (r : Result (Unit {0}) Error) → OnOk r (IsRemountedTree old.tree new) → IfErr r (λ e. is_refusal e ≡ false) → is_err (reply_from_result (λ u. ops.Done) r) ≡ false → fault_count_of_history new.history ≡ fault_count_of_history old.tree.history
+    calm (Ok u) m errors k = m.mounted.no_fault
     calm (Err e) m errors k = absurd (let l = sym (ap (λ b. is_err (cond b (let z : Result Reply Error = Ok (ops.Refused (refusal_of_error e)) in z) (Err e))) errors) ∙ k in cc)

@@ -21,6 +21,7 @@ pub mod Calls
 pub mod FewReads
 pub mod KeptLookUps
 pub mod Running
+pub mod StepShapes
 pub mod Surviving
 pub mod Remounting
 pub mod ReaderReads

@@ -3,23 +3,22 @@ use Rattle.std.proofs.Common.{arith, ◌≡◌, inl, inr, true, false, cond, set
 use Rattle.std.specs.Prelude.{◌⊎◌, OnOk, OnErr, IfErr}
 use Rattle.lfs_device.specs.declared.error.Error.{Error}
 use Rattle.lfs_device.specs.declared.error.Error.TheVariants.{Io, NoMemory, Corrupt}
-use Rattle.lfs_model.specs.Disk.{Disk, SameGeometry}
+use Rattle.lfs_model.specs.Disk.{Disk, SameGeometry, disk_in_order}
 use Rattle.lfs_model.specs.History.{DeviceCallEvent}
 use Rattle.lfs_model.specs.Operations as ops
 use Rattle.lfs_model.specs.Session.{OpenFilesByNumber}
-use Rattle.lfs_model.specs.State.{Healthy, IsSummaryOfDisk, session_after_mount}
+use Rattle.lfs_model.specs.State.{Healthy, session_after_mount}
 use Rattle.lfs_model.specs.Effects.{tree_after_commit_of_writer, node_with_bytes}
 use Rattle.lfs_model.specs.TreeEdits.{tree_after_change_of_node}
 use Rattle.std.specs.List.{IsDistinct}
 use Rattle.std.specs.Option.{option_map}
-use Rattle.lfs_model.specs.Thread.{Pair}
 use Rattle.lfs_model.specs.Tree.{Tree}
 use Rattle.lfs_model.specs.View.{IsAcceptedImage}
 use Rattle.lfs_model.specs.Shown.{tree_on_disk}
-use Rattle.lfs_model.specs.Run.{SystemState, IsSessionStep, AreCallsWithoutWrites, is_dirty_writer}
+use Rattle.lfs_model.specs.Run.{SystemState, IsSessionStep, IsTreeOfDiskOrNone, AreCallsWithoutWrites, is_dirty_writer}
 use Rattle.lfs_model.proofs.StepsMade.{remounted_step}
 use Rattle.lfs_lookup.specs.Refusals.{is_refusal, refusal_of_error}
-use Rattle.lfs_tree.specs.TreeState.{TreeState, tree_view, disk_summary_of_tree, kept_thread_of_tree_state, IsTreeFailedByRead, IsMountErrorWithCause, IsMountedTree, IsSoundTreeState}
+use Rattle.lfs_tree.specs.TreeState.{TreeState, tree_view, disk_summary_of_tree, kept_thread_of_tree_state, IsTreeFailedByRead, IsMountErrorWithCause, IsMountedTree, IsRemountedTree, IsSoundTreeState}
 use Rattle.lfs_fs.specs.Replies.{reply_from_result}
 use Rattle.lfs_fs.specs.FileView.{RuntimeOpenFilesByNumber, unsaved_or_tree_bytes_of_writer, open_file_at, is_unsaved_writer, open_file_view, open_files_view}
 use Rattle.lfs_fs.specs.declared.files.OpenFile as kept
@@ -29,6 +28,7 @@ use Rattle.lfs_fs.specs.SessionView.{SessionView, IsSessionReadyForCalls, sessio
 use Rattle.lfs_fs.proofs.OpenFiles.{file_is, is_saved, ready_closed, saved_is, set_is}
 use Rattle.lfs_fs.proofs.Failing.{reads_write_nothing, failed_system, healthy_system}
 use Rattle.lfs_fs.proofs.Answered.{is_over, kept_answer, sound_by}
+use Rattle.lfs_fs.proofs.Stopping.{works_at}
 use Rattle.lfs_fs.proofs.Calls.{has_called, has_erased}
 use Rattle.lfs_model.proofs.BlockSets.{in_flight_block_count-AreExactlyTheInFlightBlocks}
 use Rattle.lfs_tree.specs.Formats.{ErasesTwoBlocks, IsFreshlyFormatted}
@@ -93,30 +93,32 @@ remount_fails e old new files broken error = record {
     writes : AreCallsWithoutWrites broken.reads.events
     writes = reads_write_nothing old.tree.disk.blocks broken.reads.events broken.reads.each
 
-    widened : (e ≡ Io) ⊎ ((e ≡ NoMemory) ⊎ ((e ≡ Corrupt) × ((ps : List Pair) → IsAcceptedImage old.tree.disk ps → ⊥))) →
-        (e ≡ Io) ⊎ ((e ≡ NoMemory) ⊎ ((e ≡ Corrupt) × (true ≡ true) × ((ps : List Pair) → IsAcceptedImage old.tree.disk ps → ⊥)))
+    widened : (e ≡ Io) ⊎ ((e ≡ NoMemory) ⊎ ((e ≡ Corrupt) × IsTreeOfDiskOrNone old.tree.disk None)) → (e ≡ Io) ⊎ ((e ≡ NoMemory) ⊎ ((e ≡ Corrupt) × (true ≡ true) × IsTreeOfDiskOrNone old.tree.disk None))
     widened (inl h) = inl h
     widened (inr (inl h)) = inr (inl h)
     widened (inr (inr h)) = inr (inr (h.0, refl, h.1))
 
-remount_steps : (old : SessionView) (new : TreeState) → IsMountedTree old.tree.disk old.tree.history new → IsSessionStep (system_state_of_session_view old) ops.Remount ops.Done (system_state_of_session_view (session_view_of_tree_and_files_view new []))
-remount_steps old new m =
+remount_steps : (old : SessionView) (new : TreeState) → (old.tree.failed ≡ false → IsSoundTreeState old.tree) → IsRemountedTree old.tree new → IsSessionStep (system_state_of_session_view old) ops.Remount ops.Done (system_state_of_session_view (session_view_of_tree_and_files_view new []))
+remount_steps old new sound r =
     subst (λ z. IsSessionStep (system_state_of_session_view old) ops.Remount ops.Done z) (sym to)
-    (remounted_step old.tree.disk new.pairs (disk_summary_of_tree new) (system_state_of_session_view old).state m.reads.events old.tree.history
-    (subst (λ d. IsAcceptedImage d new.pairs) m.disk_is m.sound.accepted)
-    (subst (λ d. IsSummaryOfDisk d new.pairs (disk_summary_of_tree new)) m.disk_is (is_over new [] m.sound).surrounds)
+    (remounted_step old.tree.disk new.disk.order new.pairs (disk_summary_of_tree old.tree) (system_state_of_session_view old).state m.reads.events old.tree.history
+    (λ s at. let over = is_over old.tree old.files (sound (works_at old s at)) in (old.tree.pairs, (over.accepted, over.surrounds)))
+    (subst (λ d. IsAcceptedImage d new.pairs) m.disk_is m.sound.accepted) r.longer
     (reads_write_nothing old.tree.disk.blocks m.reads.events m.reads.each))
   where
-    to : system_state_of_session_view (session_view_of_tree_and_files_view new []) ≡ record { disk = old.tree.disk; calls = m.reads.events ++ old.tree.history; state = Healthy (session_after_mount (tree_on_disk old.tree.disk new.pairs)) }
+    m : IsMountedTree (disk_in_order new.disk.order old.tree.disk) old.tree.history new
+    m = r.mounted
+
+    to : system_state_of_session_view (session_view_of_tree_and_files_view new []) ≡ record { disk = disk_in_order new.disk.order old.tree.disk; calls = m.reads.events ++ old.tree.history; state = Healthy (session_after_mount (tree_on_disk old.tree.disk new.pairs)) }
     to = healthy_system (session_view_of_tree_and_files_view new []) m.works
         ∙ ap₂ (λ (d : Disk) (h : List DeviceCallEvent). record { disk = d; calls = h; state = Healthy (session_after_mount (tree_on_disk d new.pairs)) }) m.disk_is m.reads.extends
 
-pub remount_answers : (old now : SessionView) (new : TreeState) (files : RuntimeOpenFilesByNumber) (r : Result (Unit {0}) Error) → old ≡ now → files ≡ [] → OnOk r (IsMountedTree old.tree.disk old.tree.history new) → OnErr r (IsTreeFailedByRead old.tree new) →
+pub remount_answers : (old now : SessionView) (new : TreeState) (files : RuntimeOpenFilesByNumber) (r : Result (Unit {0}) Error) → old ≡ now → (old.tree.failed ≡ false → IsSoundTreeState old.tree) → files ≡ [] → OnOk r (IsRemountedTree old.tree new) → OnErr r (IsTreeFailedByRead old.tree new) →
     IfErr r (IsMountErrorWithCause old.tree new) → IsSessionStepOrFailure now ops.Remount (reply_from_result (λ u. ops.Done) r) (session_view_of_tree_and_files new files)
-remount_answers old now new files (Ok u) same none ok broken errors =
+remount_answers old now new files (Ok u) same sound none ok broken errors =
     subst (λ z. IsSessionStep (system_state_of_session_view z) ops.Remount ops.Done (system_state_of_session_view (session_view_of_tree_and_files new files))) same
-    (subst (λ f. IsSessionStep (system_state_of_session_view old) ops.Remount ops.Done (system_state_of_session_view (session_view_of_tree_and_files new f))) (sym none) (remount_steps old new ok))
-remount_answers old now new files (Err e) same none ok broken errors =
+    (subst (λ f. IsSessionStep (system_state_of_session_view old) ops.Remount ops.Done (system_state_of_session_view (session_view_of_tree_and_files new f))) (sym none) (remount_steps old new sound ok))
+remount_answers old now new files (Err e) same sound none ok broken errors =
     subst (λ z. IsSessionStepOrFailure z ops.Remount (cond (is_refusal e) (Ok (ops.Refused (refusal_of_error e))) (Err e)) (session_view_of_tree_and_files new files)) same
     (subst (λ b. IsSessionStepOrFailure old ops.Remount (cond b (Ok (ops.Refused (refusal_of_error e))) (Err e)) (session_view_of_tree_and_files new files)) (sym (no_refusal e errors.errors)) (remount_fails e old new (open_files_view new files) broken errors))
 
@@ -140,6 +142,6 @@ fresh_ready before new files none sound formatted calls =
       known = tt;
     })
 
-pub remount_ready : (old new : TreeState) (files : RuntimeOpenFilesByNumber) (r : Result (Unit {0}) Error) → files ≡ [] → OnOk r (IsMountedTree old.disk old.history new) → OnErr r (IsTreeFailedByRead old new) → new.failed ≡ false → IsSessionReadyForCalls new files
-remount_ready old new files (Ok u) none ok broken works = subst (IsSessionReadyForCalls new) (sym none) (mounted_ready old.disk old.history new ok)
+pub remount_ready : (old new : TreeState) (files : RuntimeOpenFilesByNumber) (r : Result (Unit {0}) Error) → files ≡ [] → OnOk r (IsRemountedTree old new) → OnErr r (IsTreeFailedByRead old new) → new.failed ≡ false → IsSessionReadyForCalls new files
+remount_ready old new files (Ok u) none ok broken works = subst (IsSessionReadyForCalls new) (sym none) (mounted_ready (disk_in_order new.disk.order old.disk) old.history new ok.mounted)
 remount_ready old new files (Err e) none ok broken works = absurd (let l = sym broken.failed ∙ works in cc)

@@ -3,9 +3,10 @@ use Rattle.std.proofs.Common.{ℕ, ◌≡◌, Bool, true, false, cond, List, [],
 use Rattle.std.specs.Prelude.{All, OnOk, is_err}
 use Rattle.std.proofs.lemmas.List.Elements.{All-from_recursion}
 use Rattle.lfs_device.specs.declared.error.Error.{Error}
+use Rattle.lfs_model.specs.declared.order.NameOrder.{NameOrder}
 use Rattle.lfs_model.specs.Content.{content_of_pair_at}
 use Rattle.lfs_model.specs.Frame.{LeavesUnrelatedBlocksUnchanged, AreLookUpReadsWithinPairCount, is_answered_from_memory, is_look_up_operation, path_list_of_open_file, paths_changed_by_operation, paths_of_searched_directories}
-use Rattle.lfs_model.specs.Disk.{Disk, block_bytes_on_disk, block_count}
+use Rattle.lfs_model.specs.Disk.{Disk, disk_in_order, block_bytes_on_disk, block_count}
 use Rattle.lfs_model.specs.History.{DeviceCallEvent}
 use Rattle.lfs_model.specs.Operations as ops
 use Rattle.lfs_model.specs.Operations.{Operation, Reply}
@@ -16,7 +17,7 @@ use Rattle.lfs_model.specs.Run.{HealthySessionHasTreeOfDisk, IsOperationEffectOn
 use Rattle.lfs_model.specs.Session.{Session, open_file_with_number}
 use Rattle.lfs_model.specs.Shown.{all_slots_not_moved, skip_list_blocks_of_struct}
 use Rattle.lfs_model.specs.Slots.{Slot, zero_gstate}
-use Rattle.lfs_model.specs.State.{Healthy}
+use Rattle.lfs_model.specs.State.{Healthy, is_remount_operation}
 use Rattle.lfs_model.specs.Thread.{Pair, gstate_of_pairs}
 use Rattle.lfs_model.specs.View.{IsAcceptedImage}
 use Rattle.lfs_model.proofs.Committed.{recovered_from}
@@ -47,8 +48,9 @@ use Rattle.lfs_fs.proofs.Surviving.{ready_agrees, stood_before}
 
 -- ---- where the disk is as it was
 
-same_alone : (disk new : Disk) (ps qs : List Pair) (s : Session) (op : Operation) → new ≡ disk → LeavesUnrelatedBlocksUnchanged disk ps s op new qs
-same_alone disk new ps qs s op e = subst (λ z. LeavesUnrelatedBlocksUnchanged disk ps s op z qs) (sym e) (record {
+-- also where a remount found its names in another order
+same_alone : (disk new : Disk) (order : NameOrder) (ps qs : List Pair) (s : Session) (op : Operation) → new ≡ disk_in_order order disk → LeavesUnrelatedBlocksUnchanged disk ps s op new qs
+same_alone disk new order ps qs s op e = subst (λ z. LeavesUnrelatedBlocksUnchanged disk ps s op z qs) (sym e) (record {
   files = All-from_recursion (λ t. All (λ b. block_bytes_on_disk disk b ≡ block_bytes_on_disk disk b) (skip_list_blocks_of_struct disk t.struct)) (all_slots_not_moved ps)
       (each_always (λ (t : Slot). All (λ b. block_bytes_on_disk disk b ≡ block_bytes_on_disk disk b) (skip_list_blocks_of_struct disk t.struct))
       (λ t. All-from_recursion (λ b. block_bytes_on_disk disk b ≡ block_bytes_on_disk disk b) (skip_list_blocks_of_struct disk t.struct) (each_always (λ b. block_bytes_on_disk disk b ≡ block_bytes_on_disk disk b) (λ b. refl) (skip_list_blocks_of_struct disk t.struct))) (all_slots_not_moved ps));
@@ -56,25 +58,32 @@ same_alone disk new ps qs s op e = subst (λ z. LeavesUnrelatedBlocksUnchanged d
 })
 
 pub untouched_others : (from : SystemState) (op : Operation) (to : SystemState) → to.disk ≡ from.disk → SparesBlocksUnrelatedToOperation from op to
-untouched_others from op to e s at ps qs a b none = same_alone from.disk to.disk ps qs s op e
+untouched_others from op to e s at ps qs a b none = same_alone from.disk to.disk from.disk.order ps qs s op e
+
+in_its_order : (disk new : Disk) → new ≡ disk → new ≡ disk_in_order new.order disk
+in_its_order disk new e = e ∙ sym (ap (λ (d : Disk). disk_in_order d.order disk) e)
+
+in_found_order : (b : Bool) (disk new : Disk) → new ≡ cond b (disk_in_order new.order disk) disk → new ≡ disk_in_order new.order disk
+in_found_order true disk new e = e
+in_found_order false disk new e = in_its_order disk new e
 
 -- the turn tells that nothing was written, where nothing was to be recovered
 abbrev pub WritesNothing : SystemState → Operation → SystemState → Type 0
-WritesNothing from op to = (s : Session) → from.state ≡ Healthy s → (ps qs : List Pair) (calls : List DeviceCallEvent) → IsAcceptedImage from.disk ps → gstate_of_pairs ps ≡ zero_gstate → IsOperationEffectOnDisk from.disk ps s op calls to.disk qs → to.disk ≡ from.disk
+WritesNothing from op to = (s : Session) → from.state ≡ Healthy s → (ps qs : List Pair) (calls : List DeviceCallEvent) → IsAcceptedImage from.disk ps → gstate_of_pairs ps ≡ zero_gstate → IsOperationEffectOnDisk from.disk ps s op calls to.disk qs → to.disk ≡ disk_in_order to.disk.order from.disk
 
 turn_others : (from : SystemState) (op : Operation) (reply : Reply) (to : SystemState) → IsSessionStep from op reply to → WritesNothing from op to → SparesBlocksUnrelatedToOperation from op to
 turn_others from op reply to turn nothing s at ps qs a b none = go (model.is_refusal reply) refl
   where
     go : (x : Bool) → model.is_refusal reply ≡ x → LeavesUnrelatedBlocksUnchanged from.disk ps s op to.disk qs
-    go true e = same_alone from.disk to.disk ps qs s op (turn.refused e).0
-    go false e = same_alone from.disk to.disk ps qs s op (nothing s at ps qs turn.calls a none (turn.effect_on_disk e s at ps qs a b))
+    go true e = same_alone from.disk to.disk from.disk.order ps qs s op (turn.refused e).0
+    go false e = same_alone from.disk to.disk to.disk.order ps qs s op (nothing s at ps qs turn.calls a none (turn.effect_on_disk e s at ps qs a b))
 
 pub turned_others : {A : Type 0} (old : SessionView) (op : Operation) (reply : A → Reply) (r : Result A Error) (new : SessionView) → IsSessionStepOrFailure old op (reply_from_result reply r) new → WritesNothing (system_state_of_session_view old) op (system_state_of_session_view new) → OnOk r (SparesBlocksUnrelatedToOperation (system_state_of_session_view old) op (system_state_of_session_view new))
 turned_others old op reply (Ok x) new turn nothing = turn_others (system_state_of_session_view old) op (reply x) (system_state_of_session_view new) turn nothing
 turned_others old op reply (Err e) new answers nothing = tt
 
 pub recovered_others : (old : SessionView) (r : Result (Unit {0}) Error) (new : SessionView) → IsSessionStepOrFailure old ops.Recover (reply_from_result (λ u. ops.Done) r) new → OnOk r (SparesBlocksUnrelatedToOperation (system_state_of_session_view old) ops.Recover (system_state_of_session_view new))
-recovered_others old r new answers = turned_others old ops.Recover (λ u. ops.Done) r new answers (λ s at ps qs calls a none c. (c.nothing_left refl (recovered_from old.tree.disk ps a none)).0)
+recovered_others old r new answers = turned_others old ops.Recover (λ u. ops.Done) r new answers (λ s at ps qs calls a none c. in_its_order old.tree.disk new.tree.disk (c.nothing_left refl (recovered_from old.tree.disk ps a none)).0)
 
 -- ---- where the tree tells it
 
@@ -104,7 +113,7 @@ done_others C K t mid new fs now op (Err e) same ready asked c carried k rest = 
 -- a recovery alone
 pub begun_others : (t mid new : TreeState) (fs : RuntimeOpenFilesByNumber) (now : SessionView) (op : Operation) → session_view_of_tree_and_files t fs ≡ now → (t.failed ≡ false → IsSessionReadyForCalls t fs) → WasTreeOnlyRead t mid → IsOperationAppliedToTree mid ops.Recover new → SparesBlocksUnrelatedToOperation (system_state_of_session_view now) op (system_state_of_session_view (session_view_of_tree_and_files_view new []))
 begun_others t mid new fs now op same ready asked carried =
-    others_from t new fs now op same ready carried.sound (λ sound none. same_alone t.disk new.disk t.pairs new.pairs (session_of_session_view (session_view_of_tree_and_files t fs)) op
+    others_from t new fs now op same ready carried.sound (λ sound none. same_alone t.disk new.disk t.disk.order t.pairs new.pairs (session_of_session_view (session_view_of_tree_and_files t fs)) op
     ((subst (λ (z : TreeState). IsOperationAppliedToTree z ops.Recover new) asked.same carried).nothing_left refl (recovered_from t.disk t.pairs sound.accepted none)).0)
 
 -- the contents of a writer come into the tree
@@ -144,7 +153,7 @@ ok_others old op reply (Err x) new answers k e = go (is_refusal x) answers e
     go false fails e = absurd (cc)
 
 asking_others : (old : SessionView) (op : Operation) (r : Result Reply Error) (new : SessionView) → ((s : Session) → is_read_only_operation s op ≡ true) → IsSessionStepOrFailure old op r new → is_err r ≡ false → SparesBlocksUnrelatedToOperation (system_state_of_session_view old) op (system_state_of_session_view new)
-asking_others old op (Ok reply) new asks turn e = turn_others (system_state_of_session_view old) op reply (system_state_of_session_view new) turn (λ s at ps qs calls a none c. (c.asks (asks s)).0)
+asking_others old op (Ok reply) new asks turn e = turn_others (system_state_of_session_view old) op reply (system_state_of_session_view new) turn (λ s at ps qs calls a none c. in_found_order (is_remount_operation op) old.tree.disk new.tree.disk (c.asks (asks s)).0)
 asking_others old op (Err x) new asks fails e = absurd (cc)
 
 same_ok : (x y : Reply) → (let z : Result Reply Error = Ok x in z) ≡ Ok y → x ≡ y

@@ -13,7 +13,7 @@ use Rattle.lfs_model.specs.Effects.{tree_after_commit_of_writer, file_size_of_no
 use Rattle.lfs_model.specs.Tree.{DirectoryNode, FileNode, Node, Path}
 use Rattle.lfs_model.proofs.Histories.{AreCallsSinceOnlyReads-trans}
 use Rattle.lfs_tree.specs.OpenContents.{bytes_of_writer_contents, kept_thread_of_tree_state}
-use Rattle.lfs_tree.specs.TreeState.{WasTreeOnlyRead, IsTreeFailedByRead, IsMountedTree, IsSoundTreeState, TreeState, SurvivesStopsInTreeCall, tree_view}
+use Rattle.lfs_tree.specs.TreeState.{WasTreeOnlyRead, IsTreeFailedByRead, IsRemountedTree, IsSoundTreeState, TreeState, SurvivesStopsInTreeCall, tree_view}
 use Rattle.lfs_fs.specs.FileView.{RuntimeOpenFilesByNumber, unsaved_or_tree_bytes_of_writer, open_file_at, open_file_view, open_files_view, is_unsaved_writer}
 use Rattle.lfs_fs.specs.SessionView.{SessionView, IsSessionReadyForCalls, session_view_of_tree_and_files, session_view_of_tree_and_files_view, system_state_of_session_view, refusal_by_checks}
 use Rattle.lfs_model.specs.PowerLoss.{IsOperationSurvivingPowerLossInCalls}
@@ -31,8 +31,8 @@ use Rattle.lfs_fs.proofs.Stopping.{KeepsTree, kept_by_reads, one_changed, then_c
 pub reads_on : (t mid new : TreeState) → WasTreeOnlyRead t mid → AreCallsSinceOnlyReads mid.disk.blocks mid.history new.history → AreCallsSinceOnlyReads t.disk.blocks t.history new.history
 reads_on t mid new asked reads = AreCallsSinceOnlyReads-trans asked.reads reads (ap (λ (z : TreeState). z.disk.blocks) asked.same)
 
-pub reads_of_mount : {A : Type 0} (t new : TreeState) (r : Result A Error) → OnOk r (IsMountedTree t.disk t.history new) → OnErr r (IsTreeFailedByRead t new) → AreCallsSinceOnlyReads t.disk.blocks t.history new.history
-reads_of_mount t new (Ok x) mounted broken = mounted.reads
+pub reads_of_mount : {A : Type 0} (t new : TreeState) (r : Result A Error) → OnOk r (IsRemountedTree t new) → OnErr r (IsTreeFailedByRead t new) → AreCallsSinceOnlyReads t.disk.blocks t.history new.history
+reads_of_mount t new (Ok x) mounted broken = mounted.mounted.reads
 reads_of_mount t new (Err e) mounted broken = broken.reads
 
 -- ---- contents of a writer

@@ -1,13 +1,14 @@
 -- Runs whose operations survive stops.
-use Rattle.std.proofs.Common.{Result, Ok, Err, ◌≡◌, ◌≢◌, Bool, true, false, List, [], refl, sym, ap, subst, ◌∙◌}
+use Rattle.std.proofs.Common.{Result, Ok, Err, ◌≡◌, ◌≢◌, Bool, true, false, cond, List, [], refl, sym, ap, subst, ◌∙◌}
 use Rattle.lfs_device.specs.declared.error.Error.{Error}
 use Rattle.lfs_model.specs.PowerLoss.{IsHealthySessionOnWritableDisk, HasTreeBeforeOrAfterOperation, IsOperationSurvivingPowerLossInCalls, IsOperationSurvivingPowerLoss}
-use Rattle.lfs_model.specs.Disk.{SameGeometry}
+use Rattle.lfs_model.specs.Disk.{SameGeometry, disk_in_order}
 use Rattle.lfs_model.specs.Effects.{refusal_or_effect_of_operation}
 use Rattle.lfs_model.specs.History.{AreBlocksLeftByNewestCall}
 use Rattle.lfs_model.specs.Operations as ops
 use Rattle.lfs_model.specs.Operations.{Operation}
 use Rattle.lfs_model.specs.Session.{Session, DiskSummary}
+use Rattle.lfs_model.specs.State.{is_remount_operation}
 use Rattle.lfs_model.specs.Shown.{tree_on_disk}
 use Rattle.lfs_model.specs.Thread.{Pair}
 use Rattle.lfs_model.specs.Run.{HealthySessionHasTreeOfDisk, SystemState}
@@ -43,15 +44,15 @@ untouched_survives_loss from op to agrees same survives = record {
   stands = λ s ps around work clean fails. subst (λ d. HasTreeBeforeOrAfterOperation d s.tree (refusal_or_effect_of_operation around s op).1.tree) (sym same) (stood_before from op agrees s ps around work);
 }
 
--- the disk has the shape that it had
-same_shape : (old : SessionView) (op : Operation) (r : Result ops.Reply Error) (new : SessionView) → IsSessionStepOrFailure old op r new → SameGeometry old.tree.disk new.tree.disk
-same_shape old op (Ok reply) new turn = turn.geometry
-same_shape old op (Err e) new fails = fails.fails.geometry
+-- the disk has the shape that it had, and the order of names, but for a remount
+same_shape : (old : SessionView) (op : Operation) (r : Result ops.Reply Error) (new : SessionView) → is_remount_operation op ≡ false → IsSessionStepOrFailure old op r new → SameGeometry old.tree.disk new.tree.disk
+same_shape old op (Ok reply) new other turn = subst (λ b. SameGeometry (cond b (disk_in_order new.tree.disk.order old.tree.disk) old.tree.disk) new.tree.disk) other turn.geometry
+same_shape old op (Err e) new other fails = fails.fails.geometry
 
 -- What stands is what the newest call left.
-pub call_survives_loss : (t : TreeState) (fs : RuntimeOpenFilesByNumber) (now : SessionView) (op : Operation) (r : Result ops.Reply Error) (new : SessionView) → session_view_of_tree_and_files t fs ≡ now → HasSessionInvariant t fs → IsDiskLeftByConformingDeviceCalls new.tree → IsSessionStepOrFailure now op r new → IsOperationSurvivingPowerLossInCalls (system_state_of_session_view now) op (system_state_of_session_view new) →
+pub call_survives_loss : (t : TreeState) (fs : RuntimeOpenFilesByNumber) (now : SessionView) (op : Operation) (r : Result ops.Reply Error) (new : SessionView) → session_view_of_tree_and_files t fs ≡ now → HasSessionInvariant t fs → IsDiskLeftByConformingDeviceCalls new.tree → is_remount_operation op ≡ false → IsSessionStepOrFailure now op r new → IsOperationSurvivingPowerLossInCalls (system_state_of_session_view now) op (system_state_of_session_view new) →
     IsOperationSurvivingPowerLoss (system_state_of_session_view now) op (system_state_of_session_view new)
-call_survives_loss t fs now op r new is between reported answers survives = go now.tree.failed refl
+call_survives_loss t fs now op r new is between reported other answers survives = go now.tree.failed refl
   where
     was : now.tree ≡ t
     was = ap (λ (h : SessionView). h.tree) (sym is)
@@ -65,4 +66,4 @@ call_survives_loss t fs now op r new is between reported answers survives = go n
         let at = sym (ap (λ (s : TreeState). s.failed) was) ∙ works in
         device_survives_loss (system_state_of_session_view now) (system_state_of_session_view new) op agrees
         (one_device (system_state_of_session_view now) (system_state_of_session_view new) (subst (λ (s : TreeState). s.history ≢ []) (sym was) (between.ready at).called) (subst (λ (s : TreeState). AreBlocksLeftByNewestCall s.history s.disk.blocks) (sym was) (between.reported at).newest) reported.newest reported.conforms
-        (same_blocks now.tree.disk new.tree.disk new.tree.disk.blocks (same_shape now op r new answers))) survives
+        (same_blocks now.tree.disk new.tree.disk new.tree.disk.blocks (same_shape now op r new other answers))) survives

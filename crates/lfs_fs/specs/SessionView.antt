@@ -102,7 +102,8 @@ system_state_of_session_view h = record {
   state = if h.tree.failed then HasFailed else Healthy (session_of_session_view h);
 }
 
--- The session fails in an operation by that error. Only a remount fails with `Corrupt`, and then the disk isn't accepted.
+-- The session fails in an operation by that error. Only a remount fails with `Corrupt`, and then the disk isn't accepted,
+-- in either order of names.
 pub record SessionFailsByError (e : Error) (from : SystemState) (op : Operation) (to : SystemState) : Type 0 where
   pub fails : IsSessionFailureInOperation from op to
   pub errors : (e ≡ Io) ⊎ ((e ≡ NoMemory) ⊎ ((e ≡ Corrupt) × (is_remount_operation op ≡ true) × IsTreeOfDiskOrNone from.disk None))

@@ -586,11 +586,13 @@ impl<D: BlockDevice> Session<D> {
         Ok(())
     }
 
-    /// Closes all files, and reads the device anew, after an error too.
+    /// Closes all files, and reads the device anew, after an error too. The order of names is found
+    /// again, as by [`mount`].
     ///
     /// # Errors
     ///
-    /// `Corrupt` where the device has no accepted image. After any error the session has failed.
+    /// `Corrupt` exactly where the device has no accepted image in either order. `Io` where a read
+    /// failed. `NoMemory` where memory isn't granted. After any error the session has failed.
     pub fn remount(&mut self, alloc: Global) -> Result<(), Error>
         ensures { IsSessionCallWithResult self.old ops.Remount (reply_from_result (λ _. ops.Done) result) self.new }
     {

@@ -17,6 +17,8 @@ mod lines;
 #[cfg(test)]
 mod memory;
 #[cfg(test)]
+mod orders;
+#[cfg(test)]
 mod row_runs;
 #[cfg(test)]
 mod scenes;

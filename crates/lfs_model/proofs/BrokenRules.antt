@@ -9,7 +9,7 @@ use Rattle.std.proofs.lemmas.List.Elements.{All-contains, All-head, All-tail, Co
 use Rattle.std.proofs.lemmas.Map.Keys.{IsDistinct-tail}
 use Rattle.std.proofs.lemmas.Option.{get_or_from_slice_get, none-some, same_Some, slice_get_within}
 use Rattle.lfs_model.specs.Content.{content_of_pair_at, current_block_of_pair_at}
-use Rattle.lfs_model.specs.Disk.{Disk, block_count}
+use Rattle.lfs_model.specs.Disk.{Disk, block_count, disk_in_order}
 use Rattle.lfs_model.specs.EntryTypes.{pair_address_of_bytes}
 use Rattle.lfs_model.specs.Shown.{IsDirectoryAddressReachedBySomePath, all_slots_not_moved, directories_in_thread}
 use Rattle.lfs_model.specs.Slots.{Gstate, Inline, PairContent, Slot, gstate_kind_of_set_move, is_superblock, pair_address_of_array, same_pair}
@@ -17,6 +17,7 @@ use Rattle.lfs_model.specs.Thread.{AreLinkedByTails, IsThreadOfMetadataPairs, Pa
 use Rattle.lfs_model.specs.View.{BeginsWithLogEntry, HasSuperblockIfAnySlot, HasSuperblockStruct, IsAcceptedImage, IsFileOrDirectoryEntry, IsSameSuperblockStruct, IsSkipListIfCtzStruct, IsSuperblockStruct, first_pair_slots, first_slot_name, superblock_name_log_entry}
 use Rattle.lfs_model.specs.Violations.{BeginsThread, Breaks, BreaksPairs, BreaksThread, HasBlock, HasFallingNames, HasFirstSlot, HasLooseBranch, IsBlockInTwoPairs, IsBlockUsedTwice, IsNamedByThread, IsNeverReached, IsNoEntryAt, IsOtherSuperblock, IsPairInRange, IsReachedTwice, IsSuperblockOfDisk, IsUnmovedSlotAt, LeadsByTails}
 use Rattle.lfs_model.specs.declared.limits.AcceptedVersions.{AcceptedVersions}
+use Rattle.lfs_model.specs.declared.order.NameOrder.{NameOrder}
 use Rattle.lfs_model.specs.declared.violations.Violation.{Violation}
 use Rattle.lfs_model.specs.declared.violations.Violation.TheVariants as violation
 use Rattle.lfs_model.proofs.BlockSets.{not_behind, occurrence_count_of_number-Contains}
@@ -113,6 +114,23 @@ thread_breaks_none disk (violation.OneBlock pair) (named, same) ps thread = name
 thread_breaks_none disk (violation.TwoPairs pair block) two ps thread = no_block_in_two_pairs disk ps thread (pair_address_of_array pair) block two
 thread_breaks_none disk (violation.NoContent pair) (named, within, none) ps thread = named_has_content disk ps thread (pair_address_of_array pair) named none
 thread_breaks_none disk _ h ps thread = absurd h
+
+-- the thread breaks the same rule, whatever the order of names
+pub thread_breaks_in_order : (order : NameOrder) (disk : Disk) (v : Violation) → BreaksThread disk v → BreaksThread (disk_in_order order disk) v
+thread_breaks_in_order order disk v h = go v h
+  where
+    begins : (ps : List Pair) (at : ℕ × ℕ) → BeginsThread disk ps at → BeginsThread (disk_in_order order disk) ps at
+    begins ps at b = record { links = b.links; contents = b.contents }
+
+    named : (at : ℕ × ℕ) → IsNamedByThread disk at → IsNamedByThread (disk_in_order order disk) at
+    named at (ps, b) = (ps, begins ps at b)
+
+    go : (w : Violation) → BreaksThread disk w → BreaksThread (disk_in_order order disk) w
+    go (violation.OutOfRange pair) (is, past) = (named (pair_address_of_array pair) is, past)
+    go (violation.OneBlock pair) (is, same) = (named (pair_address_of_array pair) is, same)
+    go (violation.TwoPairs pair block) two = record { before = two.before; begins = begins two.before (pair_address_of_array pair) two.begins; own = two.own; earlier = two.earlier }
+    go (violation.NoContent pair) (is, within, none) = (named (pair_address_of_array pair) is, within, none)
+    go _ k = absurd k
 
 -- ---- by number
 

@@ -94,7 +94,7 @@ refused_with disk qs links contents never ps a =
 
 -- ---- rules that fail
 
-rise_to : (by : NameOrder) (ns : List Name) → AllPairs (λ a b. name_cmp by a b ≡ Less) ns → rise by ns ≡ true
+pub rise_to : (by : NameOrder) (ns : List Name) → AllPairs (λ a b. name_cmp by a b ≡ Less) ns → rise by ns ≡ true
 rise_to by [] h = refl
 rise_to by (n ∷ ns) h =
     and_from (list_all (λ m. is_less_ordering (name_cmp by n m)) ns) (rise by ns)
@@ -132,7 +132,7 @@ fails_reached disk ps k clear whole i d is none a =
     let f : not (same_pair d.at r.1) ≡ not true = ap not r.2.1 in
     cc
 
-move_to : (ps : List Pair) (g : Gstate) → HasValidMoveOrNone ps g → is_move ps g ≡ true
+pub move_to : (ps : List Pair) (g : Gstate) → HasValidMoveOrNone ps g → is_move ps g ≡ true
 move_to ps g (inl h) =
     or_left (g.kind == 0x000 && (g.id == 0 && (g.pair.0 == 0 && g.pair.1 == 0))) (g.kind == 0x4ff && names_slot ps g.pair g.id)
     (and_from _ _ (eq-eqb g.kind 0 h.0) (and_from _ _ (eq-eqb g.id 0 h.1) (and_from _ _ (eq-eqb g.pair.0 0 (ap (λ (x : ℕ × ℕ). x.0) h.2)) (eq-eqb g.pair.1 0 (ap (λ (x : ℕ × ℕ). x.1) h.2)))))
@@ -165,7 +165,7 @@ suits_to Directory (Ctz head size) e = absurd e
 suits_to Directory (Branch to) e = refl
 suits_to Superblock s e = absurd e
 
-entry_to : (s : Slot) → IsFileOrDirectoryEntry s → is_entry s ≡ true
+pub entry_to : (s : Slot) → IsFileOrDirectoryEntry s → is_entry s ≡ true
 entry_to s h = and_from (is_valid_name s.name) (has_struct_of_its_kind s.kind s.struct) h.name (suits_to s.kind s.struct h.struct)
 
 -- a slot after the superblock's pairs is no entry
@@ -181,7 +181,7 @@ same_to xs ys e = ap (same_name xs) (sym e) ∙ same_itself xs
 
 -- bytes that are the same as the superblock's but for an accepted version
 module _ (versions : AcceptedVersions) (held bytes : List ℕ) (same : IsSameSuperblockStruct versions held bytes) where
-  inline_to : (s : Struct) (own : List ℕ) → s ≡ Inline own → IsSameSuperblockStruct versions held own → is_inline versions bytes s ≡ true
+  pub inline_to : (s : Struct) (own : List ℕ) → s ≡ Inline own → IsSameSuperblockStruct versions held own → is_inline versions bytes s ≡ true
   inline_to s own e h =
       ap (is_inline versions bytes) e
       ∙ and_from _ _ (eq-eqb (length own) (length bytes) (h.len ∙ sym same.len)) (and_from _ _ h.version (same_to (drop 4 own) (drop 4 bytes) (h.rest ∙ sym same.rest)))
@@ -190,7 +190,7 @@ module _ (versions : AcceptedVersions) (held bytes : List ℕ) (same : IsSameSup
   superblock_to [] h = refl
   superblock_to (s ∷ slots) h = and_from _ _ h.0 (and_from _ _ (inline_to s.struct h.1.0 h.1.1.0 h.1.1.1) (all_to is_entry IsFileOrDirectoryEntry entry_to slots h.2))
 
-struct_to : (disk : Disk) (held bytes : List ℕ) → IsSuperblockStruct disk held → IsSameSuperblockStruct disk.profile.versions held bytes → is_struct disk bytes ≡ true
+pub struct_to : (disk : Disk) (held bytes : List ℕ) → IsSuperblockStruct disk held → IsSameSuperblockStruct disk.profile.versions held bytes → is_struct disk bytes ≡ true
 struct_to disk held bytes h same =
     let size : little_number 4 (drop 4 bytes) ≡ disk.block_size = ap (little_number 4) same.rest ∙ h.block_size in
     let count : little_number 4 (drop 8 bytes) ≡ block_count disk =
@@ -220,7 +220,7 @@ is_list_if_ctz disk (Ctz head size) = is_list disk.blocks disk.block_size head s
 is_list_if_ctz disk (Inline bytes) = true
 is_list_if_ctz disk (Branch to) = true
 
-ctz_to : (disk : Disk) (s : Struct) → IsSkipListIfCtzStruct disk s → is_list_if_ctz disk s ≡ true
+pub ctz_to : (disk : Disk) (s : Struct) → IsSkipListIfCtzStruct disk s → is_list_if_ctz disk s ≡ true
 ctz_to disk (Ctz head size) h = list_to disk.blocks disk.block_size head size h
 ctz_to disk (Inline bytes) h = refl
 ctz_to disk (Branch to) h = refl

@@ -1,5 +1,6 @@
 -- Images, histories, sessions and sources for worked examples.
 pub mod Images
+pub mod Violations
 pub mod Histories
 pub mod Sessions
 pub mod Runs

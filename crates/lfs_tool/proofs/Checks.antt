@@ -8,7 +8,7 @@ use Rattle.lfs_tool.specs.CheckResults.{AreReportedSizesThoseGivenToCheck, IsChe
 use Rattle.lfs_tool.specs.WrongNumbers.{HasNoWrongNumberInImageBytes, IsWrongNumberInImageBytes}
 use Rattle.lfs_tool.specs.declared.check_result.CheckResult.{CheckResult}
 use Rattle.lfs_tool.specs.declared.check_result.GivenSizes.{GivenSizes}
-use Rattle.lfs_tool.specs.declared.findings.WrongNumber.{WrongNumber}
+use Rattle.lfs_tool.specs.declared.wrong_number.WrongNumber.{WrongNumber}
 use Rattle.lfs_tool.proofs.Images.{image_fits, most}
 
 -- ---- the reason that comes first

@@ -4,9 +4,7 @@ use Rattle.std.specs.Prelude.{IfSome, slice_get}
 use Rattle.std.specs.Option.{option_map}
 use Rattle.lfs_model.specs.Slots.{Slot}
 use Rattle.lfs_model.specs.Thread.{Pair}
-use Rattle.lfs_tool.specs.BrokenRules.{IsTrueOfNamedEntrySlot, IsSlotRequiredToBeEntry}
 use Rattle.lfs_tool.specs.OwnedSlotView.{owned_slot_view, owned_pair_view, owned_pairs_view}
-use Rattle.lfs_tool.specs.declared.findings.NamedSlot.{NamedSlot}
 use Rattle.lfs_tool.specs.declared.owned_parts.OwnedPair.{OwnedPair}
 use Rattle.lfs_tool.specs.declared.owned_parts.OwnedSlot.{OwnedSlot}
 use Rattle.lfs_model.specs.Slots.{pair_address_of_array}
@@ -36,12 +34,6 @@ further_on from id l (inr k) = inr (omega arith)
 pub some_weaker : {X : Type 0} (o : Option X) (P Q : X → Type 0) → ((x : X) → P x → Q x) → IfSome o P → IfSome o Q
 some_weaker None P Q f h = tt
 some_weaker (Some x) P Q f h = f x h
-
--- a place of a slot that has to be an entry
-pub at_place : (P : Slot → Type 0) (ps : List Pair) (place : NamedSlot) (pair : List ℕ) (id : ℕ) (s : Slot) → place.pair ≡ pair → place.slot ≡ id → place.name.items ≡ s.name
-    → IsSlotRequiredToBeEntry ps (pair_address_of_array pair) id s → P s → IsTrueOfNamedEntrySlot P ps place
-at_place P ps place pair id s same_pair same_slot named is holds =
-    (s, (subst (λ p. IsSlotRequiredToBeEntry ps (pair_address_of_array p) place.slot s) (sym same_pair) (subst (λ i. IsSlotRequiredToBeEntry ps (pair_address_of_array pair) i s) (sym same_slot) is), (named, holds)))
 
 pub not_none : (n : ℕ) → (n == 0) ≡ false → 0 < n
 not_none zero e = absurd (cc)

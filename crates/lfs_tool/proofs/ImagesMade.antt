@@ -1,5 +1,5 @@
 -- From a run of a source's operations to the image that it leaves.
-use Rattle.std.proofs.Common.{ℕ, ◌≡◌, ◌∙◌, ◌≤◌, ◌+◌, ◌*◌, ◌/◌, ◌%◌, List, [], ◌∷◌, length, Option, Some, None, ap, ap₂, arith, inr, refl, subst, sym, flat_map}
+use Rattle.std.proofs.Common.{ℕ, ◌≡◌, ◌∙◌, ◌≤◌, ◌+◌, ◌*◌, ◌/◌, ◌%◌, List, [], ◌∷◌, length, Option, Some, None, ap, ap₂, arith, false, inr, subst, sym, flat_map}
 use Rattle.std.specs.Prelude.{Err, IfErr, IfSome, IsErrAnd, Ok, OnErr, Result, ◌≢◌}
 use Rattle.lfs_device.specs.declared.error.Error.{Error}
 use Rattle.lfs_device.specs.declared.error.Error.TheVariants.{NoMemory}
@@ -19,11 +19,12 @@ use Rattle.lfs_model.specs.Operations.{Operation, Reply}
 use Rattle.lfs_model.specs.Run.{AreSessionSteps, SystemState}
 use Rattle.lfs_model.specs.Session.{Session}
 use Rattle.lfs_model.specs.Source.{IsTreeMadeFromSource, TreeSource}
-use Rattle.lfs_model.specs.State.{HasFailed, Healthy, SessionHealth, session_after_mount}
+use Rattle.lfs_model.specs.State.{HasFailed, Healthy, SessionHealth, is_remount_operation, session_after_mount}
 use Rattle.lfs_model.specs.View.{IsAcceptedImage}
 use Rattle.lfs_model.specs.declared.order.NameOrder.{NameOrder}
 use Rattle.lfs_model.specs.Profile.{IsWritableImage}
 use Rattle.lfs_model.specs.Shown.{tree_on_disk}
+use Rattle.lfs_model.proofs.Counts.{Each, each_always, each_joined}
 use Rattle.lfs_model.proofs.Cuts.{length-cut}
 use Rattle.lfs_model.proofs.Kept.{fresh_defined, fresh_settled, fresh_true}
 use Rattle.lfs_model.proofs.Uniqueness.{one_thread}
@@ -36,7 +37,8 @@ use Rattle.lfs_tool.specs.MadeImages.{AreImageBytesOfEntries, IsToldOfCopyBefore
 use Rattle.lfs_tool.specs.declared.errors.ToolError.{ToolError}
 use Rattle.lfs_tool.specs.declared.errors.ToolError.TheVariants.{Fs, Input, Output}
 use Rattle.lfs_tool.proofs.Growing.{carried_tree, tree_after}
-use Rattle.lfs_tool.proofs.Refusing.{IsFromFresh, anywhere, comes, has_carried}
+use Rattle.lfs_fs.proofs.StepShapes.{steps_keep_order, steps_keep_shape}
+use Rattle.lfs_tool.proofs.Refusing.{IsFromFresh, anywhere, comes, has_carried, no_remount}
 
 -- ---- the geometry
 
@@ -51,15 +53,6 @@ begins g o d h is fresh state same = record {
   count = same.count ∙ length-cut (geometry_of_new_image_device d).block_size (geometry_of_new_image_device d).block_count (bytes_of_new_image_device d) ∙ ap (λ (x : Geometry). x.block_count) is;
   mounts = state;
 }
-
-session_steps_geometry : (operations : List Operation) (replies : List Reply) (a b : SystemState) → AreSessionSteps a operations replies b → SameGeometry a.disk b.disk
-session_steps_geometry [] [] a b e = subst (λ (m : SystemState). SameGeometry a.disk m.disk) e (record { block_size = refl; page = refl; order = refl; profile = refl; count = refl })
-session_steps_geometry [] (reply ∷ replies) a b e = absurd e
-session_steps_geometry (op ∷ operations) [] a b e = absurd e
-session_steps_geometry (op ∷ operations) (reply ∷ replies) a b (next, (turn, rest)) =
-    let s = session_steps_geometry operations replies next b rest in
-    let t = turn.geometry in
-    record { block_size = s.block_size ∙ t.block_size; page = s.page ∙ t.page; order = s.order ∙ t.order; profile = s.profile ∙ t.profile; count = s.count ∙ t.count }
 
 count_of : (size count : ℕ) (bytes : List ℕ) → 1 ≤ size → length bytes ≡ size * count → length bytes / size ≡ count
 count_of size count bytes some e =
@@ -79,10 +72,11 @@ pub left : (g : Geometry) (o : NameOrder) (from to : SystemState) (es : List Sou
     → disk_in_order to.disk.order (device.disk_of_geometry_and_blocks (geometry_of_new_image_device d) (blocks_of_new_image_device d)) ≡ to.disk
     → bytes ≡ bytes_of_new_image_device d → AreImageBytesOfEntries g o es bytes
 left g o from to es d bytes b c shown is =
-    let same = session_steps_geometry (copying_operations_of_entries es) c.replies from to c.session_steps in
+    let same = steps_keep_shape (copying_operations_of_entries es) c.replies from to c.session_steps in
     let size : (geometry_of_new_image_device d).block_size ≡ g.block_size = ap (λ (k : Disk). k.block_size) shown ∙ same.block_size ∙ b.block_size in
     let page : (geometry_of_new_image_device d).page ≡ g.page = ap (λ (k : Disk). k.page) shown ∙ same.page ∙ b.page in
-    let order : to.disk.order ≡ o = same.order ∙ b.order_is in
+    let none = each_joined (λ op. is_remount_operation op ≡ false) copying_operations_of_entry es (each_always (λ e. Each (λ op. is_remount_operation op ≡ false) (copying_operations_of_entry e)) no_remount es) in
+    let order : to.disk.order ≡ o = steps_keep_order (copying_operations_of_entries es) c.replies from to none c.session_steps ∙ b.order_is in
     let profile : (geometry_of_new_image_device d).profile ≡ g.profile = ap (λ (k : Disk). k.profile) shown ∙ same.profile ∙ b.profile in
     let count : (geometry_of_new_image_device d).block_count ≡ g.block_count = sym (length-cut (geometry_of_new_image_device d).block_size (geometry_of_new_image_device d).block_count (bytes_of_new_image_device d)) ∙ ap block_count shown ∙ same.count ∙ b.count in
     let len : length bytes ≡ g.block_size * g.block_count = ap length is ∙ length-padded (d.geometry.block_size * d.geometry.block_count) d.bytes.items d.within ∙ ap₂ (λ x y. x * y) size count in

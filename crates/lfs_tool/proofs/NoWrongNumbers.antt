@@ -3,10 +3,10 @@ use Rattle.std.proofs.Common.{ℕ, ◌≡◌, ◌/◌, ⊎_elim, List, length, t
 use Rattle.lfs_model.specs.declared.limits.AcceptedVersions.{AcceptedVersions}
 use Rattle.lfs_model.specs.View.{is_accepted_version}
 use Rattle.lfs_model.specs.EntryTypes.{SuperblockFields}
-use Rattle.lfs_tool.specs.KeptSuperblocks.{HasSizesAndVersion}
-use Rattle.lfs_tool.specs.WrongNumbers.{HasNoWrongNumberInImageBytes, IsSuperblockAtOffset, IsWrongSuperblockField}
-use Rattle.lfs_tool.specs.declared.findings.WrongNumber.{WrongNumber}
-use Rattle.lfs_tool.specs.declared.findings.WrongNumber.TheVariants as stated
+use Rattle.lfs_tool.specs.WrongNumbers.{HasSizesAndVersion}
+use Rattle.lfs_tool.specs.WrongNumbers.{HasSizesAndVersion, HasNoWrongNumberInImageBytes, IsSuperblockAtOffset, IsWrongSuperblockField}
+use Rattle.lfs_tool.specs.declared.wrong_number.WrongNumber.{WrongNumber}
+use Rattle.lfs_tool.specs.declared.wrong_number.WrongNumber.TheVariants as stated
 
 -- fields with these sizes and version have no wrong number
 pub right_fields : (block_size count : ℕ) (versions : AcceptedVersions) (fields : SuperblockFields) (number : WrongNumber) → HasSizesAndVersion block_size count versions fields → IsWrongSuperblockField block_size count versions fields number → ⊥

@@ -15,7 +15,7 @@ use Rattle.lfs_model.specs.View.{HasSuperblockIfAnySlot, IsAcceptedImage, IsFile
 use Rattle.lfs_model.proofs.Superblocks.{entry_is_other}
 use Rattle.lfs_lookup.specs.Profile.{HasSuperblockStructOf24Bytes}
 use Rattle.lfs_tool.specs.OutsideProfile.{HasInlineBytesWithinLimitIfEntry, HasLimitsOfProfileIfSuperblock, IsEntrySlotWithLongInlineBytes, IsSuperblockSlotWithOtherLimit, IsTrueOfAllSlots, IsTrueOfSlotInThread}
-use Rattle.lfs_tool.specs.BrokenRules.{HasSuperblockFields}
+use Rattle.lfs_tool.specs.OutsideProfile.{HasSuperblockFields}
 use Rattle.lfs_tool.specs.declared.verdict.OtherLimit.{OtherLimit}
 use Rattle.lfs_tool.specs.OwnedSlots.{pair_without_attributes, pairs_without_attributes, slot_without_attributes}
 use Rattle.lfs_tool.proofs.WithoutAttributes.{before_map, holds_there, of_each, root_number_alike}

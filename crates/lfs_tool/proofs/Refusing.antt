@@ -52,7 +52,7 @@ no_file from to es f c = record {
 
 -- ---- errors
 
-no_remount : (e : SourceEntry) → Each (λ op. is_remount_operation op ≡ false) (copying_operations_of_entry e)
+pub no_remount : (e : SourceEntry) → Each (λ op. is_remount_operation op ≡ false) (copying_operations_of_entry e)
 no_remount e = go (optional_bytes_view e.bytes)
   where
     go : (o : Option (List ℕ)) → Each (λ op. is_remount_operation op ≡ false) (copy_operations_of_node e.path.items (file_or_directory_node_of_optional_bytes o))

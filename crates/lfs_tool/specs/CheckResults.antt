@@ -1,13 +1,12 @@
 -- The result of a check of an image.
 use Rattle.std.specs.Prelude.{ℕ, ◌≡◌, ◌<◌, ◌≤◌, ◌/◌, Bool, true, false, List, length, Option, Some, None}
 use Rattle.lfs_tool.specs.declared.image_layout.ImageLayout.{ImageLayout}
-use Rattle.lfs_tool.specs.Findings.{IsTrueFindingOfDisk}
 use Rattle.lfs_tool.specs.WrongNumbers.{HasNoWrongNumberInImageBytes, IsWrongNumberInImageBytes}
-use Rattle.lfs_tool.specs.Verdict.{IsAcceptedWithSummary, IsAcceptedInNoNameOrder, IsVerdictOnDisk}
+use Rattle.lfs_tool.specs.Verdict.{BreaksInSomeOrder, IsAcceptedWithSummary, IsAcceptedInNoNameOrder, IsVerdictOnDisk}
 use Rattle.lfs_tool.specs.declared.verdict.ImageVerdict.{ImageVerdict}
 use Rattle.lfs_model.specs.Disk.{Disk, IsImageOfWholeBlocks, disk_of_image}
 use Rattle.lfs_model.specs.declared.order.NameOrder.TheVariants.{LongerFirst}
-use Rattle.lfs_tool.specs.declared.findings.WrongNumber.{WrongNumber}
+use Rattle.lfs_tool.specs.declared.wrong_number.WrongNumber.{WrongNumber}
 use Rattle.lfs_tool.specs.declared.check_result.CheckResult.{CheckResult}
 use Rattle.lfs_tool.specs.declared.check_result.CheckResult.TheVariants as checked
 use Rattle.lfs_tool.specs.declared.check_result.GivenSizes.{GivenSizes}
@@ -35,7 +34,7 @@ IsWrongNumberIfAny layout image (Some stated) = IsShortEnoughForImage image × I
 abbrev pub IsReasonForRefusedBytes : ImageLayout → List ℕ → RefusalReason → Type 0
 IsReasonForRefusedBytes layout image (reason.WrongNumber stated) = IsWrongNumberIfAny layout image (Some stated)
 IsReasonForRefusedBytes layout image reason.NoImage = IsWrongNumberIfAny layout image None × ¬ IsImageOfWholeBlocks layout.block_size layout.page image
-IsReasonForRefusedBytes layout image (reason.Broken finding) = IsWrongNumberIfAny layout image None × IsTrueOfDiskOfImage layout image (λ disk. IsTrueFindingOfDisk disk finding)
+IsReasonForRefusedBytes layout image (reason.Broken rule) = IsWrongNumberIfAny layout image None × IsTrueOfDiskOfImage layout image (λ disk. BreaksInSomeOrder disk rule.violation)
 
 -- the sizes are those that were given; there are so many whole blocks, unless the bytes are more than an image may have
 pub record AreReportedSizesThoseGivenToCheck (layout : ImageLayout) (image : List ℕ) (given : GivenSizes) : Type 0 where

@@ -1,13 +1,9 @@
 -- The lines of a check.
 use Rattle.std.specs.Prelude.{ℕ, ◌-◌, ◌/◌, ◌%◌, ◌++◌, Bool, true, false, List, Option, Some, None, codes}
 use Rattle.std.specs.Fmt.{decimal}
-use Rattle.lfs_tool.specs.declared.findings.Finding.{Finding}
-use Rattle.lfs_tool.specs.declared.findings.Finding.TheVariants as finding
-use Rattle.lfs_tool.specs.declared.findings.NamedSlot.{NamedSlot}
-use Rattle.lfs_tool.specs.declared.findings.NameBehindName.{NameBehindName}
-use Rattle.lfs_tool.specs.declared.findings.WrongNumber.{WrongNumber}
-use Rattle.lfs_tool.specs.declared.findings.WrongNumber.TheVariants as stated
-use Rattle.lfs_model.specs.Listing.{escaped_text, newline}
+use Rattle.lfs_tool.specs.declared.wrong_number.WrongNumber.{WrongNumber}
+use Rattle.lfs_tool.specs.declared.wrong_number.WrongNumber.TheVariants as stated
+use Rattle.lfs_model.specs.Listing.{newline}
 use Rattle.lfs_model.specs.Slots.{pair_address_of_array}
 use Rattle.lfs_tool.specs.declared.check_result.GivenSizes.{GivenSizes}
 use Rattle.lfs_tool.specs.declared.verdict.AcceptedOrders.{AcceptedOrders}
@@ -92,88 +88,13 @@ wrong_superblock_number_text given (stated.BlockSize n) = codes "superblock: blo
 wrong_superblock_number_text given (stated.BlockCount n) = codes "superblock: block count " ++ decimal n ++ codes ", given " ++ decimal given.blocks
 wrong_superblock_number_text given (stated.Version n) = codes "superblock: version " ++ decimal (n / 65536) ++ codes "." ++ decimal (n % 65536)
 
--- `pair A B, slot N: "NAME"`
-abbrev pub named_slot_text : NamedSlot → List ℕ
-named_slot_text p = slot_text (pair_address_of_array p.pair) p.slot ++ codes ": \"" ++ escaped_text p.name.items ++ codes "\""
-
--- `pair A B: block N isn't in the image`
-abbrev pub block_out_of_range_text : ℕ × ℕ → ℕ → List ℕ
-block_out_of_range_text at block = pair_text at ++ (codes ": block " ++ decimal block) ++ codes " isn't in the image"
-
-abbrev pub block_numbers_of_pair_text : ℕ × ℕ → List ℕ
-block_numbers_of_pair_text at = codes "" ++ decimal at.0 ++ codes " " ++ decimal at.1
-
--- `block N: in two pairs, A B and C D`
-abbrev pub block_in_two_pairs_text : ℕ → ℕ × ℕ → ℕ × ℕ → List ℕ
-block_in_two_pairs_text block other at = (codes "block " ++ decimal block) ++ codes ": in two pairs, " ++ block_numbers_of_pair_text other ++ codes " and " ++ block_numbers_of_pair_text at
-
--- the name between quotes
-abbrev pub quoted_name_text : List ℕ → List ℕ
-quoted_name_text name = codes "\"" ++ escaped_text name ++ codes "\""
-
--- `pair A B, slot N: "NAME" stands behind "NAME"`
-abbrev pub name_behind_name_text : NameBehindName → List ℕ
-name_behind_name_text n = (named_slot_text n.place ++ codes " stands behind ") ++ quoted_name_text n.before.items
-
--- `names in two orders: pair A B, slot N: "NAME" stands behind "NAME", and pair C D, slot M: "NAME" stands behind "NAME"`
-abbrev pub names_in_two_orders_text : NameBehindName → NameBehindName → List ℕ
-names_in_two_orders_text shorter longer = codes "names in two orders: " ++ name_behind_name_text shorter ++ codes ", and " ++ name_behind_name_text longer
-
--- `pair A B, slot N: "NAME" leads to pair C D, where no directory begins`
-abbrev pub no_directory_text : NamedSlot → ℕ × ℕ → List ℕ
-no_directory_text place to = (named_slot_text place ++ codes " leads to ") ++ pair_text to ++ codes ", where no directory begins"
-
--- `pair A B, slot N: "NAME" leads to the same directory as pair C D, slot M: "NAME"`
-abbrev pub same_directory_text : NamedSlot → NamedSlot → List ℕ
-same_directory_text place other = (named_slot_text place ++ codes " leads to the same directory as ") ++ named_slot_text other
-
--- `pair A B, superblock: another one than in pair C D`
-abbrev pub other_superblock_text : ℕ × ℕ → ℕ × ℕ → List ℕ
-other_superblock_text at root = (pair_text at ++ codes ", superblock: another one than in ") ++ pair_text root
-
--- `block N: in pair A B and in a file, pair C D, slot M: "NAME"`
-abbrev pub block_in_pair_and_file_text : ℕ → ℕ × ℕ → NamedSlot → List ℕ
-block_in_pair_and_file_text block at place = (codes "block " ++ decimal block) ++ codes ": in " ++ (pair_text at ++ codes " and in a file, ") ++ named_slot_text place
-
--- `block N: in two files, pair A B, slot N: "NAME" and pair C D, slot M: "NAME"`
-abbrev pub block_in_two_files_text : ℕ → NamedSlot → NamedSlot → List ℕ
-block_in_two_files_text block other place = (codes "block " ++ decimal block) ++ codes ": in two files, " ++ named_slot_text other ++ codes " and " ++ named_slot_text place
-
-abbrev pub finding_text : GivenSizes → Finding → List ℕ
-finding_text given (finding.OutOfRange pair block) = block_out_of_range_text (pair_address_of_array pair) block
-finding_text given (finding.OneBlock pair) = pair_text (pair_address_of_array pair) ++ codes ": one block twice"
-finding_text given (finding.InTwoPairs block pair other) = block_in_two_pairs_text block (pair_address_of_array other) (pair_address_of_array pair)
-finding_text given (finding.NoCommit pair) = pair_text (pair_address_of_array pair) ++ codes ": no commit with a right checksum"
-finding_text given (finding.Malformed pair) = pair_text (pair_address_of_array pair) ++ codes ": its log has an entry that may not stand there"
-finding_text given (finding.NoName pair slot) = slot_text (pair_address_of_array pair) slot ++ codes ": no name"
-finding_text given (finding.NoStruct place) = named_slot_text place ++ codes " has no struct"
-finding_text given finding.NoSuperblock = codes "superblock: the root directory doesn't begin with one"
-finding_text given (finding.NoFields pair) = slot_text (pair_address_of_array pair) 0 ++ codes ": no superblock's struct"
-finding_text given (finding.OtherFields pair stated) = pair_text (pair_address_of_array pair) ++ codes ", " ++ wrong_superblock_number_text given stated
-finding_text given (finding.OtherSuperblock pair root) = other_superblock_text (pair_address_of_array pair) (pair_address_of_array root)
-finding_text given (finding.OtherName place) = named_slot_text place ++ codes " isn't the name of a superblock"
-finding_text given (finding.SecondSuperblock place) = named_slot_text place ++ codes " is a second superblock"
-finding_text given (finding.OtherStruct place) = named_slot_text place ++ codes " has another kind's struct"
-finding_text given (finding.BadName place) = named_slot_text place ++ codes " is no name"
-finding_text given (finding.OtherFirstEntry pair) = pair_text (pair_address_of_array pair) ++ codes ": its log doesn't begin with the superblock's name"
-finding_text given (finding.OutOfOrder name) = name_behind_name_text name
-finding_text given (finding.InTwoOrders shorter longer) = names_in_two_orders_text shorter longer
-finding_text given (finding.NoDirectory place to) = no_directory_text place (pair_address_of_array to)
-finding_text given (finding.LeadsToRoot place) = named_slot_text place ++ codes " leads to the root directory"
-finding_text given (finding.LeadsToSameDirectory place other) = same_directory_text place other
-finding_text given (finding.NotReached pair) = pair_text (pair_address_of_array pair) ++ codes ": no path leads to its directory, and the sync bit is clear"
-finding_text given finding.BadMove = codes "global state: its move names no entry"
-finding_text given (finding.BadList place) = named_slot_text place ++ codes " has a list with a wrong size, block or pointer"
-finding_text given (finding.InPairAndFile block pair place) = block_in_pair_and_file_text block (pair_address_of_array pair) place
-finding_text given (finding.InTwoFiles block place other) = block_in_two_files_text block other place
-
 abbrev pub no_image_text : GivenSizes → List ℕ
 no_image_text given = codes "no image of blocks of " ++ decimal given.block_size ++ codes " bytes and pages of " ++ decimal given.page
 
 abbrev pub unaccepted_reason_text : GivenSizes → RefusalReason → List ℕ
 unaccepted_reason_text given (reason.WrongNumber stated) = wrong_superblock_number_text given stated
 unaccepted_reason_text given reason.NoImage = no_image_text given
-unaccepted_reason_text given (reason.Broken finding) = finding_text given finding
+unaccepted_reason_text given (reason.Broken rule) = rule.line.items
 
 abbrev pub check_result_text : CheckResult → List ℕ
 check_result_text (checked.Accepted summary orders) = summary_text summary orders

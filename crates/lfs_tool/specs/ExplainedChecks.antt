@@ -1,5 +1,6 @@
 -- The lines with which a check explains an error.
 use Rattle.std.specs.Prelude.{ℕ, ◌==◌, ◌++◌, if◌then◌else◌, List, [], codes}
+use Rattle.std.specs.Option.{option_map_or}
 use Rattle.lfs_model.specs.Listing.{newline}
 use Rattle.lfs_tool.specs.CheckedLines.{summary_text, unaccepted_reason_text}
 use Rattle.lfs_tool.specs.declared.check_result.CheckResult.{CheckResult}
@@ -7,9 +8,8 @@ use Rattle.lfs_tool.specs.declared.check_result.CheckResult.TheVariants as check
 use Rattle.lfs_tool.specs.declared.check_result.GivenSizes.{GivenSizes}
 use Rattle.lfs_tool.specs.declared.check_result.RefusalReason.{RefusalReason}
 use Rattle.lfs_tool.specs.declared.check_result.RefusalReason.TheVariants as reason
-use Rattle.lfs_tool.specs.declared.findings.Finding.TheVariants as finding
-use Rattle.lfs_tool.specs.declared.findings.WrongNumber.{WrongNumber}
-use Rattle.lfs_tool.specs.declared.findings.WrongNumber.TheVariants as stated
+use Rattle.lfs_tool.specs.declared.wrong_number.WrongNumber.{WrongNumber}
+use Rattle.lfs_tool.specs.declared.wrong_number.WrongNumber.TheVariants as stated
 
 -- which option reads the version, if it is 2.1
 abbrev pub option_text_for_wrong_number : WrongNumber → List ℕ
@@ -18,7 +18,7 @@ option_text_for_wrong_number _ = []
 
 abbrev pub option_text_for_reason : RefusalReason → List ℕ
 option_text_for_reason (reason.WrongNumber stated) = option_text_for_wrong_number stated
-option_text_for_reason (reason.Broken (finding.OtherFields pair stated)) = option_text_for_wrong_number stated
+option_text_for_reason (reason.Broken rule) = option_map_or option_text_for_wrong_number rule.stated []
 option_text_for_reason _ = []
 
 -- the lines of a check of an image that isn't accepted, and behind the reason the option

@@ -1,17 +1,22 @@
 -- Slots that aren't in the writing profile, among those of pairs without attributes.
-use Rattle.std.specs.Prelude.{ℕ, ◌≡◌, ◌≢◌, true, false, All, List, slice_get, Some}
+use Rattle.std.specs.Prelude.{ℕ, ◌≡◌, ◌≢◌, true, false, All, List, length, slice_get, Some}
 use Rattle.lfs_model.specs.Disk.{attr_max_of, file_max_of, name_max_of}
-use Rattle.lfs_model.specs.EntryTypes.{SuperblockFields}
+use Rattle.lfs_model.specs.EntryTypes.{SuperblockFields, superblock_fields_of_struct_bytes}
 use Rattle.lfs_model.specs.Profile.{HasInlineBytesWithinLimit}
 use Rattle.lfs_model.specs.declared.limits.Profile.{Profile}
-use Rattle.lfs_model.specs.Slots.{Slot, is_superblock}
+use Rattle.lfs_model.specs.Slots.{Branch, Ctz, Inline, Slot, Struct, is_superblock}
 use Rattle.lfs_model.specs.Thread.{Pair}
-use Rattle.lfs_tool.specs.BrokenRules.{HasSuperblockFields}
-use Rattle.lfs_tool.specs.SlotsInThread.{IsSlotOfPairInThread}
+use Rattle.lfs_model.specs.Violations.{IsSlotAt}
 use Rattle.lfs_tool.specs.declared.verdict.OtherLimit.{OtherLimit}
 use Rattle.lfs_tool.specs.declared.verdict.OtherLimit.TheVariants as limit
 
 -- ---- superblocks
+
+-- a superblock's struct: 24 bytes in the slot
+abbrev pub HasSuperblockFields : Struct → SuperblockFields → Type 0
+HasSuperblockFields (Inline bytes) fields = (length bytes ≡ 24) × (superblock_fields_of_struct_bytes bytes ≡ fields)
+HasSuperblockFields (Ctz head size) fields = ⊥
+HasSuperblockFields (Branch to) fields = ⊥
 
 -- these fields have the limits with which the profile writes
 abbrev pub HasLimitsOfProfile : Profile → SuperblockFields → Type 0
@@ -47,7 +52,7 @@ IsTrueOfSlot P slots id = (s : Slot) × ((slice_get slots id ≡ Some s) × P s)
 
 -- P holds of the slot of that number in a pair of the thread
 abbrev pub IsTrueOfSlotInThread : (Slot → Type 0) → List Pair → ℕ × ℕ → ℕ → Type 0
-IsTrueOfSlotInThread P ps at id = (s : Slot) × (IsSlotOfPairInThread ps at id s × P s)
+IsTrueOfSlotInThread P ps at id = (s : Slot) × (IsSlotAt ps at id s × P s)
 
 -- P holds of all slots
 abbrev pub IsTrueOfAllSlots : (Slot → Type 0) → List Pair → Type 0

@@ -4,7 +4,8 @@ use Rattle.lfs_model.specs.Disk.{disk_in_order, Disk}
 use Rattle.lfs_model.specs.Thread.{Pair}
 use Rattle.lfs_model.specs.View.{IsAcceptedImage}
 use Rattle.lfs_model.specs.declared.order.NameOrder.{NameOrder}
-use Rattle.lfs_tool.specs.Findings.{IsTrueFindingOfDisk}
+use Rattle.lfs_model.specs.Violations.{Breaks}
+use Rattle.lfs_model.specs.declared.violations.Violation.{Violation}
 use Rattle.lfs_tool.specs.ImageSummaries.{HasAcceptedNameOrders, HasImageSummary, IsAcceptedInNameOrder}
 use Rattle.lfs_tool.specs.declared.verdict.AcceptedOrders.{AcceptedOrders}
 use Rattle.lfs_tool.specs.declared.verdict.ImageSummary.{ImageSummary}
@@ -27,7 +28,11 @@ IsAcceptedInNoNameOrder disk = (order : NameOrder) (ps : List Pair) → ¬ IsAcc
 abbrev pub IsAcceptedInSomeNameOrder : Disk → Type 0
 IsAcceptedInSomeNameOrder disk = (order : NameOrder) × IsAcceptedInNameOrder order disk
 
+-- it breaks the rule in one of them
+abbrev pub BreaksInSomeOrder : Disk → Violation → Type 0
+BreaksInSomeOrder disk violation = (order : NameOrder) × Breaks (disk_in_order order disk) violation
+
 -- accepted, and with what; or refused, and the rule that is broken there
 abbrev pub IsVerdictOnDisk : Disk → ImageVerdict → Type 0
 IsVerdictOnDisk disk (verdict.Accepted summary orders) = IsAcceptedWithSummary disk summary orders
-IsVerdictOnDisk disk (verdict.Refused finding) = IsAcceptedInNoNameOrder disk × IsTrueFindingOfDisk disk finding
+IsVerdictOnDisk disk (verdict.Refused rule) = IsAcceptedInNoNameOrder disk × BreaksInSomeOrder disk rule.violation

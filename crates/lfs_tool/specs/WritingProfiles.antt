@@ -7,7 +7,7 @@ use Rattle.lfs_model.specs.Slots.{IsContentFittingPair, Slot, entry_charge_with_
 use Rattle.lfs_model.specs.Thread.{Pair, is_hard_tail, pair_count_before_root}
 use Rattle.lfs_model.specs.Tag.{tag_data_limit}
 use Rattle.lfs_tool.specs.OutsideProfile.{IsSuperblockSlotWithOtherLimit, IsTrueOfSlotInThread}
-use Rattle.lfs_tool.specs.SlotsInThread.{IsSlotOfPairInThread}
+use Rattle.lfs_model.specs.Violations.{IsSlotAt}
 use Rattle.lfs_tool.specs.declared.verdict.WritingProfile.{WritingProfile}
 use Rattle.lfs_tool.specs.declared.verdict.WritingProfile.TheVariants as profile
 
@@ -17,7 +17,7 @@ inline_max_if_less profile block_size = if nat_lt profile.inline_max (min (block
 
 -- an entry has more bytes inline than may be
 abbrev pub IsEntryWithLongInlineBytes : Disk → List Pair → ℕ × ℕ → ℕ → Type 0
-IsEntryWithLongInlineBytes disk ps at id = (s : Slot) × (IsSlotOfPairInThread ps at id s × (is_superblock s ≡ false) × ¬ HasInlineBytesWithinLimit (inline_limit disk.profile disk.block_size) s.struct)
+IsEntryWithLongInlineBytes disk ps at id = (s : Slot) × (IsSlotAt ps at id s × (is_superblock s ≡ false) × ¬ HasInlineBytesWithinLimit (inline_limit disk.profile disk.block_size) s.struct)
 
 -- a pair behind the root directory's first one has no slot, and the pair before it has a hard tail
 pub record IsEmptyPairAfterHardTail (ps : List Pair) (at : ℕ × ℕ) : Type 0 where

@@ -1,18 +1,24 @@
 -- The numbers of a superblock by its place in an image's bytes, whatever the image's blocks hold.
-use Rattle.std.specs.Prelude.{false, ℕ, ◌≡◌, ◌≢◌, ◌⊎◌, ◌+◌, ◌/◌, ◌<◌, ◌≤◌, ◌++◌, List, bit_xor, length, slice_range}
+use Rattle.std.specs.Prelude.{false, true, ℕ, ◌≡◌, ◌≢◌, ◌⊎◌, ◌+◌, ◌/◌, ◌<◌, ◌≤◌, ◌++◌, List, bit_xor, length, slice_range}
 use Rattle.byteorder.specs.Endian.{big_bytes}
 use Rattle.lfs_model.specs.declared.limits.AcceptedVersions.{AcceptedVersions}
 use Rattle.lfs_model.specs.View.{is_accepted_version, superblock_name_log_entry}
 use Rattle.lfs_model.specs.EntryTypes.{SuperblockFields, inline_struct_type, superblock_fields_of_struct_bytes}
 use Rattle.lfs_model.specs.Tag.{tag_of_type_id_and_length}
-use Rattle.lfs_tool.specs.declared.findings.WrongNumber.{WrongNumber}
-use Rattle.lfs_tool.specs.declared.findings.WrongNumber.TheVariants as stated
+use Rattle.lfs_tool.specs.declared.wrong_number.WrongNumber.{WrongNumber}
+use Rattle.lfs_tool.specs.declared.wrong_number.WrongNumber.TheVariants as stated
 
 -- the fields give something else than blocks of that size, so many of them, and one of these versions
 abbrev pub IsWrongSuperblockField : ℕ → ℕ → AcceptedVersions → SuperblockFields → WrongNumber → Type 0
 IsWrongSuperblockField block_size count versions fields (stated.BlockSize n) = (fields.block_size ≡ n) × (n ≢ block_size)
 IsWrongSuperblockField block_size count versions fields (stated.BlockCount n) = (fields.block_count ≡ n) × (n ≢ count)
 IsWrongSuperblockField block_size count versions fields (stated.Version n) = (fields.version ≡ n) × (is_accepted_version versions n ≡ false)
+
+-- the fields give blocks of that size, so many of them, and one of these versions
+pub record HasSizesAndVersion (block_size count : ℕ) (versions : AcceptedVersions) (fields : SuperblockFields) : Type 0 where
+  pub same_size : fields.block_size ≡ block_size
+  pub same_count : fields.block_count ≡ count
+  pub version : is_accepted_version versions fields.version ≡ true
 
 -- the tag of a superblock's struct: an inline struct of 24 bytes, for slot 0
 abbrev pub superblock_struct_tag : ℕ

@@ -1,7 +1,7 @@
 // The result of a check of an image.
 
-use crate::findings::{Finding, WrongNumber};
-use crate::verdict::{AcceptedOrders, ImageSummary};
+use crate::verdict::{AcceptedOrders, BrokenRule, ImageSummary};
+use crate::wrong_number::WrongNumber;
 
 /// The sizes with which an image is checked: of a block and a page in bytes, and the number of
 /// whole blocks.
@@ -20,7 +20,7 @@ pub enum RefusalReason {
     /// No image of blocks and pages of these sizes has so many bytes.
     NoImage,
     /// The image breaks this rule.
-    Broken(Finding),
+    Broken(BrokenRule),
 }
 
 /// Whether an image is accepted, and with what, or why not.

@@ -6,12 +6,12 @@ ghost use Rattle.lfs_tool.specs.KnownBytes.{IsErrorOfReaderFaultOrNoMemory};
 ghost use Rattle.lfs_tool.specs.Reports.{IsReadToEndOrPastImageLimit};
 
 use crate::check_result::{CheckResult, GivenSizes, RefusalReason};
-use crate::findings::WrongNumber;
 use crate::image_devices::ram_device_of_image;
 use crate::input::{IMAGE_MAX, read_image};
 use crate::judgement::judge_image_on_device;
 use crate::superblocks::wrong_superblock_number_in_image;
 use crate::verdict::ImageVerdict;
+use crate::wrong_number::WrongNumber;
 use crate::{ImageInput, ImageLayout, ToolError};
 use lfs_device::Error;
 use std::alloc::Global;
@@ -83,8 +83,8 @@ fn check_result_of_verdict(
             summary,
             orders,
         },
-        Some(ImageVerdict::Refused(finding)) => {
-            refused_check_result(stated, RefusalReason::Broken(finding), given)
+        Some(ImageVerdict::Refused(rule)) => {
+            refused_check_result(stated, RefusalReason::Broken(rule), given)
         }
         None => refused_check_result(stated, RefusalReason::NoImage, given),
     }
@@ -113,7 +113,7 @@ fn check_result_of_bytes(
 /// Returns whether an image is accepted, and with what, or why not. The result is `Accepted`
 /// exactly where a mount takes the image, in whichever order its names are. Each cause is true of
 /// its bytes. Of an image that isn't accepted, a wrong number in the superblock of block 0 or 1
-/// comes first. Then comes the first rule that the image breaks.
+/// comes first. Then comes the rule at which a mount stops.
 ///
 /// The image is read first, to its end, or past the largest image's size of 268,435,456 bytes. So many
 /// bytes are no image, whatever its superblock says.

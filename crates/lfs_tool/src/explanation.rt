@@ -10,9 +10,9 @@ use crate::checked_lines::{
     push_unaccepted_reason,
 };
 use crate::escape::push_escaped_path;
-use crate::findings::{Finding, WrongNumber};
 use crate::line_text::line_text_of_library_error;
 use crate::needed_blocks::{EnoughBlocks, NeededBlocks};
+use crate::wrong_number::WrongNumber;
 use lfs_device::Error;
 use lfs_tag::Superblock;
 use lfs_tool_folders::PathFault;
@@ -119,9 +119,10 @@ fn option_for_reason(reason: &RefusalReason) -> &'static str
 {
     match reason {
         RefusalReason::WrongNumber(stated) => option_for_wrong_number(*stated),
-        RefusalReason::Broken(Finding::OtherFields { stated, .. }) => {
-            option_for_wrong_number(*stated)
-        }
+        RefusalReason::Broken(rule) => match rule.stated {
+            Some(stated) => option_for_wrong_number(stated),
+            None => "",
+        },
         _ => "",
     }
 }

@@ -1,24 +1,23 @@
 // Whether an image is accepted, and with what, or why not.
 
-ghost use Rattle.std.specs.Prelude.{◌≡◌, ◌↔◌, IfErr, IfOk, IsTrue, false};
+ghost use Rattle.std.specs.Prelude.{◌≡◌, ◌↔◌, ◌⊎◌, IfErr, IfOk, IsTrue, false};
 ghost use Rattle.lfs_device.specs.RamDevice.{ram_blocks, geometry_of_ram_device};
 ghost use Rattle.lfs_device.specs.Shown.{disk_of_geometry_and_blocks};
 ghost use Rattle.lfs_model.specs.Disk.{disk_in_order};
-ghost use Rattle.lfs_tool.specs.Findings.{IsTrueFindingOfDisk};
+ghost use Rattle.lfs_model.specs.Violations.{Breaks};
 ghost use Rattle.lfs_tool.specs.ImageSummaries.{HasAcceptedNameOrders, IsAcceptedInNameOrder};
-ghost use Rattle.lfs_tool.specs.Verdict.{IsAcceptedInNoNameOrder, IsVerdictOnDisk};
+ghost use Rattle.lfs_tool.specs.Verdict.{BreaksInSomeOrder, IsAcceptedInNoNameOrder, IsVerdictOnDisk};
 ghost use Rattle.lfs_model.specs.BlockSets.{AreExactlyTheUsedBlocks};
 ghost use Rattle.lfs_model.specs.Shown.{used_blocks};
 ghost use Rattle.lfs_model.specs.View.{IsAcceptedImage};
 ghost use Rattle.lfs_model.specs.declared.order.NameOrder.TheVariants.{LongerFirst, ShorterFirst};
 
-use crate::findings::Finding;
-use crate::searches::find_broken_rule_on_device;
 use crate::summaries::image_summary_of_thread;
-use crate::verdict::{AcceptedOrders, ImageVerdict};
+use crate::verdict::{AcceptedOrders, BrokenRule, ImageVerdict};
+use crate::violation_lines::broken_rule;
 use lfs_device::{Error, RamDevice};
-use lfs_model::NameOrder;
-use lfs_mount::{mount, mount_in_order};
+use lfs_model::{NameOrder, Violation};
+use lfs_mount::{MountError, mount, mount_in_order};
 use lfs_thread::Thread;
 use std::alloc::Global;
 
@@ -33,8 +32,8 @@ fn is_accepted_in_name_order(
 {
     match mount_in_order(alloc, device, order) {
         Ok(_thread) => Ok(true),
-        Err((_device, Error::Corrupt)) => Ok(false),
-        Err((_device, error)) => Err(error),
+        Err((_device, MountError::Corrupt(_))) => Ok(false),
+        Err((_device, error)) => Err(error.into()),
     }
 }
 
@@ -62,18 +61,46 @@ fn accepted_name_orders(
     }
 }
 
-// Returns the first rule that the image of a device breaks. It is accepted in neither order of names.
-fn finding_on_refused_device(alloc: Global, device: &mut RamDevice) -> Result<Finding, Error>
-    requires { IsAcceptedInNoNameOrder (disk_of_geometry_and_blocks (geometry_of_ram_device device.old) (ram_blocks device.old)) }
-    ensures found { IfOk result (IsTrueFindingOfDisk (disk_of_geometry_and_blocks (geometry_of_ram_device device.old) (ram_blocks device.old))) }
+// Returns whether a rule is that names rise.
+fn is_rule_of_names(violation: Violation) -> bool {
+    match violation {
+        Violation::Names { .. } => true,
+        _ => false,
+    }
+}
+
+// Returns the rule to tell of an image that breaks one rule with longer names first and another one with shorter
+// names first. Names in a wrong order are told only where they are in both.
+fn rule_to_tell(longer: Violation, shorter: Violation) -> Violation
+    ensures { (result ≡ longer) ⊎ (result ≡ shorter) }
+{
+    if is_rule_of_names(longer) && !is_rule_of_names(shorter) {
+        shorter
+    } else {
+        longer
+    }
+}
+
+// Returns the rule that the image of a device breaks. With longer names first it breaks the rule `longer`.
+fn broken_rule_of_device(
+    alloc: Global,
+    device: RamDevice,
+    longer: Violation,
+) -> Result<BrokenRule, Error>
+    requires { IsAcceptedInNoNameOrder (disk_of_geometry_and_blocks (geometry_of_ram_device device) (ram_blocks device)) }
+    requires broken { Breaks (disk_in_order LongerFirst (disk_of_geometry_and_blocks (geometry_of_ram_device device) (ram_blocks device))) longer }
+    ensures broken { IfOk result (λ rule. BreaksInSomeOrder (disk_of_geometry_and_blocks (geometry_of_ram_device device) (ram_blocks device)) rule.violation) }
     ensures err { IfErr result (λ e. e ≡ Error.NoMemory) }
 {
-    match find_broken_rule_on_device(alloc, device) {
-        Ok(Some(finding)) => Ok(finding),
-        // An image that breaks no rule is accepted.
-        Ok(None) => unreachable!(),
-        // The device had no fault, so memory ran out.
-        Err(error) => Err(error),
+    match mount_in_order(alloc, device, NameOrder::ShorterFirst) {
+        // The image is accepted in neither order.
+        Ok(_thread) => unreachable!(),
+        Err((device, MountError::Corrupt(shorter))) => {
+            let violation = rule_to_tell(longer, shorter);
+            let rule = broken_rule(alloc, device, violation, shorter)?;
+            Ok(rule)
+        }
+        Err((_device, error)) => Err(error.into()),
     }
 }
 
@@ -103,10 +130,10 @@ pub fn judge_image_on_device(alloc: Global, device: RamDevice) -> Result<ImageVe
 {
     match mount(alloc, device) {
         Ok(thread) => judge_thread(alloc, thread),
-        Err((mut device, Error::Corrupt)) => {
-            let finding = finding_on_refused_device(alloc, &mut device)?;
-            Ok(ImageVerdict::Refused(finding))
+        Err((device, MountError::Corrupt(violation))) => {
+            let rule = broken_rule_of_device(alloc, device, violation)?;
+            Ok(ImageVerdict::Refused(rule))
         }
-        Err((_device, error)) => Err(error),
+        Err((_device, error)) => Err(error.into()),
     }
 }

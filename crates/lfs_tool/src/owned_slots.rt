@@ -1,8 +1,8 @@
 // Slots without their attributes.
 
-ghost use Rattle.std.specs.Prelude.{◌≡◌, ◌<◌, ◌++◌, IfNone, IfOk, IfSome, None, OnOk, is_some, length, map, true};
+ghost use Rattle.std.specs.Prelude.{◌≡◌, ◌++◌, IfOk, OnOk, map};
 ghost use Rattle.std.specs.Option.{option_map};
-ghost use Rattle.lfs_model.specs.Content.{slot_if_name_and_struct_present, slots_if_names_and_structs_present, slot_of_id};
+ghost use Rattle.lfs_model.specs.Content.{slot_if_name_and_struct_present};
 ghost use Rattle.lfs_model.specs.LoggedContent.{IsWellFormedRawSlot, AreWellFormedRawSlots};
 ghost use Rattle.lfs_tag.specs.ContentView.{slot_view};
 ghost use Rattle.lfs_tool.specs.OwnedSlots.{slot_without_attributes, complete_slots_of_raw_slots, complete_slot_of_raw_slot};
@@ -59,17 +59,4 @@ pub(crate) fn owned_complete_slots(
         push_complete_slot(alloc, &mut all, slot)?;
     }
     Ok(all)
-}
-
-// Returns the number of the first slot that lacks its name or its struct.
-pub(crate) fn first_incomplete_slot_id(slots: &[Slot<'_>]) -> Option<usize>
-    ensures there { IfSome result (λ id. (id < length slots.now) × (slot_if_name_and_struct_present (slot_of_id (map slot_view slots.now) id) ≡ None)) }
-    ensures none { IfNone result (is_some (slots_if_names_and_structs_present (map slot_view slots.now)) ≡ true) }
-{
-    for (id, slot) in slots.iter().enumerate() {
-        if slot.name.is_none() || slot.structure.is_none() {
-            return Some(id);
-        }
-    }
-    None
 }

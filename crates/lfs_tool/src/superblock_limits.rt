@@ -2,19 +2,17 @@
 
 ghost use Rattle.std.specs.Prelude.{◌≡◌, All, IfSome, None, map};
 ghost use Rattle.lfs_model.specs.EntryTypes.{SuperblockFields};
-ghost use Rattle.lfs_model.specs.Slots.{pair_address_of_array};
+ghost use Rattle.lfs_model.specs.Slots.{Inline, pair_address_of_array};
 ghost use Rattle.lfs_tag.specs.FieldsView.{superblock_view};
 ghost use Rattle.lfs_lookup.specs.Items.{owned_struct_view};
-ghost use Rattle.lfs_tool.specs.BrokenRules.{HasSuperblockFields};
-ghost use Rattle.lfs_tool.specs.OutsideProfile.{HasLimitsOfProfile, HasLimitsOfProfileIfSuperblock, IsOtherLimit, IsSuperblockSlotWithOtherLimit, IsTrueOfAllSlots, IsTrueOfSlot, IsTrueOfSlotInThread};
+ghost use Rattle.lfs_tool.specs.OutsideProfile.{HasSuperblockFields, HasLimitsOfProfile, HasLimitsOfProfileIfSuperblock, IsOtherLimit, IsSuperblockSlotWithOtherLimit, IsTrueOfAllSlots, IsTrueOfSlot, IsTrueOfSlotInThread};
 ghost use Rattle.lfs_tool.specs.OwnedSlotView.{owned_slot_view, owned_pairs_view};
 
 use crate::owned_parts::{OwnedPair, OwnedSlot};
-use crate::superblock_checks::superblock_fields_of_struct;
 use crate::verdict::OtherLimit;
 use lfs_device::Geometry;
 use lfs_lookup::OwnedStruct;
-use lfs_tag::Superblock;
+use lfs_tag::{Superblock, superblock_of};
 
 // The number of a slot with a superblock, and a limit of it that isn't the profile's.
 #[derive(Clone, Copy, Drop)]
@@ -102,4 +100,26 @@ pub(crate) fn place_of_other_limit(
         }
     }
     None
+}
+
+// Returns the fields of a superblock's struct.
+pub(crate) fn superblock_fields_of_struct(structure: &OwnedStruct) -> Option<Superblock>
+    ensures some { IfSome result (λ fields. HasSuperblockFields (owned_struct_view structure.now) (superblock_view fields)) }
+    ensures none { result ≡ None → (fields : SuperblockFields) → ¬ HasSuperblockFields (owned_struct_view structure.now) fields }
+{
+    match structure {
+        OwnedStruct::Inline(bytes) => superblock_fields_in_bytes(bytes),
+        OwnedStruct::Ctz { .. } => None,
+        OwnedStruct::Branch(_) => None,
+    }
+}
+
+fn superblock_fields_in_bytes(bytes: &[u8]) -> Option<Superblock>
+    ensures some { IfSome result (λ fields. HasSuperblockFields (Inline bytes.now) (superblock_view fields)) }
+    ensures none { result ≡ None → (fields : SuperblockFields) → ¬ HasSuperblockFields (Inline bytes.now) fields }
+{
+    match <&[u8; 24]>::try_from(bytes) {
+        Ok(bytes) => Some(superblock_of(bytes)),
+        Err(_) => None,
+    }
 }

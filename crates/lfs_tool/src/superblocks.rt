@@ -3,10 +3,9 @@
 ghost use Rattle.std.specs.Prelude.{◌≡◌, ◌⊎◌, ◌<◌, ◌/◌, ◌^◌, IfSome, None, length};
 ghost use Rattle.lfs_model.specs.EntryTypes.{SuperblockFields};
 ghost use Rattle.lfs_tag.specs.FieldsView.{superblock_view};
-ghost use Rattle.lfs_tool.specs.KeptSuperblocks.{HasSizesAndVersion};
-ghost use Rattle.lfs_tool.specs.WrongNumbers.{HasNoWrongNumberInImageBytes, IsWrongNumberInImageBytes, IsWrongSuperblockField, IsSuperblockAtOffset};
+ghost use Rattle.lfs_tool.specs.WrongNumbers.{HasSizesAndVersion, HasNoWrongNumberInImageBytes, IsWrongNumberInImageBytes, IsWrongSuperblockField, IsSuperblockAtOffset};
 
-use crate::findings::WrongNumber;
+use crate::wrong_number::WrongNumber;
 use lfs_device::AcceptedVersions;
 use lfs_tag::{Superblock, superblock_of};
 

@@ -1,6 +1,7 @@
 // The verdict on an image.
 
-use crate::findings::Finding;
+use crate::wrong_number::WrongNumber;
+use lfs_model::Violation;
 use lfs_tag::Superblock;
 
 /// The orders of names in which an image is accepted.
@@ -69,6 +70,16 @@ pub struct ImageSummary {
     pub writable: WritingProfile,
 }
 
+/// A rule that an image breaks, and what is said of it.
+#[derive(Drop)]
+pub struct BrokenRule {
+    pub violation: Violation,
+    /// A line without its end, which says the rule and the place, with names and numbers.
+    pub line: Vec<u8>,
+    /// The number of the superblock that is wrong, where that is the rule.
+    pub stated: Option<WrongNumber>,
+}
+
 /// Whether an image is accepted, and with what, or why not.
 #[derive(Drop)]
 pub enum ImageVerdict {
@@ -76,6 +87,6 @@ pub enum ImageVerdict {
         summary: ImageSummary,
         orders: AcceptedOrders,
     },
-    /// The first rule that the image breaks.
-    Refused(Finding),
+    /// A rule that the image breaks.
+    Refused(BrokenRule),
 }

@@ -5,9 +5,8 @@ use crate::images::{
     SHORT_NAMES, SHORTER, SOFT_TAIL, TURNED,
 };
 use crate::texts::check_text;
-use lfs_device::{Error, Geometry, RamDevice};
 use lfs_fixtures::{BlockFilling, FixtureEntries, image_with_second_commit};
-use lfs_tool::{ImageLayout, WatchedStream, find_broken_rule_on_device};
+use lfs_tool::{ImageLayout, WatchedStream};
 use std::alloc::{AllocError, Global};
 use std::test::Fail;
 
@@ -170,7 +169,7 @@ const REFUSED: [Row<'static>; 14] = [
             2,
             BlockFilling::Commit(&[(0x0ff0_0008, b"littlefs"), (0x2010_0018, LARGER)]),
         )],
-        "corrupt\npair 2 3, superblock: block count 17, given 16\n",
+        "corrupt\npair 2 3, superblock: another one than in pair 0 1\n",
     ),
     (
         &[(0x2010_0017, &[0; 23])],
@@ -198,7 +197,7 @@ const REFUSED: [Row<'static>; 14] = [
             2,
             BlockFilling::Commit(&[(0x0ff0_0008, b"littlefs"), (0x2010_0018, SHORT_NAMES)]),
         )],
-        "corrupt\npair 0 1, superblock: another one than in pair 2 3\n",
+        "corrupt\npair 2 3, superblock: another one than in pair 0 1\n",
     ),
     (
         &[(0x0ff0_0008, b"LITTLEFS")],
@@ -452,7 +451,7 @@ const BROKEN_MOVES_AND_LISTS: [Row<'static>; 9] = [
     (
         &[(MOVE_STATE, &[0, 4, 0, 0, 0, 0, 0, 0, 0, 0, 0, 0])],
         &[],
-        "corrupt\nglobal state: its move names no entry\n",
+        "corrupt\nglobal state: no move is set, but it names a slot\n",
     ),
     // a superblock's slot that was a file's, and one that was made behind a pair without slots
     (
@@ -561,25 +560,6 @@ fn entries_moves_and_lists_are_checked(rt: HostRuntime) -> Result<(), Fail> {
 fn directories_are_checked(rt: HostRuntime) -> Result<(), Fail> {
     for row in BROKEN_DIRECTORIES {
         assert!(rt; has_expected_check_text(rt.alloc(), row)?, "{:?}", row.2);
-    }
-    Ok(())
-}
-
-// Whether the search finds a rule that an image breaks.
-fn is_rule_broken(alloc: Global, row: Row<'_>) -> Result<bool, Error> {
-    let image = image_with_second_commit(alloc, row.0, row.1)?;
-    let mut device = RamDevice::from_bytes(Geometry::new(4096, 256, 16)?, image)?;
-    let found = find_broken_rule_on_device(alloc, &mut device)?;
-    Ok(found.is_some())
-}
-
-#[test]
-fn accepted_images_break_no_rule(rt: HostRuntime) -> Result<(), Fail> {
-    for row in ACCEPTED {
-        assert!(rt; !is_rule_broken(rt.alloc(), row)?, "{:?}", row.2);
-    }
-    for row in BROKEN_DIRECTORIES {
-        assert!(rt; is_rule_broken(rt.alloc(), row)?, "{:?}", row.2);
     }
     Ok(())
 }

@@ -6,7 +6,9 @@ use Rattle.lfs_model.specs.TreeEdits.{is_file}
 use Rattle.lfs_model.specs.BlockSets.{AreExactlyTheUsedBlocks, BlockStateList, IsBlockInFlight, in_flight_block_count}
 use Rattle.lfs_model.specs.Cache.{CachedBlocks}
 use Rattle.lfs_model.specs.Frame.{LeavesUnrelatedBlocksUnchanged}
-use Rattle.lfs_model.specs.Disk.{Disk, SameGeometry, block_bytes_on_disk, block_count}
+use Rattle.lfs_model.specs.declared.order.NameOrder.{NameOrder}
+use Rattle.lfs_model.specs.declared.order.NameOrder.TheVariants.{LongerFirst, ShorterFirst}
+use Rattle.lfs_model.specs.Disk.{Disk, disk_in_order, SameGeometry, block_bytes_on_disk, block_count}
 use Rattle.lfs_model.specs.History.{DeviceCallEvent, AreCallsSinceOnlyReads, fault_count_of_history, read_count_of_history, is_byte_unprogrammed}
 use Rattle.lfs_model.specs.Keeping.{removes_or_moves_path_or_ancestor}
 use Rattle.lfs_model.specs.Layout.{IsSlotLayoutAfterRecoveryAndOperation}
@@ -96,9 +98,9 @@ pub record OnlyReadsTreeOrFails {X : Type 0} (old : TreeState) (result : Result 
   pub broken : OnErr result (IsTreeFailedByRead old new)
   pub errors : IfErr result (IsIoWithFaultOrNoMemory old new)
 
--- The same of a mount. `Corrupt` comes where the disk isn't accepted.
+-- The same of a mount. `Corrupt` comes where the disk is accepted in neither order of names.
 pub record IsMountErrorWithCause (old new : TreeState) (e : Error) : Type 0 where
-  pub errors : (e ≡ Io) ⊎ ((e ≡ NoMemory) ⊎ ((e ≡ Corrupt) × ((ps : List Pair) → IsAcceptedImage old.disk ps → ⊥)))
+  pub errors : (e ≡ Io) ⊎ ((e ≡ NoMemory) ⊎ ((e ≡ Corrupt) × ((order : NameOrder) (ps : List Pair) → IsAcceptedImage (disk_in_order order old.disk) ps → ⊥)))
   pub fault : e ≡ Io → fault_count_of_history old.history < fault_count_of_history new.history
   pub no_fault : e ≢ Io → fault_count_of_history new.history ≡ fault_count_of_history old.history
 
@@ -157,3 +159,8 @@ pub record IsMountedTree (disk : Disk) (history : List DeviceCallEvent) (t : Tre
   pub no_fault : fault_count_of_history t.history ≡ fault_count_of_history history
   pub sound : IsSoundTreeState t
   pub none_in_flight : in_flight_block_count t.map ≡ 0
+
+-- The device was mounted again, in the order of names that was found. Where both orders fit, the longer names come first.
+pub record IsRemountedTree (old new : TreeState) : Type 0 where
+  pub mounted : IsMountedTree (disk_in_order new.disk.order old.disk) old.history new
+  pub longer : new.disk.order ≡ ShorterFirst → (ps : List Pair) → IsAcceptedImage (disk_in_order LongerFirst old.disk) ps → ⊥

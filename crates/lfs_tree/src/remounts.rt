@@ -1,7 +1,7 @@
 // A device that is mounted again.
 
 ghost use Rattle.std.specs.Prelude.{◌≡◌, IfErr, OnErr, OnOk};
-ghost use Rattle.lfs_tree.specs.TreeState.{IsTreeFailedByRead, IsMountErrorWithCause, IsMountedTree};
+ghost use Rattle.lfs_tree.specs.TreeState.{IsTreeFailedByRead, IsMountErrorWithCause, IsRemountedTree};
 
 use crate::tree::Tree;
 use lfs_alloc::BlockMap;
@@ -29,19 +29,19 @@ impl SpareThreadParts {
     }
 }
 
-// Mounts the same device again.
+// Mounts the same device again. A tree that fails keeps its order of names.
 pub(crate) fn mount_again<D: BlockDevice>(
     tree: Tree<D>,
     spare: SpareThreadParts,
 ) -> (Tree<D>, Result<(), Error>)
-    ensures mounted { OnOk result.1 (IsMountedTree tree.disk tree.history result.0) }
+    ensures mounted { OnOk result.1 (IsRemountedTree tree result.0) }
     ensures broken { OnErr result.1 (IsTreeFailedByRead tree result.0) }
     ensures errors { IfErr result.1 (IsMountErrorWithCause tree result.0) }
 {
     let is_writable = tree.is_writable;
     let order = tree.order();
     let SpareThreadParts { alloc, cache, map } = spare;
-    match Tree::mount_in_order(alloc, tree.into_device(), order) {
+    match Tree::mount(alloc, tree.into_device()) {
         Ok(tree) => (tree, Ok(())),
         Err((device, error)) => {
             let thread = Thread::failed_thread_of_parts(ThreadParts {

@@ -29,14 +29,14 @@ ghost use Rattle.lfs_tree.specs.Recoveries.{HasRecoveredFromPowerLoss};
 ghost use Rattle.lfs_lookup.specs.AttributeAt.{IsAttributesSize};
 ghost use Rattle.lfs_lookup.specs.Finds.{IsFoundNodeAtPath, has_entry_beneath_path, list_item_view};
 ghost use Rattle.lfs_tree.specs.Formats.{FailedFormatSparesOtherBlocks, IsFreshlyFormatted, WritesFirstTwoBlocks};
-ghost use Rattle.lfs_tree.specs.TreeState.{OnlyReadsTreeOrFails, IsTreeFailedByRead, IsMountErrorWithCause, IsMountedTree, IsSoundTreeState, disk_summary_of_tree, kept_thread_of_tree_state, tree_view};
+ghost use Rattle.lfs_tree.specs.TreeState.{OnlyReadsTreeOrFails, IsTreeFailedByRead, IsMountErrorWithCause, IsMountedTree, IsRemountedTree, IsSoundTreeState, disk_summary_of_tree, kept_thread_of_tree_state, tree_view};
 
 use crate::answers::mark_thread_failed_on_error;
 use crate::attributes_at::{remove_attr_at, set_attr_at};
 use crate::entries_at::{create_empty_file_at, make_directory_at};
 use crate::formats::format;
 use crate::lost_recovery::end_move_and_drop_unreached_directories;
-use crate::mounted_tree::find_root_and_writing_profile;
+use crate::mounted_tree::{find_root_and_writing_profile, mount_thread};
 use crate::remounts::{SpareThreadParts, mount_again};
 use crate::removals_at::remove_at;
 use core::mem::replace_with;
@@ -89,29 +89,7 @@ impl<D: BlockDevice> Tree<D> {
         ensures errors { IfErr result (λ e. IsIoCorruptOrNoMemory e.1) }
         ensures back { IfErr result (λ e. GivesDeviceBackOnlyReadWithError D.BlockDevice device e.0 e.1) }
     {
-        let mut thread = lfs_mount::mount(alloc, device)?;
-        match find_root_and_writing_profile(alloc, &mut thread) {
-            Ok((root, is_writable)) => Ok(Tree {
-                thread,
-                root,
-                is_writable,
-            }),
-            Err(error) => Err((thread.into_device(), error)),
-        }
-    }
-
-    // Reads the image of a device, whose names are in that order.
-    pub(crate) fn mount_in_order(
-        alloc: Global,
-        device: D,
-        order: NameOrder,
-    ) -> Result<Tree<D>, (D, Error)>
-        ensures mounted { IfOk result (IsMountedTree (disk_in_order order (disk_of_device D.BlockDevice device)) (D.history device)) }
-        ensures corrupt { IfErr result (λ e. e.1 ≡ Error.Corrupt → (ps : List Pair) → ¬ IsAcceptedImage (disk_in_order order (disk_of_device D.BlockDevice device)) ps) }
-        ensures errors { IfErr result (λ e. IsIoCorruptOrNoMemory e.1) }
-        ensures back { IfErr result (λ e. GivesDeviceBackOnlyReadWithError D.BlockDevice device e.0 e.1) }
-    {
-        let mut thread = lfs_mount::mount_in_order(alloc, device, order)?;
+        let mut thread = mount_thread(alloc, device)?;
         match find_root_and_writing_profile(alloc, &mut thread) {
             Ok((root, is_writable)) => Ok(Tree {
                 thread,
@@ -143,11 +121,12 @@ impl<D: BlockDevice> Tree<D> {
         }
     }
 
-    /// Reads the device anew, after an error too. No block is in flight afterwards.
+    /// Reads the device anew, after an error too, and finds the order of its names again. No block
+    /// is in flight afterwards.
     ///
     /// Errors are those of [`mount`](Tree::mount). The tree has failed after any.
     pub fn remount(&mut self, alloc: Global) -> Result<(), Error>
-        ensures mounted { OnOk result (IsMountedTree self.old.disk self.old.history self.new) }
+        ensures mounted { OnOk result (IsRemountedTree self.old self.new) }
         ensures broken { OnErr result (IsTreeFailedByRead self.old self.new) }
         ensures errors { IfErr result (IsMountErrorWithCause self.old self.new) }
     {

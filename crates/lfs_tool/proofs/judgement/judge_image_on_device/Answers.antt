@@ -5,7 +5,6 @@ use Rattle.lfs_model.specs.BlockSets.{AreExactlyTheUsedBlocks}
 use Rattle.lfs_model.specs.Shown.{used_blocks}
 use Rattle.lfs_model.specs.View.{IsAcceptedImage}
 use Rattle.lfs_model.specs.declared.order.NameOrder.TheVariants.{LongerFirst}
-use Rattle.lfs_tool.specs.Findings.{IsTrueFindingOfDisk}
 use Rattle.lfs_tool.specs.Verdict.{IsVerdictOnDisk}
 use Rattle.lfs_tool.proofs.judgement.judge_image_on_device.Goals as goal
 

@@ -88,7 +88,7 @@ returns-in_default-reserve_free_file_number g c =
 pub returns-in_err-writer-in-Some : goal.returns-in_err-writer-in-Some
 returns-in_err-writer-in-Some g c =
     let h = c.in_ok-found.ensures in
-    changed_call c.self.inside.tree c.self.inside.files _ (ops.Open c.args.path.now (flags_view c.args.flags)) ops.Opened c.from_residual-in_err-writer-in-Some.result _ c.self.view_is c.self.invariant c.show_conforming_device_calls_to_proof.ensures refl refl
+    changed_call c.self.inside.tree c.self.inside.files _ (ops.Open c.args.path.now (flags_view c.args.flags)) ops.Opened c.from_residual-in_err-writer-in-Some.result _ c.self.view_is c.self.invariant c.show_conforming_device_calls_to_proof.ensures refl refl refl
     (failed_others c.args.self.now (ops.Open c.args.path.now (flags_view c.args.flags)) (session_view_of_tree_and_files_view c.writer_of_existing_file-answer.new.tree []) c.from_residual-in_err-writer-in-Some.result (given_on _ c.from_residual-in_err-writer-in-Some.result c.from_residual-in_err-writer-in-Some.ensures.1))
     (broken_ends (session_view_of_tree_and_files c.self.inside.tree c.self.inside.files) _ (ops.Open c.args.path.now (flags_view c.args.flags)) ops.Opened _ c.from_residual-in_err-writer-in-Some.result _ c.self.view_is c.in_ok-found.ensures.1 refl c.in_err-writer-in-Some.ensures.errors.errors
     (given_on _ c.from_residual-in_err-writer-in-Some.result c.from_residual-in_err-writer-in-Some.ensures.1))
@@ -101,7 +101,7 @@ returns-in_err-writer-in-Some g c =
 pub returns-in_err-writer-in-None : goal.returns-in_err-writer-in-None
 returns-in_err-writer-in-None g c =
     let h = c.in_ok-found.ensures in
-    changed_call c.self.inside.tree c.self.inside.files _ (ops.Open c.args.path.now (flags_view c.args.flags)) ops.Opened c.from_residual-in_err-writer-in-None.result _ c.self.view_is c.self.invariant c.show_conforming_device_calls_to_proof-in-None.ensures refl refl
+    changed_call c.self.inside.tree c.self.inside.files _ (ops.Open c.args.path.now (flags_view c.args.flags)) ops.Opened c.from_residual-in_err-writer-in-None.result _ c.self.view_is c.self.invariant c.show_conforming_device_calls_to_proof-in-None.ensures refl refl refl
     (failed_others c.args.self.now (ops.Open c.args.path.now (flags_view c.args.flags)) (session_view_of_tree_and_files_view c.create_file_and_open_writer-answer.new.tree []) c.from_residual-in_err-writer-in-None.result (given_on _ c.from_residual-in_err-writer-in-None.result c.from_residual-in_err-writer-in-None.ensures.1))
     (broken_ends (session_view_of_tree_and_files c.self.inside.tree c.self.inside.files) _ (ops.Open c.args.path.now (flags_view c.args.flags)) ops.Opened _ c.from_residual-in_err-writer-in-None.result _ c.self.view_is c.in_ok-found.ensures.1 refl c.in_err-writer-in-None.ensures.errors.errors
     (given_on _ c.from_residual-in_err-writer-in-None.result c.from_residual-in_err-writer-in-None.ensures.1))
@@ -155,7 +155,7 @@ returns g c =
       | in-Some+in_ok-writer-in-Some w ↦ ap (λ i. fault_count_of_history i.tree.history) w.self-inside-is ∙ w.in_ok-writer-in-Some.ensures.recovered.no_fault ∙ h.0.no_fault
       | in-None+in_ok-writer-in-None w ↦ ap (λ i. fault_count_of_history i.tree.history) w.self-inside-is ∙ (w.in_ok-writer-in-None.ensures.made c.args.path.now (flags_view c.args.flags) (sym c.in-Ok.ensures.path) c.requires).0.no_fault ∙ h.0.no_fault
     ] in
-    changed_call c.self.inside.tree c.self.inside.files _ (ops.Open c.args.path.now (flags_view c.args.flags)) ops.Opened (Ok c.in-Ok-reserve_free_file_number.number) _ c.self.view_is c.self.invariant reported refl refl
+    changed_call c.self.inside.tree c.self.inside.files _ (ops.Open c.args.path.now (flags_view c.args.flags)) ops.Opened (Ok c.in-Ok-reserve_free_file_number.number) _ c.self.view_is c.self.invariant reported refl refl refl
     (elim c.match-found.branch [
       | in-Some+in_ok-writer-in-Some w ↦ subst (λ i. SparesBlocksUnrelatedToOperation (system_state_of_session_view c.args.self.now) (ops.Open c.args.path.now (flags_view c.args.flags)) (system_state_of_session_view (session_view_of_tree_and_files_view i.tree []))) (sym w.self-inside-is)
           (begun_others c.self.inside.tree c.check_open_writer.new.tree w.writer_of_existing_file-answer.new.tree c.self.inside.files _ (ops.Open c.args.path.now (flags_view c.args.flags)) c.self.view_is c.self.invariant.ready h.0 w.in_ok-writer-in-Some.ensures.recovered)

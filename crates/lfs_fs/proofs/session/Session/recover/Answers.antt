@@ -41,7 +41,7 @@ returns g c =
     let answers = recover_answers c.self.inside.tree c.recover-answer.new.self c.self.inside.files _ c.recover-answer.result c.tree_changes_spare_open_files.ensures.stay c.self.view_is c.self.invariant.ready
     (works_by (session_view_of_tree_and_files c.self.inside.tree c.self.inside.files) ops.Recover None c.if-has_failed.ensures (is_writable _ c.if-not-is_writable.ensures))
     (ok_then c.recover-answer.result _ _ (λ k. k ops.Recover refl) c.recover-answer.ensures.does.done) c.recover-answer.ensures.does.broken c.recover-answer.ensures.does.errors in
-    changed_call c.self.inside.tree c.self.inside.files _ ops.Recover (λ u. ops.Done) c.recover-answer.result _ c.self.view_is c.self.invariant c.show_conforming_device_calls_to_proof.ensures refl refl
+    changed_call c.self.inside.tree c.self.inside.files _ ops.Recover (λ u. ops.Done) c.recover-answer.result _ c.self.view_is c.self.invariant c.show_conforming_device_calls_to_proof.ensures refl refl refl
     (recovered_others c.args.self.now c.recover-answer.result _ answers)
     (carried_ends (session_view_of_tree_and_files c.self.inside.tree c.self.inside.files) _ ops.Recover (λ u. ops.Done) c.self.inside.tree c.recover-answer.new.self _ c.recover-answer.result c.self.view_is
     (works_by (session_view_of_tree_and_files c.self.inside.tree c.self.inside.files) ops.Recover None c.if-has_failed.ensures (is_writable _ c.if-not-is_writable.ensures)) refl (nothing_asked c.self.inside.tree) c.recover-answer.ensures.does.done (λ k. (k ops.Recover refl).no_fault) c.recover-answer.ensures.does.errors)

@@ -61,7 +61,7 @@ returns-in_err-writer g c =
 
 pub returns : goal.returns
 returns g c =
-    changed_call {A = Unit {0}} c.self.inside.tree c.self.inside.files _ (ops.Sync c.args.fd) (λ u. ops.Done) (Ok tt) _ c.self.view_is c.self.invariant c.show_conforming_device_calls_to_proof.ensures refl refl
+    changed_call {A = Unit {0}} c.self.inside.tree c.self.inside.files _ (ops.Sync c.args.fd) (λ u. ops.Done) (Ok tt) _ c.self.view_is c.self.invariant c.show_conforming_device_calls_to_proof.ensures refl refl refl
     (stored_others c.self.inside.tree c.writer_after_saving-answer.new.tree c.self.inside.files _ (ops.Sync c.args.fd) c.args.fd c.in-Some-Writing.writer _ c.self.view_is c.self.invariant.ready
     (taken _ _ _ _ c.in-Some-Writing.is c.in-Some-Writing.field-0-is c.take.ensures.file) (λ s. refl) c.in_ok-writer.ensures.stored)
     (answer_ends (session_view_of_tree_and_files c.self.inside.tree c.self.inside.files) _ (ops.Sync c.args.fd) ops.Done _ c.self.view_is c.in_ok-check_is_file_open_for_sync.ensures.0 c.in_ok-writer.ensures.stored.no_fault)

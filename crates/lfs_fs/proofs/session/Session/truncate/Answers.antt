@@ -84,7 +84,7 @@ returns g c =
     let e = sym c.take.ensures.file ∙ c.in-Some-Writing.is ∙ ap Some c.in-Some-Writing.field-0-is in
     let t = c.self.inside.tree in
     let fs = c.self.inside.files in
-    changed_call {A = Unit {0}} c.self.inside.tree c.self.inside.files _ (ops.Truncate c.args.fd c.args.size) (λ u. ops.Done) (Ok tt) _ c.self.view_is c.self.invariant c.show_conforming_device_calls_to_proof.ensures refl refl
+    changed_call {A = Unit {0}} c.self.inside.tree c.self.inside.files _ (ops.Truncate c.args.fd c.args.size) (λ u. ops.Done) (Ok tt) _ c.self.view_is c.self.invariant c.show_conforming_device_calls_to_proof.ensures refl refl refl
     (beside_others c.self.inside.tree c.writer_after_truncating-answer.new.tree c.self.inside.files _ (ops.Truncate c.args.fd c.args.size) c.self.view_is c.self.invariant.ready c.in_ok-writer.ensures.beside)
     (answer_ends (session_view_of_tree_and_files c.self.inside.tree c.self.inside.files) _ (ops.Truncate c.args.fd c.args.size) ops.Done _ c.self.view_is c.in_ok-check_truncate.ensures.0 c.in_ok-writer.ensures.beside.no_fault)
     (subst (λ xs. IsSessionStep (system_state_of_session_view c.args.self.now) (ops.Truncate c.args.fd c.args.size) ops.Done (system_state_of_session_view (session_view_of_tree_and_files c.writer_after_truncating-answer.new.tree xs))) (sym (put_again fs c.take.new.self c.put_back_writer.new.self c.args.fd c.in_ok-writer.writer c.take.ensures.left c.put_back_writer.ensures))

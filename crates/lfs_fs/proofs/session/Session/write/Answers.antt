@@ -65,7 +65,7 @@ pub returns : goal.returns
 returns g c =
     let w = some_writer c.self.inside.files c.args.fd c.in_ok-check_write.ensures.1 in
     let h = c.in_ok-answer.ensures.written w.0 w.1 in
-    changed_call c.self.inside.tree c.self.inside.files _ (ops.Write c.args.fd c.args.bytes.now) ops.Count (Ok (length c.args.bytes.now)) _ c.self.view_is c.self.invariant c.show_conforming_device_calls_to_proof.ensures refl refl
+    changed_call c.self.inside.tree c.self.inside.files _ (ops.Write c.args.fd c.args.bytes.now) ops.Count (Ok (length c.args.bytes.now)) _ c.self.view_is c.self.invariant c.show_conforming_device_calls_to_proof.ensures refl refl refl
     (beside_others c.self.inside.tree c.write-answer.new.tree c.self.inside.files _ (ops.Write c.args.fd c.args.bytes.now) c.self.view_is c.self.invariant.ready c.in_ok-answer.ensures.beside)
     (answer_ends (session_view_of_tree_and_files c.self.inside.tree c.self.inside.files) _ (ops.Write c.args.fd c.args.bytes.now) (ops.Count (length c.args.bytes.now)) _ c.self.view_is c.in_ok-check_write.ensures.0 c.in_ok-answer.ensures.beside.no_fault)
     (subst (λ xs. IsSessionStep (system_state_of_session_view c.args.self.now) (ops.Write c.args.fd c.args.bytes.now) (ops.Count (length c.args.bytes.now)) (system_state_of_session_view (session_view_of_tree_and_files c.write-answer.new.tree xs)))

@@ -1,0 +1,62 @@
+use Rattle.std.proofs.Common.{ℕ, [], ◌∷◌, ◌≡◌, List, None, Some, false, inr, refl, arith}
+use Rattle.std.specs.Prelude.{codes}
+use Rattle.lfs_model.specs.Crc.{crc_of, next_bits}
+use Rattle.lfs_model.specs.Log.{chain_of, chain_within, commit_within, entry_at, closes}
+use Rattle.lfs_model.specs.Slots.{Slot, zero_gstate}
+use Rattle.lfs_model.specs.Thread.{Pair}
+use Rattle.lfs_model.specs.examples.Violations.{image_with_bad_move, image_with_empty_list, image_with_shared_block}
+use Rattle.lfs_model.proofs.BrokenImages.{is_thread, no_list, no_valid_move}
+use Rattle.lfs_model.proofs.Examples.{large_superblock, long_file, pair}
+use Rattle.lfs_model.proofs.broken.broken_list_rules.Goals as goal
+
+abbrev moving : List Pair
+moving = pair (0, 1) (large_superblock ∷ []) None (record { sync = false; kind = 0; id = 1; pair = (0, 0) }) ∷ []
+
+pub returns-clause-set_move : goal.returns-clause-set_move
+unfolding chain_of chain_within commit_within entry_at closes crc_of next_bits
+returns-clause-set_move c = inr (moving, (is_thread image_with_bad_move _ (refl, refl) (refl, tt) refl refl, no_valid_move moving refl))
+
+-- a root with these slots behind its superblock
+abbrev root : List Slot → Pair
+root slots = pair (0, 1) (large_superblock ∷ slots) None zero_gstate
+
+none_some : (id : ℕ) → None ≡ Some id → ⊥
+none_some id e = cc
+
+pub returns-clause-list : goal.returns-clause-list
+unfolding chain_of chain_within commit_within entry_at closes crc_of next_bits lib.Count.count_trailing_zeros
+returns-clause-list c = inr (
+  root (long_file (codes "a") 2 0 ∷ []) ∷ [],
+  (
+    is_thread image_with_empty_list _ (refl, refl) (refl, tt) refl refl,
+    (
+      long_file (codes "a") 2 0,
+      (
+        record { is = record { index = 0; pair = root (long_file (codes "a") 2 0 ∷ []); there = refl; at_is = refl; slot = refl }; stays = none_some 1 },
+        no_list image_with_empty_list (long_file (codes "a") 2 0) refl,
+      ),
+    ),
+  ),
+)
+
+pub returns-clause-two_owners : goal.returns-clause-two_owners
+unfolding chain_of chain_within commit_within entry_at closes crc_of next_bits lib.Count.count_trailing_zeros
+returns-clause-two_owners c = inr (
+  root (long_file (codes "a") 2 10 ∷ long_file (codes "b") 2 10 ∷ []) ∷ [],
+  (
+    is_thread image_with_shared_block _ (refl, refl) (refl, tt) refl refl,
+    record {
+      slot = long_file (codes "b") 2 10;
+      is = record {
+        is = record { index = 0; pair = root (long_file (codes "a") 2 10 ∷ long_file (codes "b") 2 10 ∷ []); there = refl; at_is = refl; slot = refl };
+        stays = none_some 2;
+      };
+      has = (0, omega arith, refl);
+      i = 2;
+      j = 3;
+      apart = omega arith;
+      one = refl;
+      other = refl;
+    },
+  ),
+)

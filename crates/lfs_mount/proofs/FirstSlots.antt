@@ -18,14 +18,14 @@ use Rattle.lfs_mount.specs.SuperblockChain.{has_name_bytes, inline_struct_bytes,
 
 -- ---- a slot with a name and a struct
 
-record IsMadeOf (s : RawSlot) (t : Slot) : Type 0 where
-  name : ℕ × List ℕ
-  struct : ℕ × List ℕ
-  name_is : s.name ≡ Some name
-  struct_is : s.struct ≡ Some struct
-  made : t ≡ record { kind = kind_of_name_type name.0; name = name.1; struct = struct_of_type_and_bytes struct.0 struct.1; attributes = s.attributes }
+pub record IsMadeOf (s : RawSlot) (t : Slot) : Type 0 where
+  pub name : ℕ × List ℕ
+  pub struct : ℕ × List ℕ
+  pub name_is : s.name ≡ Some name
+  pub struct_is : s.struct ≡ Some struct
+  pub made : t ≡ record { kind = kind_of_name_type name.0; name = name.1; struct = struct_of_type_and_bytes struct.0 struct.1; attributes = s.attributes }
 
-made_of : (s : RawSlot) (t : Slot) → slot_if_name_and_struct_present s ≡ Some t → IsMadeOf s t
+pub made_of : (s : RawSlot) (t : Slot) → slot_if_name_and_struct_present s ≡ Some t → IsMadeOf s t
 made_of s t e = go s.name s.struct refl refl e
   where
     go : (n u : Option (ℕ × List ℕ)) → s.name ≡ n → s.struct ≡ u
@@ -35,7 +35,7 @@ made_of s t e = go s.name s.struct refl refl e
     go (Some n) (Some u) f h k =
         record { name = n; struct = u; name_is = f; struct_is = h; made = sym (same_Some (record { kind = kind_of_name_type n.0; name = n.1; struct = struct_of_type_and_bytes u.0 u.1; attributes = s.attributes }) t k) }
 
-slot_named : (s : RawSlot) (t : Slot) → IsMadeOf s t → is_superblock t ≡ is_superblock_name s.name
+pub slot_named : (s : RawSlot) (t : Slot) → IsMadeOf s t → is_superblock t ≡ is_superblock_name s.name
 slot_named s t m = ap is_superblock m.made ∙ sym (ap is_superblock_name m.name_is)
 
 inline_some : (u : ℕ × List ℕ) (bytes : List ℕ) → struct_of_type_and_bytes u.0 u.1 ≡ Inline bytes → inline_struct_bytes (Some u) ≡ Some bytes

@@ -21,6 +21,8 @@ pub mod Accepts
 pub mod Ending
 pub mod ReadImages
 pub mod Refuses
+pub mod SlotCounts
+pub mod Breaking
 pub mod Within
 pub mod Called
 pub mod ReadCounts

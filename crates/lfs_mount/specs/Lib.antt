@@ -10,6 +10,7 @@ pub mod KnownView
 pub mod Marking
 pub mod ListsView
 pub mod Taken
+pub mod Broken
 pub mod Passed
 pub mod Described
 pub mod Checked

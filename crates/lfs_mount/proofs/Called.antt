@@ -15,7 +15,7 @@ use Rattle.lfs_thread.specs.declared.mount_error.MountError.TheVariants.{Corrupt
 pub same_error : {T E : Type 0} {r : Result T E} {x y e : E} → r ≡ Err x → x ≡ y → r ≡ Err e → y ≡ e
 same_error was is gives = cc
 
-err_same : {Y : Type 0} {a b : MountError} → ◌≡◌ {A = Result Y MountError} (Err a) (Err b) → a ≡ b
+pub err_same : {Y : Type 0} {a b : MountError} → ◌≡◌ {A = Result Y MountError} (Err a) (Err b) → a ≡ b
 err_same e = cc
 
 -- a violation comes of an error below
@@ -37,6 +37,10 @@ module _ {D : Type 0} (g : Ghosts D) where
   -- a call that succeeds has no fault
   pub quiet : {X : Type 0} {old new : D} {x : X} → OnlyReadsUnlessFault g old new (Ok x) → fault_count_of_history (g.history new) ≡ fault_count_of_history (g.history old)
   quiet reading = reading.no_fault (λ is. absurd (cc))
+
+  -- reads without a fault, and a result that isn't `Io`
+  pub only_read : {X : Type 0} {old new : D} {r : Result X MountError} → ReadsOnly g old new → fault_count_of_history (g.history new) ≡ fault_count_of_history (g.history old) → (r ≡ Err Io → ⊥) → OnlyReadsUnlessFault g old new r
+  only_read reads same other = record { device = reads; fault = λ is. absurd (other is); no_fault = λ none. same }
 
   -- an error passed on behind calls without a fault
   pub passed_on : {X Y : Type 0} {old mid new : D} {r : Result X MountError} {e f : MountError} → r ≡ Err e → e ≡ f → ReadsOnly g old mid → fault_count_of_history (g.history mid) ≡ fault_count_of_history (g.history old)

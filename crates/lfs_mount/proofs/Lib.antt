@@ -29,8 +29,7 @@ pub mod ReadCounts
 pub mod FirstSlots
 pub mod Headers
 pub mod Heads
-pub mod Reported
-pub mod MountCalls
+pub mod Unaccepted
 pub mod KnownMoves
 pub mod KnownThread
 pub mod Mounts

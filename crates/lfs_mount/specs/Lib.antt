@@ -14,7 +14,7 @@ pub mod Broken
 pub mod Passed
 pub mod Described
 pub mod Checked
-pub mod Device
+pub mod TrueViolation
 pub mod Reads
 pub mod Members
 pub mod SuperblockChain

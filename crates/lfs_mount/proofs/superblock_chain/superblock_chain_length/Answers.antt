@@ -7,10 +7,9 @@ use Rattle.lfs_model.specs.Disk.{disk_in_order}
 use Rattle.lfs_model.specs.Violations.{BreaksPairs}
 use Rattle.lfs_model.specs.declared.violations.Violation.TheVariants as violation
 use Rattle.lfs_thread.specs.Kept.{PairHeader, disk_of_device, pairs_of_headers}
+use Rattle.lfs_mount.proofs.Called.{only_read, passed_on, quiet, read_on, same_error}
 use Rattle.lfs_mount.proofs.Heads.{active_within, begun, differs, ends, first_breaks, first_struct, found_length, halts, head_is, last_is, more, no_superblock, passes, same_block, step_at, within}
 use Rattle.lfs_mount.proofs.InOrders.{first_breaks_in, has_headers_in}
-use Rattle.lfs_mount.proofs.MountCalls.{ok_quiet, only_reads, only_reads_then}
-use Rattle.lfs_mount.proofs.Reported.{same_error, then_reads}
 use Rattle.lfs_mount.proofs.superblock_chain.superblock_chain_length.Goals as goal
 
 pub returns-in_default-clause-broken : goal.returns-in_default-clause-broken
@@ -40,7 +39,7 @@ loop-index-init g c = record {
   walked = begun (disk_of_device g.D.BlockDevice c.args.dev.now) (g.D.BlockDevice.history c.args.dev.now) c.args.pairs.now c.requires c.in-Some.first (sym c.in-Some.ensures.first) c.index-pairs-first.result c.index-pairs-first.is c.in_ok-bytes.bytes.items
       c.in_ok-bytes.ensures.found;
   device = c.in_ok-bytes.ensures.device.device;
-  no_fault = ok_quiet c.in_ok-bytes.ensures.device;
+  no_fault = quiet g.D.BlockDevice c.in_ok-bytes.ensures.device;
   read = (let one = c.in_ok-bytes.ensures.reads in omega (arith, one));
 }
 
@@ -106,7 +105,7 @@ returns-in_err-read_whether_pair_repeats_superblock-clause-broken g c = λ v is 
 pub returns-in_err-read_whether_pair_repeats_superblock-clause-device : goal.returns-in_err-read_whether_pair_repeats_superblock-clause-device
 returns-in_err-read_whether_pair_repeats_superblock-clause-device g c =
     let e = err_from_is_err_and c.from_residual-in_err-read_whether_pair_repeats_superblock.result c.from_residual-in_err-read_whether_pair_repeats_superblock.ensures.1 in
-    only_reads_then c.loop-index.invariant.device c.loop-index.invariant.no_fault c.in_err-read_whether_pair_repeats_superblock.ensures.device e.1 e.2
+    passed_on g.D.BlockDevice e.1 e.2 c.loop-index.invariant.device c.loop-index.invariant.no_fault c.in_err-read_whether_pair_repeats_superblock.ensures.device
 
 pub returns-then-not-branch-clause-head : goal.returns-then-not-branch-clause-head
 returns-then-not-branch-clause-head g c =
@@ -126,7 +125,7 @@ returns-then-not-branch-clause-head g c =
 pub returns-then-not-branch-clause-device : goal.returns-then-not-branch-clause-device
 returns-then-not-branch-clause-device g c =
     let read = c.in_ok-read_whether_pair_repeats_superblock.ensures.device in
-    only_reads (then_reads c.loop-index.invariant.device read.device) (ok_quiet read ∙ c.loop-index.invariant.no_fault) (λ io. absurd (cc))
+    only_read g.D.BlockDevice (read_on g.D.BlockDevice c.loop-index.invariant.device read.device) (quiet g.D.BlockDevice read ∙ c.loop-index.invariant.no_fault) (λ io. absurd (cc))
 
 pub loop-index-preserved : goal.loop-index-preserved
 loop-index-preserved g c =
@@ -142,8 +141,8 @@ loop-index-preserved g c =
     record {
       walked = more (disk_of_device g.D.BlockDevice c.args.dev.now) (g.D.BlockDevice.history c.args.dev.now) c.args.pairs.now c.requires c.in_ok-bytes.bytes.items c.loop-index.root c.loop-index.index this.result next.result step c.loop-index.invariant.walked
           (sym c.can_superblock_chain_continue.ensures ∙ c.if-not-can_superblock_chain_continue.false) went;
-      device = then_reads c.loop-index.invariant.device c.in_ok-read_whether_pair_repeats_superblock.ensures.device.device;
-      no_fault = ok_quiet c.in_ok-read_whether_pair_repeats_superblock.ensures.device ∙ c.loop-index.invariant.no_fault;
+      device = read_on g.D.BlockDevice c.loop-index.invariant.device c.in_ok-read_whether_pair_repeats_superblock.ensures.device.device;
+      no_fault = quiet g.D.BlockDevice c.in_ok-read_whether_pair_repeats_superblock.ensures.device ∙ c.loop-index.invariant.no_fault;
       read = omega (arith, one, others, below, low);
     }
 

@@ -282,6 +282,33 @@ pub(crate) fn push_slot_text(
     Ok(())
 }
 
+// Adds the words for a pair.
+pub(crate) fn push_pair_message(
+    text: &mut Vec<u8>,
+    pair: [u32; 2],
+    says: &str,
+) -> Result<(), AllocError>
+    ensures { OnOk result (text.new.items ≡ text.old.items ++ (pair_text (pair_address_of_array pair) ++ says.now)) }
+{
+    push_pair_text(text, pair)?;
+    push_text(text, says)?;
+    Ok(())
+}
+
+// Adds the words for a slot.
+fn push_slot_message(
+    text: &mut Vec<u8>,
+    pair: [u32; 2],
+    slot: usize,
+    says: &str,
+) -> Result<(), AllocError>
+    ensures { OnOk result (text.new.items ≡ text.old.items ++ (slot_text (pair_address_of_array pair) slot ++ says.now)) }
+{
+    push_slot_text(text, pair, slot)?;
+    push_text(text, says)?;
+    Ok(())
+}
+
 // Adds a name between quotes.
 pub(crate) fn push_quoted_name(text: &mut Vec<u8>, name: &[u8]) -> Result<(), AllocError> {
     text.push(b'"')?;

@@ -1,20 +1,27 @@
 -- What calls of a device one behind the other say of it.
-use Rattle.std.proofs.Common.{sym, subst, ◌⊎◌, ◌≡◌, ◌∙◌, refl, ap, Result, Ok, Err, arith}
-use Rattle.std.specs.Prelude.{IfErr}
-use Rattle.lfs_device.specs.Calls.{ReadsOnly, ReportsFaults}
+use Rattle.std.proofs.Common.{◌≡◌, ◌⊎◌, ◌∙◌, inl, inr, refl, sym, ap, Result, Ok, Err, arith}
+use Rattle.lfs_device.specs.Calls.{ReadsOnly}
 use Rattle.lfs_device.specs.declared.device.BlockDevice.{Ghosts}
 use Rattle.lfs_device.specs.declared.error.Error.{Error}
-use Rattle.lfs_device.specs.declared.error.Error.TheVariants.{Corrupt, Io, NoMemory}
+use Rattle.lfs_device.specs.declared.error.Error.TheVariants as error
 use Rattle.lfs_model.specs.History.{fault_count_of_history}
-use Rattle.lfs_mount.specs.Device.{ReportsMountErrorsAndFaults}
+use Rattle.lfs_model.specs.declared.violations.Violation.{Violation}
 use Rattle.lfs_model.proofs.Histories.{began, AreCallsSinceOnlyReads-trans}
+use Rattle.lfs_thread.specs.MountErrors.{OnlyReadsUnlessFault, mount_error_of}
+use Rattle.lfs_thread.specs.declared.mount_error.MountError.{MountError}
+use Rattle.lfs_thread.specs.declared.mount_error.MountError.TheVariants.{Corrupt, Io}
 
 -- an error that is passed on
 pub same_error : {T E : Type 0} {r : Result T E} {x y e : E} → r ≡ Err x → x ≡ y → r ≡ Err e → y ≡ e
 same_error was is gives = cc
 
-err_same : {Y : Type 0} {a b : Error} → ◌≡◌ {A = Result Y Error} (Err a) (Err b) → a ≡ b
+pub err_same : {Y : Type 0} {a b : MountError} → ◌≡◌ {A = Result Y MountError} (Err a) (Err b) → a ≡ b
 err_same e = cc
+
+-- a violation comes of an error below
+pub violation_of : (e : Error) (x v : Violation) → (e ≡ error.Corrupt) ⊎ (e ≡ error.NoMemory) → mount_error_of e x ≡ Corrupt v → (e ≡ error.Corrupt) × (x ≡ v)
+violation_of e x v (inl is) same = (is, (let h : Corrupt x ≡ Corrupt v = sym (ap (λ y. mount_error_of y x) is) ∙ same in cc))
+violation_of e x v (inr is) same = absurd (let h : mount_error_of error.NoMemory x ≡ Corrupt v = sym (ap (λ y. mount_error_of y x) is) ∙ same in cc)
 
 module _ {D : Type 0} (g : Ghosts D) where
   pub not_read : (d : D) → ReadsOnly g d d
@@ -28,21 +35,22 @@ module _ {D : Type 0} (g : Ghosts D) where
   }
 
   -- a call that succeeds has no fault
-  pub quiet : {X : Type 0} {old new : D} {x : X} → ReportsFaults g old new (Ok x) → fault_count_of_history (g.history new) ≡ fault_count_of_history (g.history old)
-  quiet reported = reported.no_fault (λ is. absurd (cc))
+  pub quiet : {X : Type 0} {old new : D} {x : X} → OnlyReadsUnlessFault g old new (Ok x) → fault_count_of_history (g.history new) ≡ fault_count_of_history (g.history old)
+  quiet reading = reading.no_fault (λ is. absurd (cc))
+
+  -- reads without a fault, and a result that isn't `Io`
+  pub only_read : {X : Type 0} {old new : D} {r : Result X MountError} → ReadsOnly g old new → fault_count_of_history (g.history new) ≡ fault_count_of_history (g.history old) → (r ≡ Err Io → ⊥) → OnlyReadsUnlessFault g old new r
+  only_read reads same other = record { device = reads; fault = λ is. absurd (other is); no_fault = λ none. same }
 
   -- an error passed on behind calls without a fault
-  pub reported_on : {X Y : Type 0} {old mid new : D} {r : Result X Error} {e f : Error} → r ≡ Err e → e ≡ f → fault_count_of_history (g.history mid) ≡ fault_count_of_history (g.history old)
-      → ReportsFaults {X = Y} g mid new (Err f) → ReportsFaults g old new r
-  reported_on {Y = Y} {f = f} is from same reported = record {
-    fault = λ gives. let io : f ≡ Io = same_error is from gives in let rose = reported.fault (ap Err io) in omega (arith, same, rose);
-    no_fault = λ other. reported.no_fault (λ gives. other (is ∙ ap Err (from ∙ err_same {Y = Y} gives))) ∙ same;
+  pub passed_on : {X Y : Type 0} {old mid new : D} {r : Result X MountError} {e f : MountError} → r ≡ Err e → e ≡ f → ReadsOnly g old mid → fault_count_of_history (g.history mid) ≡ fault_count_of_history (g.history old)
+      → OnlyReadsUnlessFault {X = Y} g mid new (Err f) → OnlyReadsUnlessFault g old new r
+  passed_on {Y = Y} {f = f} is from before same reading = record {
+    device = read_on before reading.device;
+    fault = λ gives. let io : f ≡ Io = same_error is from gives in let rose = reading.fault (ap Err io) in omega (arith, same, rose);
+    no_fault = λ other. reading.no_fault (λ gives. other (is ∙ ap Err (from ∙ err_same {Y = Y} gives))) ∙ same;
   }
 
-  -- and which error it is
-  pub passed_on : {X Y : Type 0} {old mid new : D} {r : Result X Error} {e f : Error} → r ≡ Err e → e ≡ f → fault_count_of_history (g.history mid) ≡ fault_count_of_history (g.history old)
-      → ReportsMountErrorsAndFaults {X = Y} g mid new (Err f) → ReportsMountErrorsAndFaults g old new r
-  passed_on {X} {r = r} {e = e} {f = f} is from same reported = record {
-    errors = subst (λ (x : Result X Error). IfErr x (λ y. (y ≡ Io) ⊎ (y ≡ Corrupt) ⊎ (y ≡ NoMemory))) (sym is) (subst (λ (y : Error). (y ≡ Io) ⊎ (y ≡ Corrupt) ⊎ (y ≡ NoMemory)) (sym from) reported.errors);
-    faults = reported_on is from same reported.faults;
-  }
+  -- and success
+  pub gone_on : {X Y : Type 0} {old mid new : D} {x : X} {y : Y} → OnlyReadsUnlessFault g old mid (Ok x) → OnlyReadsUnlessFault g mid new (Ok y) → OnlyReadsUnlessFault g old new (Ok y)
+  gone_on first second = record { device = read_on first.device second.device; fault = λ is. absurd (cc); no_fault = λ other. quiet second ∙ quiet first }

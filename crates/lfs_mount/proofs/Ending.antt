@@ -175,9 +175,6 @@ checked_accepted disk sets firsts ms sync chain p rest bytes graph end known hea
     is_accepted disk chain p rest bytes known.chain_is head ms sets end graph known.thread move known.owns known.described
     (subst (λ f. ScansPairsIntoDirectoryGraph disk f empty_directory_scan sets ms graph end) known.places passes) right
 
-pub accepted_right : (disk : Disk) (qs : List Pair) → IsAcceptedImage disk qs → IsTreeOfDirectories disk.order qs
-accepted_right disk qs a = record { tree = record { order = a.order; branches = a.branches; once = a.once }; reached = a.reached }
-
 -- the map has the blocks of the image
 pub checked_blocks : (disk : Disk) (sets : BlockStateList) (firsts : List (ℕ × ℕ)) (ms : List PairBeforeSlotsAreRead) (sync : Bool) (chain : List Pair) (p : Pair) (rest : List Pair) (bytes : List ℕ) (graph : DirectoryGraph) (end : BlockStateList)
     → IsThreadMatchingMapAndPairDescriptions disk sets firsts ms sync chain p rest → HasSuperblockChain disk chain p rest bytes → ScansPairsIntoDirectoryGraph disk firsts empty_directory_scan sets ms graph end → MapUsesExactlyTheseBlocks sets end (used_blocks disk (chain ++ p ∷ rest))

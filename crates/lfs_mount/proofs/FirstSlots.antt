@@ -1,14 +1,14 @@
 -- The first slot of a pair: whether it is a superblock's, and its struct.
 use Rattle.std.proofs.Common.{ℕ, ◌≡◌, ◌==◌, ◌&&◌, Bool, true, false, cond, List, [], ◌∷◌, length, drop, slice_get, Option, Some, None, codes, refl, sym, ap, subst, ◌∙◌, eqb-true, eq-eqb, option_and_then, option_map}
 use Rattle.std.proofs.lemmas.Bool.{and_parts, and_from}
-use Rattle.std.proofs.lemmas.List.{drop-drop}
 use Rattle.std.proofs.lemmas.Option.{same_Some}
 use Rattle.std.proofs.lemmas.Slice.Eq.{bytes_eq-Decides}
 use Rattle.lfs_model.specs.Content.{RawSlot, slot_if_name_and_struct_present, slots_if_names_and_structs_present, kind_of_name_type, struct_of_type_and_bytes}
-use Rattle.lfs_model.specs.EntryTypes.{inline_struct_type, directory_struct_type, pair_address_of_bytes, superblock_fields_of_struct_bytes}
+use Rattle.lfs_model.specs.EntryTypes.{inline_struct_type, directory_struct_type, superblock_fields_of_struct_bytes}
 use Rattle.lfs_model.specs.Disk.{Disk, block_count}
 use Rattle.lfs_model.specs.Slots.{Slot, Struct, Inline, Ctz, Branch, is_superblock}
 use Rattle.lfs_model.specs.Thread.{starts_with_superblock}
+use Rattle.lfs_model.specs.Violations.{IsSuperblockOfDisk}
 use Rattle.lfs_model.specs.declared.limits.AcceptedVersions.{AcceptedVersions}
 use Rattle.lfs_model.specs.View.{HasSuperblockStruct, IsSameSuperblockStruct, is_accepted_version, IsSuperblockStruct}
 use Rattle.lfs_model.proofs.Completed.{complete_parts}
@@ -18,14 +18,14 @@ use Rattle.lfs_mount.specs.SuperblockChain.{has_name_bytes, inline_struct_bytes,
 
 -- ---- a slot with a name and a struct
 
-record IsMadeOf (s : RawSlot) (t : Slot) : Type 0 where
-  name : ℕ × List ℕ
-  struct : ℕ × List ℕ
-  name_is : s.name ≡ Some name
-  struct_is : s.struct ≡ Some struct
-  made : t ≡ record { kind = kind_of_name_type name.0; name = name.1; struct = struct_of_type_and_bytes struct.0 struct.1; attributes = s.attributes }
+pub record IsMadeOf (s : RawSlot) (t : Slot) : Type 0 where
+  pub name : ℕ × List ℕ
+  pub struct : ℕ × List ℕ
+  pub name_is : s.name ≡ Some name
+  pub struct_is : s.struct ≡ Some struct
+  pub made : t ≡ record { kind = kind_of_name_type name.0; name = name.1; struct = struct_of_type_and_bytes struct.0 struct.1; attributes = s.attributes }
 
-made_of : (s : RawSlot) (t : Slot) → slot_if_name_and_struct_present s ≡ Some t → IsMadeOf s t
+pub made_of : (s : RawSlot) (t : Slot) → slot_if_name_and_struct_present s ≡ Some t → IsMadeOf s t
 made_of s t e = go s.name s.struct refl refl e
   where
     go : (n u : Option (ℕ × List ℕ)) → s.name ≡ n → s.struct ≡ u
@@ -35,7 +35,7 @@ made_of s t e = go s.name s.struct refl refl e
     go (Some n) (Some u) f h k =
         record { name = n; struct = u; name_is = f; struct_is = h; made = sym (same_Some (record { kind = kind_of_name_type n.0; name = n.1; struct = struct_of_type_and_bytes u.0 u.1; attributes = s.attributes }) t k) }
 
-slot_named : (s : RawSlot) (t : Slot) → IsMadeOf s t → is_superblock t ≡ is_superblock_name s.name
+pub slot_named : (s : RawSlot) (t : Slot) → IsMadeOf s t → is_superblock t ≡ is_superblock_name s.name
 slot_named s t m = ap is_superblock m.made ∙ sym (ap is_superblock_name m.name_is)
 
 inline_some : (u : ℕ × List ℕ) (bytes : List ℕ) → struct_of_type_and_bytes u.0 u.1 ≡ Inline bytes → inline_struct_bytes (Some u) ≡ Some bytes
@@ -206,15 +206,18 @@ pub first_begins : (disk : Disk) (bytes : List ℕ) (slots : List Slot) → IsSu
 first_begins disk bytes [] h start = absurd start
 first_begins disk bytes (s ∷ slots) h start = (start.0, (bytes, (start.1, record { len = refl; version = h.version; rest = refl })))
 
--- a struct that repeats the disk's is one of the disk's, too
-struct_again : (disk : Disk) (bytes own : List ℕ) → IsSuperblockStruct disk bytes → IsSameSuperblockStruct disk.profile.versions bytes own → IsSuperblockStruct disk own
-struct_again disk bytes own h same = record {
-  len = same.len ∙ h.len;
-  version = same.version;
-  block_size = ap (λ (b : List ℕ). (pair_address_of_bytes b).0) same.rest ∙ h.block_size;
-  block_count = ap (λ (b : List ℕ). (pair_address_of_bytes b).0) (sym (drop-drop 4 4 own) ∙ ap (drop 4) same.rest ∙ drop-drop 4 4 bytes) ∙ h.block_count;
-}
+-- the slot with the struct
+pub begins_struct : (bytes : List ℕ) (slots : List Slot) → BeginsWithStruct bytes slots → (s : Slot) × ((slice_get slots 0 ≡ Some s) × (s.struct ≡ Inline bytes))
+begins_struct bytes [] start = absurd start
+begins_struct bytes (s ∷ slots) start = (s, (refl, start.1))
 
-pub own_struct : (disk : Disk) (bytes : List ℕ) (slots : List Slot) → IsSuperblockStruct disk bytes → BeginsWithSuperblockSlot disk.profile.versions bytes slots → (own : List ℕ) × (BeginsWithStruct own slots × IsSuperblockStruct disk own)
-own_struct disk bytes [] h start = absurd start
-own_struct disk bytes (s ∷ slots) h (named, (own, (is, same))) = (own, ((named, is), struct_again disk bytes own h same))
+-- a superblock of the disk in slot 0
+pub first_of_disk : (disk : Disk) (slots : List Slot) (s : Slot) → slice_get slots 0 ≡ Some s → (is : IsSuperblockOfDisk disk s) → IsFirst disk.profile.versions disk.block_size (block_count disk) is.bytes slots
+first_of_disk disk [] s e is = absurd (cc)
+first_of_disk disk (x ∷ slots) s e is =
+    let same = same_Some x s e in
+    record {
+      start = (ap is_superblock same ∙ is.kind, ap (λ (t : Slot). t.struct) same ∙ is.inline);
+      named = ap (λ (t : Slot). Some t.name) same ∙ ap (λ (n : List ℕ). Some n) is.name;
+      describes = describes_struct disk is.bytes is.struct;
+    }

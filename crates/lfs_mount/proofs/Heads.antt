@@ -1,26 +1,28 @@
 -- How many pairs of the superblock's chain stand in front of the root's first one.
-use Rattle.std.proofs.Common.{ℕ, zero, suc, ◌≡◌, ◌⊎◌, inl, inr, ◌==◌, ◌&&◌, ◌||◌, ◌+◌, ◌-◌, ◌<◌, ◌≤◌, Bool, true, false, cond, List, [], ◌∷◌, ◌++◌, length, drop, take, slice_get, slice_index_or, Option, Some, None, refl, sym, ap, ap₂, subst, ◌∙◌, arith, eqb-true, option_and_then, option_map}
+use Rattle.std.proofs.Common.{ℕ, zero, suc, ◌≡◌, ◌⊎◌, inl, inr, ◌==◌, ◌&&◌, ◌||◌, ◌+◌, ◌-◌, ◌<◌, ◌≤◌, Bool, true, false, cond, List, [], ◌∷◌, ◌++◌, length, drop, slice_get, slice_index_or, Option, Some, None, refl, sym, ap, ap₂, subst, ◌∙◌, arith, eqb-true, option_and_then, option_map}
 use Rattle.std.proofs.lemmas.Bool.{and_from, and_parts, and_right, eqb-false}
 use Rattle.std.proofs.lemmas.List.{length-map}
-use Rattle.std.proofs.lemmas.List.Elements.{recursion_from_All}
 use Rattle.std.proofs.lemmas.Option.{same_Some, slice_get_read, slice_get_within}
 use Rattle.lfs_device.specs.declared.geometry.Geometry.{Geometry}
 use Rattle.lfs_model.specs.Blocks.{Blocks, block_bytes_by_number}
 use Rattle.lfs_model.specs.Content.{current_block_of_pair_at}
 use Rattle.lfs_model.specs.Disk.{Disk, block_bytes_on_disk, block_count}
 use Rattle.lfs_model.specs.History.{DeviceCallEvent}
-use Rattle.lfs_model.specs.Slots.{Slot, Inline}
+use Rattle.lfs_model.specs.Slots.{Slot, Inline, pair_address_of_array}
 use Rattle.lfs_model.specs.Thread as Thread
-use Rattle.lfs_model.specs.Thread.{Pair, first_pair_address, pairs_from_first_with_slots, has_slots, has_no_slot_or_only_superblock, is_hard_tail, has_superblock_in_first_nonempty_pair, starts_with_superblock, starts_with_superblock_or_default_without_slots, pair_count_before_root}
-use Rattle.lfs_model.specs.View.{BeginsWithLogEntry, HasSuperblockIfAnySlot, IsAcceptedImage, first_slot_name, IsSuperblockStruct, superblock_name_log_entry, pairs_of_superblock_chain}
+use Rattle.lfs_model.specs.Thread.{Pair, first_pair_address, pairs_from_first_with_slots, has_slots, has_no_slot_or_only_superblock, is_hard_tail, has_superblock_in_first_nonempty_pair, starts_with_superblock, starts_with_superblock_or_default_without_slots, pair_count_before_root, pairs_from_root_directory_on}
+use Rattle.lfs_model.specs.View.{BeginsWithLogEntry, HasSuperblockStruct, first_pair_slots, first_slot_name, IsSuperblockStruct, superblock_name_log_entry}
+use Rattle.lfs_model.specs.Violations.{BreaksPairs, HasFirstSlot, first_address_with_slots}
 use Rattle.lfs_model.specs.declared.limits.AcceptedVersions.{AcceptedVersions}
+use Rattle.lfs_model.specs.declared.violations.Violation.{Violation}
+use Rattle.lfs_model.specs.declared.violations.Violation.TheVariants as violation
 use Rattle.lfs_model.proofs.Counts.{Each}
-use Rattle.lfs_model.proofs.Superblocks.{meets_first, meets_from, meets_starting}
+use Rattle.lfs_model.proofs.Superblocks.{meets_from, meets_starting}
 use Rattle.lfs_tag.specs.ContentView.{tail_view}
 use Rattle.lfs_thread.specs.Kept.{ArePairHeadersOnDisk, PairHeader, pairs_of_headers}
 use Rattle.lfs_mount.specs.Checked.{BeginsWithSuperblockSlot, HasSuperblockSlotAlone, HasAtMostSuperblockSlot}
-use Rattle.lfs_mount.specs.SuperblockChain.{AreHeadersOfDiskThread, HasSuperblockChainOfLength, IsSuperblockStructInBlock, number_of_first_pair_with_nonzero_slot_count, superblock_chain_may_continue_after, first_slot_repeats_superblock, block_repeats_superblock, superblock_struct_in_first_slot}
-use Rattle.lfs_mount.proofs.FirstSlots.{IsFirst, describes_struct, first_begins, first_found, first_is, own_struct, repeats_false, repeats_none, repeats_true, struct_described}
+use Rattle.lfs_mount.specs.SuperblockChain.{AreHeadersOfDiskThread, BreaksFirstSuperblock, HasSuperblockChainOfLength, IsSuperblockStructInBlock, number_of_first_pair_with_nonzero_slot_count, superblock_chain_may_continue_after, first_slot_repeats_superblock, block_repeats_superblock, superblock_struct_in_block_log, superblock_struct_in_first_slot}
+use Rattle.lfs_mount.proofs.FirstSlots.{IsFirst, begins_struct, first_begins, first_found, first_is, first_of_disk, repeats_false, repeats_none, repeats_true, struct_described}
 use Rattle.lfs_mount.proofs.Headers.{IsSeen, header_at, pair_at, pair_of, seen_from}
 
 -- ---- pairs of the superblock's chain
@@ -179,68 +181,23 @@ split v bytes (suc k) (p ∷ ps) l =
     let s = split v bytes k ps l.1 in
     record { chain = p ∷ s.chain; p = s.p; rest = s.rest; parts = ap (λ (qs : List Pair). p ∷ qs) s.parts; chain_is = ap suc s.chain_is; bare = (l.0.0, s.bare); start = s.start }
 
--- ---- an accepted image's superblocks
+-- ---- the first slot
 
-each_at : (P : Pair → Type 0) (n : ℕ) (ps : List Pair) (k : ℕ) (p : Pair) → k < n → slice_get ps k ≡ Some p → Each P (take n ps) → P p
-each_at P n [] k p low e h = absurd (cc)
-each_at P zero (x ∷ ps) k p low e h = absurd (omega arith)
-each_at P (suc n) (x ∷ ps) zero p low e h = subst P (same_Some x p e) h.0
-each_at P (suc n) (x ∷ ps) (suc k) p low e h = each_at P n ps k p (omega arith) e h.1
+-- the superblock's struct in the first slot of all
+abbrev pub IsFirstStruct : List Pair → List ℕ → Type 0
+IsFirstStruct ps bytes = (s : Slot) × (HasFirstSlot ps s × (s.struct ≡ Inline bytes))
 
-start_of : (v : AcceptedVersions) (bytes : List ℕ) (slots : List Slot) → (slots ≡ [] → ⊥) → HasSuperblockIfAnySlot v bytes slots → BeginsWithSuperblockSlot v bytes slots
-start_of v bytes [] some h = absurd (some refl)
-start_of v bytes (s ∷ slots) some h = (h.0, h.1)
-
--- two structs that one slot repeats are the same but for their versions, so what repeats one repeats the other
-other_start : (v : AcceptedVersions) (a b : List ℕ) (slots more : List Slot) → BeginsWithSuperblockSlot v a slots → BeginsWithSuperblockSlot v b slots → BeginsWithSuperblockSlot v a more → BeginsWithSuperblockSlot v b more
-other_start v a b [] more h k l = absurd h
-other_start v a b (s ∷ slots) [] h k l = absurd l
-other_start v a b (s ∷ slots) (t ∷ more) (named, (x, (x_is, x_same))) (again, (y, (y_is, y_same))) (starts, (z, (z_is, z_same))) =
-    let e : x ≡ y = let f : Inline x ≡ Inline y = sym x_is ∙ y_is in cc in (
-      starts,
-      (
-        z,
-        (
-          z_is,
-          record {
-            len = z_same.len ∙ sym x_same.len ∙ ap length e ∙ y_same.len;
-            version = z_same.version;
-            rest = z_same.rest ∙ sym x_same.rest ∙ ap (drop 4) e ∙ y_same.rest;
-          },
-        ),
-      ),
-    )
-
-has_some : (v : AcceptedVersions) (bytes : List ℕ) (slots : List Slot) → BeginsWithSuperblockSlot v bytes slots → slots ≡ [] → ⊥
-has_some v bytes [] h e = h
-has_some v bytes (s ∷ slots) h e = cc
+some_first : (slots : List Slot) → (slots ≡ [] → ⊥) → (s : Slot) × (slice_get slots 0 ≡ Some s)
+some_first [] some = absurd (some refl)
+some_first (s ∷ slots) some = (s, refl)
 
 starting_some : (slots : List Slot) → starts_with_superblock slots ≡ true → slots ≡ [] → ⊥
 starting_some [] h e = cc
 starting_some (s ∷ slots) h e = cc
 
--- a pair of the chain that has a slot has the struct
-held : (disk : Disk) (ps : List Pair) (a : IsAcceptedImage disk ps) (k : ℕ) (p : Pair) → k ≤ pair_count_before_root ps → slice_get ps k ≡ Some p → (p.content.slots ≡ [] → ⊥) → BeginsWithSuperblockSlot disk.profile.versions a.superblock.0 p.content.slots
-held disk ps a k p low e some = start_of disk.profile.versions a.superblock.0 p.content.slots some
-    (each_at (λ (q : Pair). HasSuperblockIfAnySlot disk.profile.versions a.superblock.0 q.content.slots) (pair_count_before_root ps + 1) ps k p (omega arith) e
-    (recursion_from_All (λ (q : Pair). HasSuperblockIfAnySlot disk.profile.versions a.superblock.0 q.content.slots) (pairs_of_superblock_chain ps) a.superblock.1.1))
-
-get_some : (ps : List Pair) (k : ℕ) (v : AcceptedVersions) (bytes : List ℕ) → Led v bytes k ps → (p : Pair) × (slice_get ps k ≡ Some p)
-get_some [] k v bytes l = absurd l
-get_some (x ∷ ps) zero v bytes l = (x, refl)
-get_some (x ∷ ps) (suc k) v bytes l = get_some ps k v bytes l.1
-
--- the next pair has a superblock with another struct
-refused : (disk : Disk) (bytes : List ℕ) (root n : ℕ) (ps : List Pair) (q : Pair) → Led disk.profile.versions bytes root ps → root ≤ n → Linked disk.profile.versions bytes n ps → slice_get ps n ≡ Some q → starts_with_superblock q.content.slots ≡ true
-    → (BeginsWithSuperblockSlot disk.profile.versions bytes q.content.slots → ⊥) → IsAcceptedImage disk ps → ⊥
-refused disk bytes root n ps q led low linked e starts other a =
-    let v = disk.profile.versions in
-    let first = get_some ps root v bytes led in
-    let start = led_start v bytes root ps first.0 led first.1 in
-    let meets = ap has_superblock_in_first_nonempty_pair (dropped ps n q e) ∙ meets_starting q (drop (suc n) ps) starts in
-    let all = linked_before v bytes n ps linked meets in
-    other (other_start v a.superblock.0 bytes first.0.content.slots q.content.slots (held disk ps a root first.0 (omega arith) first.1 (has_some v bytes first.0.content.slots start)) start
-    (held disk ps a n q (omega arith) e (starting_some q.content.slots starts)))
+starting_so : (v : AcceptedVersions) (bytes : List ℕ) (slots : List Slot) (s : Slot) → slice_get slots 0 ≡ Some s → starts_with_superblock slots ≡ true → HasSuperblockStruct v bytes s → BeginsWithSuperblockSlot v bytes slots
+starting_so v bytes [] s e starts h = absurd (cc)
+starting_so v bytes (x ∷ slots) s e starts h = (starts, subst (HasSuperblockStruct v bytes) (sym (same_Some x s e)) h)
 
 -- ---- headers
 
@@ -261,13 +218,12 @@ step_at hs index h next low high e f =
       there = subst (λ i. slice_get hs i ≡ Some next) is (slice_get_read hs (length hs) index next refl high f);
     }
 
--- the same of another geometry, and of blocks, bytes and headers, that are the same
-pub same_block : (was now : Geometry) (blocks then : Blocks) (bytes read : List ℕ) (h k : PairHeader) (o : Option Bool) → now ≡ was → then ≡ blocks → read ≡ bytes → h ≡ k
-    → block_repeats_superblock now.profile.versions read (block_bytes_by_number then k.active) ≡ o → block_repeats_superblock was.profile.versions bytes (block_bytes_by_number blocks h.active) ≡ o
-same_block was now blocks then bytes read h k o g b r e f =
-    ap (λ (x : PairHeader). block_repeats_superblock was.profile.versions bytes (block_bytes_by_number blocks x.active)) e
-    ∙ ap₂ (λ (x : Blocks) (y : List ℕ). block_repeats_superblock was.profile.versions y (block_bytes_by_number x k.active)) (sym b) (sym r)
-    ∙ ap (λ (x : Geometry). block_repeats_superblock x.profile.versions read (block_bytes_by_number then k.active)) (sym g) ∙ f
+-- the same of another geometry, and of blocks and bytes that are the same
+pub same_block : (was now : Geometry) (blocks then : Blocks) (bytes read : List ℕ) (h : PairHeader) (o : Option Bool) → now ≡ was → then ≡ blocks → read ≡ bytes
+    → block_repeats_superblock now.profile.versions read (block_bytes_by_number then h.active) ≡ o → block_repeats_superblock was.profile.versions bytes (block_bytes_by_number blocks h.active) ≡ o
+same_block was now blocks then bytes read h o g b r f =
+    ap₂ (λ (x : Blocks) (y : List ℕ). block_repeats_superblock was.profile.versions y (block_bytes_by_number x h.active)) (sym b) (sym r)
+    ∙ ap (λ (x : Geometry). block_repeats_superblock x.profile.versions read (block_bytes_by_number then h.active)) (sym g) ∙ f
 
 -- the first one of a pair that has a slot, with pairs of the chain in front of it
 record IsFilled (disk : Disk) (hs : List PairHeader) (k : ℕ) (bytes : List ℕ) : Type 0 where
@@ -442,24 +398,41 @@ module _ (disk : Disk) (history : List DeviceCallEvent) (hs : List PairHeader) (
       ends filled is = w.ends p p_at (goes ∙ meets ∙ meets_slots q.content.slots (is_hard_tail q.content.tail && has_superblock_in_first_nonempty_pair (drop (suc (suc s.k)) ps)) (some filled)
           ∙ repeats_false v bytes seen_next.held.slots q.content.slots seen_next.slots (sym repeats ∙ is))
 
-      pub fails : block_repeats_superblock v bytes (block_bytes_on_disk disk next.active) ≡ None → IsAcceptedImage disk ps → ⊥
-      fails is a =
+      -- a superblock with another struct
+      pub differs : IsFirstStruct ps bytes → block_repeats_superblock v bytes (block_bytes_on_disk disk next.active) ≡ None → BreaksPairs disk ps (violation.OtherSuperblock next.blocks)
+      differs first is =
           let other = repeats_none v bytes seen_next.held.slots q.content.slots seen_next.slots (sym repeats ∙ is) in
-          refused disk bytes root (suc s.k) ps q w.led (let b = w.below in omega arith) linked q_at other.0 other.1 a
+          let own = some_first q.content.slots (starting_some q.content.slots other.0) in
+          let before = linked_before v bytes (suc s.k) ps linked (meets ∙ meets_slots q.content.slots (is_hard_tail q.content.tail && has_superblock_in_first_nonempty_pair (drop (suc (suc s.k)) ps)) (starting_some q.content.slots other.0) ∙ other.0) in
+          record {
+            index = suc s.k;
+            pair = q;
+            there = q_at;
+            at_is = refl;
+            in_chain = omega (arith, before);
+            slot = own.0;
+            slot_is = own.1;
+            first = first.0;
+            first_is = first.1.0;
+            bytes = bytes;
+            inline = first.1.1;
+            differs = λ h. other.1 (starting_so v bytes q.content.slots own.0 own.1 other.0 h);
+          }
 
   -- ---- the first header of a pair that has a slot, as it is read
 
-  pub refused_none : number_of_first_pair_with_nonzero_slot_count hs ≡ None → IsAcceptedImage disk ps → ⊥
-  refused_none none a = let e = sym (meets_from ps a.root) ∙ none_filled disk history hs has.each none in cc
+  pub no_superblock : number_of_first_pair_with_nonzero_slot_count hs ≡ None → BreaksPairs disk ps violation.NoSuperblock
+  no_superblock none = go (starts_with_superblock (first_pair_slots (pairs_from_root_directory_on ps))) refl
+    where
+      go : (b : Bool) → starts_with_superblock (first_pair_slots (pairs_from_root_directory_on ps)) ≡ b → b ≡ false
+      go true starts = absurd (let e = sym (meets_from ps starts) ∙ none_filled disk history hs has.each none in cc)
+      go false starts = refl
 
   module _ (k : ℕ) (found : number_of_first_pair_with_nonzero_slot_count hs ≡ Some k) where
     pub within_first : k < length hs
     within_first = let f = filled disk history [] hs k has.each found in slice_get_within hs k f.header f.here
 
     module _ (h : PairHeader) (is : h ≡ slice_index_or hs k h) where
-      pub active_within : (slice_index_or hs k h).active < block_count disk
-      active_within = subst (λ (x : PairHeader). x.active < block_count disk) is (header_at disk history hs k h has.each (slice_get_read hs (length hs) k h refl within_first is)).active
-
       here : slice_get hs k ≡ Some h
       here = slice_get_read hs (length hs) k h refl within_first is
 
@@ -471,6 +444,9 @@ module _ (disk : Disk) (history : List DeviceCallEvent) (hs : List PairHeader) (
 
       abbrev first_seen : IsSeen disk h
       first_seen = header_at disk history hs k h has.each here
+
+      pub active_within : h.active < block_count disk
+      active_within = first_seen.active
 
       abbrev f : (bytes : List ℕ) → IsFilled disk hs k bytes
       f bytes = filled disk history bytes hs k has.each found
@@ -490,17 +466,14 @@ module _ (disk : Disk) (history : List DeviceCallEvent) (hs : List PairHeader) (
       held_first : current_block_of_pair_at disk (first_pair_address (pairs_from_first_with_slots ps)) ≡ Some (block_bytes_on_disk disk h.active)
       held_first = ap (λ (qs : List Pair). current_block_of_pair_at disk (first_pair_address qs)) from ∙ first_seen.holds
 
-      -- the superblock that its block has, by the header as it is read
+      -- the superblock that its block has
       abbrev pub HasFound : List ℕ → Type 0
-      HasFound bytes = IsSuperblockStructInBlock disk (slice_index_or hs k h).active bytes
-
-      there : (bytes : List ℕ) → HasFound bytes → IsSuperblockStructInBlock disk h.active bytes
-      there bytes s = subst (λ (z : PairHeader). IsSuperblockStructInBlock disk z.active bytes) (sym is) s
+      HasFound bytes = IsSuperblockStructInBlock disk h.active bytes
 
       is_first : (bytes : List ℕ) → HasFound bytes → IsFirst v disk.block_size (block_count disk) bytes (pair_of disk h).content.slots
       is_first bytes s =
           first_found v disk.block_size (block_count disk) first_seen.held.slots (pair_of disk h).content.slots bytes first_seen.slots
-          (sym (ap (option_and_then (λ c. superblock_struct_in_first_slot v disk.block_size (block_count disk) c.slots)) first_seen.log) ∙ (there bytes s).struct)
+          (sym (ap (option_and_then (λ c. superblock_struct_in_first_slot v disk.block_size (block_count disk) c.slots)) first_seen.log) ∙ s.struct)
 
       struct_read : (bytes : List ℕ) → HasFound bytes → IsSuperblockStruct disk bytes
       struct_read bytes s = struct_described disk bytes (is_first bytes s).describes
@@ -512,20 +485,40 @@ module _ (disk : Disk) (history : List DeviceCallEvent) (hs : List PairHeader) (
       begun bytes s = subst (λ n. IsWalked v bytes ps k n) (omega arith)
           (walked_at v bytes k ps (led_from v bytes k ps (pair_of disk h) (linked_first bytes) first_pair (first_begins disk bytes (pair_of disk h).content.slots (struct_read bytes s) (is_first bytes s).start)))
 
-      pub refused_first : ((bytes : List ℕ) → HasFound bytes → ⊥) → IsAcceptedImage disk ps → ⊥
-      refused_first never a =
-          let bytes = a.superblock.0 in
-          let starts = meets_first ps (pair_of disk h) (f []).rest from (meets_from ps a.root) in
-          let meets = ap has_superblock_in_first_nonempty_pair (dropped ps k (pair_of disk h) first_pair) ∙ meets_starting (pair_of disk h) (drop (suc k) ps) starts in
-          let all = linked_before v bytes k ps (linked_first bytes) meets in
-          let (own, (start, struct)) = own_struct disk bytes (pair_of disk h).content.slots a.superblock.1.0 (held disk ps a k (pair_of disk h) (omega arith) first_pair some_slot) in
-          let first_is_so : IsFirst v disk.block_size (block_count disk) own (pair_of disk h).content.slots =
-          record { start = start; named = ap first_slot_name (sym from) ∙ a.named; describes = describes_struct disk own struct } in
-          never own (subst (λ (z : PairHeader). IsSuperblockStructInBlock disk z.active own) is (record {
-            begins = subst (λ o. BeginsWithLogEntry o superblock_name_log_entry) held_first a.first;
-            struct = ap (option_and_then (λ c. superblock_struct_in_first_slot v disk.block_size (block_count disk) c.slots)) first_seen.log
-                ∙ first_is v disk.block_size (block_count disk) first_seen.held.slots (pair_of disk h).content.slots own first_seen.slots first_is_so;
-          }))
+      -- ---- it has none
+
+      at_first : first_address_with_slots ps ≡ pair_address_of_array h.blocks
+      at_first = ap first_pair_address from
+
+      -- the log begins with another entry
+      pub other_entry : (BeginsWithLogEntry (Some (block_bytes_on_disk disk h.active)) superblock_name_log_entry → ⊥) → BreaksPairs disk ps (violation.FirstEntry h.blocks)
+      other_entry not = (at_first, λ begins. not (subst (λ o. BeginsWithLogEntry o superblock_name_log_entry) first_seen.holds begins))
+
+      -- slot 0 is no superblock of the disk
+      pub no_struct : superblock_struct_in_block_log v disk.block_size (block_count disk) (block_bytes_on_disk disk h.active) ≡ None → BreaksPairs disk ps (violation.Superblock h.blocks)
+      no_struct none =
+          let own = some_first (pair_of disk h).content.slots some_slot in (
+            at_first,
+            own.0,
+            (
+              ap (λ (qs : List Pair). slice_get (first_pair_slots qs) 0) from ∙ own.1,
+              λ is_so.
+                  let some = ap (option_and_then (λ c. superblock_struct_in_first_slot v disk.block_size (block_count disk) c.slots)) first_seen.log
+                  ∙ first_is v disk.block_size (block_count disk) first_seen.held.slots (pair_of disk h).content.slots is_so.bytes first_seen.slots (first_of_disk disk (pair_of disk h).content.slots own.0 own.1 is_so) in
+                  let clash : Some is_so.bytes ≡ None = sym some ∙ none in cc,
+            ),
+          )
+
+      -- the violation that its block shows
+      pub first_breaks : (broken : Violation) → BreaksFirstSuperblock disk h broken → BreaksPairs disk ps broken
+      first_breaks (violation.FirstEntry pair) (same, not) = subst (λ at. BreaksPairs disk ps (violation.FirstEntry at)) (sym same) (other_entry not)
+      first_breaks (violation.Superblock pair) (same, none) = subst (λ at. BreaksPairs disk ps (violation.Superblock at)) (sym same) (no_struct none)
+      first_breaks _ b = absurd b
+
+      pub first_struct : (bytes : List ℕ) → HasFound bytes → IsFirstStruct ps bytes
+      first_struct bytes s =
+          let own = begins_struct bytes (pair_of disk h).content.slots (is_first bytes s).start in
+          (own.0, (ap (λ (qs : List Pair). slice_get (first_pair_slots qs) 0) from ∙ own.1.0, own.1.1))
 
       -- ---- the head
 
@@ -543,7 +536,7 @@ module _ (disk : Disk) (history : List DeviceCallEvent) (hs : List PairHeader) (
             bytes = bytes;
             head = record {
               first = subst (λ (qs : List Pair). BeginsWithLogEntry (current_block_of_pair_at disk (first_pair_address (pairs_from_first_with_slots qs))) superblock_name_log_entry) apart.parts
-                  (subst (λ o. BeginsWithLogEntry o superblock_name_log_entry) (sym held_first) (there bytes s).begins);
+                  (subst (λ o. BeginsWithLogEntry o superblock_name_log_entry) (sym held_first) s.begins);
               named = ap (λ (qs : List Pair). first_slot_name (pairs_from_first_with_slots qs)) (sym apart.parts) ∙ ap first_slot_name from ∙ d.named;
               struct = struct_read bytes s;
               bare = apart.bare;

@@ -6,8 +6,10 @@ use Rattle.lfs_model.specs.History.{DeviceCallEvent}
 use Rattle.lfs_model.specs.Slots.{Gstate}
 use Rattle.lfs_model.specs.View.{IsSuperblockStruct}
 use Rattle.lfs_model.specs.declared.order.NameOrder.{NameOrder}
+use Rattle.lfs_model.specs.declared.violations.Violation.{Violation}
+use Rattle.lfs_model.specs.declared.violations.Violation.TheVariants as violation
 use Rattle.lfs_thread.specs.Kept.{ArePairHeadersOnDisk, PairHeader, IsPairHeaderOnDisk, IsKeptThreadOnDisk, pairs_of_headers}
-use Rattle.lfs_mount.specs.SuperblockChain.{AreHeadersOfDiskThread, HasSuperblockChainOfLength}
+use Rattle.lfs_mount.specs.SuperblockChain.{AreHeadersOfDiskThread, BreaksFirstSuperblock, HasSuperblockChainOfLength}
 use Rattle.lfs_mount.specs.Members.{IsThreadReadFromDisk}
 
 module _ (order : NameOrder) (disk : Disk) where
@@ -39,6 +41,11 @@ module _ (order : NameOrder) (disk : Disk) where
 
   pub read_in : (history : List DeviceCallEvent) (hs : List PairHeader) (sets : BlockStateList) (g : Gstate) → IsThreadReadFromDisk disk history hs sets g → IsThreadReadFromDisk (disk_in_order order disk) history hs sets g
   read_in history hs sets g r = record { kept = kept_in history hs sets r.kept; thread = r.thread; used = r.used; none_in_flight = r.none_in_flight; global = r.global }
+
+  pub first_breaks_in : (h : PairHeader) (broken : Violation) → BreaksFirstSuperblock disk h broken → BreaksFirstSuperblock (disk_in_order order disk) h broken
+  first_breaks_in h (violation.FirstEntry pair) b = b
+  first_breaks_in h (violation.Superblock pair) b = b
+  first_breaks_in h _ b = absurd b
 
   struct_in : (bytes : List ℕ) → IsSuperblockStruct disk bytes → IsSuperblockStruct (disk_in_order order disk) bytes
   struct_in bytes s = record { len = s.len; version = s.version; block_size = s.block_size; block_count = s.block_count }

@@ -6,7 +6,9 @@ use Rattle.lfs_model.specs.Disk.{Disk}
 use Rattle.lfs_model.specs.History.{DeviceCallEvent}
 use Rattle.lfs_model.specs.Slots.{Gstate, Slot, gstate_xor, zero_gstate, same_pair}
 use Rattle.lfs_model.specs.Thread.{Pair, gstate_of_pairs, has_no_slot_or_only_superblock, is_hard_tail, may_superblock_chain_continue_after_pair, has_superblock_in_first_nonempty_pair, pair_count_before_root, id_of_moved_slot_in_pair}
-use Rattle.lfs_model.specs.View.{IsAcceptedImage, IsFileOrDirectoryEntry, HasValidMoveOrNone, IsSomeSlotButNotSuperblock}
+use Rattle.lfs_model.specs.View.{IsFileOrDirectoryEntry, HasValidMoveOrNone, IsSomeSlotButNotSuperblock}
+use Rattle.lfs_model.specs.Violations.{BreaksPairs}
+use Rattle.lfs_model.specs.declared.violations.Violation.TheVariants as violation
 use Rattle.lfs_model.proofs.Counts.{Each}
 use Rattle.lfs_model.proofs.Sites.{IsTrueOfSomeElement, among_from, among_parts, among_right, any_from}
 use Rattle.lfs_model.proofs.Superblocks.{IsChain, entry_is_other}
@@ -80,7 +82,7 @@ pub known_right : (g : Gstate) (headers : List PairHeader) (chain : List Pair) (
     → HasEntryAtSlotNamedBySetMove g (p ∷ rest) → HasValidMoveOrNone (chain ++ p ∷ rest) g
 known_right g headers chain p rest has e h = move_right g chain (p ∷ rest) (ap (is_move_none_or_at_addresses g) has.at ∙ e) h
 
--- ---- the move of an accepted image names one of the directories' pairs
+-- ---- a valid move names one of the directories' pairs
 
 -- a pair of the superblock's chain in front of the root's first one has no slot, or the superblock alone
 have_bare : (chain : List Pair) (p : Pair) (rest : List Pair) → IsChain chain (p ∷ rest) → Each (λ q. has_no_slot_or_only_superblock q.content.slots ≡ true) chain
@@ -103,9 +105,8 @@ none_named g [] bare k = k
 none_named g (c ∷ chain) bare (inl k) = no_other c.content.slots g.id bare.0 k.1
 none_named g (c ∷ chain) bare (inr k) = none_named g chain bare.1 k
 
-move_known : (g : Gstate) (disk : Disk) (chain : List Pair) (p : Pair) (rest : List Pair) → IsChain chain (p ∷ rest) → IsAcceptedImage disk (chain ++ p ∷ rest) → gstate_of_pairs (chain ++ p ∷ rest) ≡ g
-    → is_move_none_or_at_addresses g (map (λ q. q.at) (p ∷ rest)) ≡ true
-move_known g disk chain p rest is a e = go (subst (HasValidMoveOrNone (chain ++ p ∷ rest)) e a.move)
+move_known : (g : Gstate) (chain : List Pair) (p : Pair) (rest : List Pair) → IsChain chain (p ∷ rest) → HasValidMoveOrNone (chain ++ p ∷ rest) g → is_move_none_or_at_addresses g (map (λ q. q.at) (p ∷ rest)) ≡ true
+move_known g chain p rest is valid = go valid
   where
     named : IsTrueOfSomeElement (Named g) chain ⊎ IsTrueOfSomeElement (Named g) (p ∷ rest) → is_pair_among_addresses g.pair (map (λ q. q.at) (p ∷ rest)) ≡ true
     named (inl k) = absurd (none_named g chain (have_bare chain p rest is) k)
@@ -124,10 +125,10 @@ move_known g disk chain p rest is a e = go (subst (HasValidMoveOrNone (chain ++ 
         either true y f = refl
         either false y f = f
 
-pub unknown_refused : (g : Gstate) (headers : List PairHeader) (disk : Disk) (chain : List Pair) (p : Pair) (rest : List Pair) → AreDirectoryHeadersWithGstate g headers chain p rest → is_move_none_or_at_addresses g (map pair_address_in_header headers) ≡ false
-    → IsAcceptedImage disk (chain ++ p ∷ rest) → ⊥
-unknown_refused g headers disk chain p rest has e a = absurd (
-    let known = move_known g disk chain p rest has.chain_is a has.global in
+pub unknown_breaks : (g : Gstate) (headers : List PairHeader) (disk : Disk) (chain : List Pair) (p : Pair) (rest : List Pair) → AreDirectoryHeadersWithGstate g headers chain p rest → is_move_none_or_at_addresses g (map pair_address_in_header headers) ≡ false
+    → BreaksPairs disk (chain ++ p ∷ rest) violation.Move
+unknown_breaks g headers disk chain p rest has e = λ valid. absurd (
+    let known = move_known g chain p rest has.chain_is (subst (HasValidMoveOrNone (chain ++ p ∷ rest)) has.global valid) in
     let clash : true ≡ false = sym known ∙ ap (is_move_none_or_at_addresses g) has.at ∙ e in cc)
 
 -- ---- the headers of the directories' pairs are those behind the superblock's

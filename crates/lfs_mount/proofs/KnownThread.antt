@@ -33,7 +33,7 @@ member_is : (disk : Disk) (history : List DeviceCallEvent) (g : Gstate) (first :
     → IsDescriptionOfPairOnDisk disk g first (pair_of disk h) (pair_description_of_header g first h)
 member_is disk history g first h are starts =
     let s = seen_from disk history h are.0 in
-    record { content = s.content; within = s.active; active = s.holds; hard = s.hard; first = refl; starts = starts; moved = refl }
+    record { at = refl; content = s.content; within = s.active; active = s.holds; hard = s.hard; first = refl; starts = starts; moved = refl }
 
 members_are : (disk : Disk) (history : List DeviceCallEvent) (g : Gstate) (hs : List PairHeader) → ArePairHeadersOnDisk disk history hs → AreDescriptionsOfPairsOnDisk disk g false (pairs_of_headers disk hs) (pair_descriptions_of_headers g false hs)
 members_are disk history g [] are = tt

@@ -21,13 +21,15 @@ pub mod Accepts
 pub mod Ending
 pub mod ReadImages
 pub mod Refuses
+pub mod SlotCounts
+pub mod Breaking
 pub mod Within
 pub mod Called
 pub mod ReadCounts
 pub mod FirstSlots
 pub mod Headers
 pub mod Heads
-pub mod Reported
+pub mod Unaccepted
 pub mod KnownMoves
 pub mod KnownThread
 pub mod Mounts

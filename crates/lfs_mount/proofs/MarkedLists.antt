@@ -1,7 +1,7 @@
 -- The lists of slots, marked one behind the other.
-use Rattle.std.proofs.Common.{ℕ, ◌≡◌, ◌+◌, List, [], ◌∷◌, ◌++◌, length, map, take, drop, Option, Some, None, refl, sym, ap, subst, ◌∙◌, arith, slice_get, option_and_then, append-nil, flat_map}
+use Rattle.std.proofs.Common.{ℕ, ◌≡◌, ◌+◌, List, [], ◌∷◌, ◌++◌, map, take, Option, Some, None, refl, sym, ap, subst, ◌∙◌, arith, slice_get, option_and_then, append-nil, flat_map}
 use Rattle.std.specs.List.{cons_option}
-use Rattle.std.proofs.lemmas.List.{take-append-drop, take_more, map-append}
+use Rattle.std.proofs.lemmas.List.{take_more, map-append}
 use Rattle.std.proofs.lemmas.List.Concat.{flat_map-append}
 use Rattle.std.proofs.lemmas.List.Elements.{filter_map-append, All-append, All-cons, All-from_recursion, recursion_from_All}
 use Rattle.lfs_model.proofs.Counts.{each_left, each_right}
@@ -15,7 +15,6 @@ use Rattle.lfs_tag.specs.ContentView.{slot_view}
 use Rattle.lfs_mount.specs.Entries.{directory_entry_of_raw_slot}
 use Rattle.lfs_mount.specs.Marking.{MarksFreeBlocksUsed, MarksFreeBlocksOfList, MarksFreeBlocksOfLists, skip_list_of_entry, file_lists_of_raw_slots, skip_list_blocks_from_last_to_first}
 use Rattle.lfs_mount.specs.ListsView.{file_lists_view}
-use Rattle.lfs_mount.proofs.Found.{get_left, get_right}
 
 -- ---- marks over joined lists
 
@@ -73,28 +72,3 @@ lists_more disk slots i s l old mid new e f h k = subst (λ ls. MarksFreeBlocksO
   marked = subst (λ bs. MarksFreeBlocksUsed old bs new) (sym (flat_map-append (skip_list_blocks_from_last_to_first disk) (file_lists_view (take i slots)) (l ∷ []) ∙ ap (λ bs. flat_map (skip_list_blocks_from_last_to_first disk) (file_lists_view (take i slots)) ++ bs) (append-nil (skip_list_blocks_from_last_to_first disk l))))
       (marks_append (flat_map (skip_list_blocks_from_last_to_first disk) (file_lists_view (take i slots))) (skip_list_blocks_from_last_to_first disk l) old mid new h.marked k.marked);
 })
-
--- one that can't be marked
-pub lists_fail : (disk : Disk) (slots : List Slot) (i : ℕ) (s : Slot) (l : ℕ × ℕ) (old mid new : BlockStateList) → slice_get slots i ≡ Some s → list_view s ≡ Some l → MarksFreeBlocksOfLists disk old (file_lists_view (take i slots)) mid
-    → ((end : BlockStateList) → ¬ MarksFreeBlocksOfList disk mid l end) → MarksFreeBlocksOfLists disk old (file_lists_view slots) new → ⊥
-lists_fail disk slots i s l old mid new e f h fails all =
-    let front : List (ℕ × ℕ) = file_lists_view (take i slots) in
-    let back : List (ℕ × ℕ) = file_lists_view (drop (i + 1) slots) in
-    let parts : file_lists_view slots ≡ (front ++ l ∷ []) ++ back =
-    ap file_lists_view (sym (take-append-drop (i + 1) slots)) ∙ lists-append (take (i + 1) slots) (drop (i + 1) slots) ∙ ap (λ ls. ls ++ back) (lists_next slots i s (Some l) e f) in
-    let at : slice_get (file_lists_view slots) (length front + 0) ≡ Some l =
-    ap (λ ls. slice_get ls (length front + 0)) parts ∙ get_left (front ++ l ∷ []) back (length front + 0) l (get_right front (l ∷ []) 0 l refl) in
-    let list : IsSkipList disk.blocks disk.block_size l.0 l.1 =
-    subst (λ (x : ℕ × ℕ). IsSkipList disk.blocks disk.block_size x.0 x.1) (get_or_from_slice_get (file_lists_view slots) (length front + 0) l l at)
-    (all.lists (length front + 0) l (slice_get_within (file_lists_view slots) (length front + 0) l at)) in
-    let whole : MarksFreeBlocksUsed old ((flat_map (skip_list_blocks_from_last_to_first disk) front ++ skip_list_blocks_from_last_to_first disk l) ++ flat_map (skip_list_blocks_from_last_to_first disk) back) new =
-    subst (λ bs. MarksFreeBlocksUsed old bs new)
-    (ap (flat_map (skip_list_blocks_from_last_to_first disk)) parts ∙ flat_map-append (skip_list_blocks_from_last_to_first disk) (front ++ l ∷ []) back
-    ∙ ap (λ bs. bs ++ flat_map (skip_list_blocks_from_last_to_first disk) back) (flat_map-append (skip_list_blocks_from_last_to_first disk) front (l ∷ []) ∙ ap (λ bs. flat_map (skip_list_blocks_from_last_to_first disk) front ++ bs) (append-nil (skip_list_blocks_from_last_to_first disk l))))
-    all.marked in
-    let first = marks_split (flat_map (skip_list_blocks_from_last_to_first disk) front ++ skip_list_blocks_from_last_to_first disk l) (flat_map (skip_list_blocks_from_last_to_first disk) back) old new whole in
-    let second = marks_split (flat_map (skip_list_blocks_from_last_to_first disk) front) (skip_list_blocks_from_last_to_first disk l) old first.0 first.1 in
-    fails first.0 (record {
-      list = list;
-      marked = subst (λ (m : BlockStateList). MarksFreeBlocksUsed m (skip_list_blocks_from_last_to_first disk l) first.0) (marks_same (flat_map (skip_list_blocks_from_last_to_first disk) front) old second.0 mid second.1 h.marked) second.2;
-    })

@@ -1,9 +1,9 @@
 -- A thread that was read, checked, and is kept again.
-use Rattle.std.proofs.Common.{ℕ, ◌≡◌, ◌++◌, List, [], ◌∷◌, ap₂, length, Result, Ok, Err, sym, ap, subst, ◌∙◌, arith, false}
+use Rattle.std.proofs.Common.{ℕ, ◌≡◌, ◌++◌, List, [], ◌∷◌, ap₂, length, Err, refl, sym, ap, subst, ◌∙◌, arith, false}
 use Rattle.std.specs.Prelude.{Contains}
 use Rattle.lfs_device.specs.declared.device.BlockDevice.{Ghosts}
-use Rattle.lfs_device.specs.declared.error.Error.{Error}
-use Rattle.lfs_device.specs.Calls.{ReadsOnly, ReportsFaults}
+use Rattle.lfs_device.specs.declared.error.Error.TheVariants.{Io}
+use Rattle.lfs_device.specs.Calls.{ReadsOnly}
 use Rattle.lfs_device.specs.Shown.{disk_of_geometry_and_blocks}
 use Rattle.lfs_model.specs.BlockSets.{AreExactlyTheInFlightBlocks, AreExactlyTheUsedBlocks, BlockStateList}
 use Rattle.lfs_model.specs.Content.{content_of_pair_at}
@@ -18,8 +18,12 @@ use Rattle.lfs_model.proofs.Counts.{count_here}
 use Rattle.lfs_model.proofs.Histories.{AreCallsSinceOnlyReads-trans}
 use Rattle.lfs_thread.specs.Device.{GivesDeviceBackOnlyReadWithError}
 use Rattle.lfs_thread.specs.Kept.{AreAllBlocksUsed, PairHeader, IsKeptThreadOnDisk, KeptThread, ThreadView, WasKeptThreadOnDisk, disk_of_device, pairs_of_headers, kept_thread_view}
+use Rattle.lfs_thread.specs.MountErrors.{OnlyReadsUnlessFault, error_of_mount}
+use Rattle.lfs_thread.specs.declared.mount_error.MountError.{MountError}
+use Rattle.lfs_thread.specs.declared.mount_error.MountError.TheVariants as mount
 use Rattle.lfs_mount.specs.Accepted.{MapUsesExactlyTheseBlocks, IsMountedThread}
 use Rattle.lfs_mount.specs.Members.{IsThreadReadFromDisk}
+use Rattle.lfs_mount.proofs.Called.{err_same}
 use Rattle.std.specs.List.{flat_map}
 
 -- ---- before the check
@@ -87,17 +91,16 @@ is_mounted old disk now first history later items hs sets new t from same is bef
 pub disk_now : {D : Type 0} {g : Ghosts D} {old new : D} → ReadsOnly g old new → disk_of_device g new ≡ disk_of_device g old
 disk_now read = ap₂ disk_of_geometry_and_blocks read.geometry read.same
 
-pub ok_reports : {D X : Type 0} {g : Ghosts D} {old new : D} {x : X} → ReportsFaults g old new (Ok x) → fault_count_of_history (g.history new) ≡ fault_count_of_history (g.history old)
-ok_reports reports = reports.no_fault (λ io. absurd (cc))
+io_same : (e : MountError) → error_of_mount e ≡ Io → e ≡ mount.Io
+io_same (mount.Corrupt violation) is = absurd (cc)
+io_same mount.Io is = refl
+io_same mount.NoMemory is = absurd (cc)
 
-err_same : {X : Type 0} {e f : Error} → ◌≡◌ {A = Result X Error} (Err e) (Err f) → e ≡ f
-err_same same = cc
-
-pub given_back : {D X : Type 0} (g : Ghosts D) (old mid back : D) (error : Error) → disk_of_device g mid ≡ disk_of_device g old → AreCallsSinceOnlyReads (g.blocks old) (g.history old) (g.history mid) → fault_count_of_history (g.history mid) ≡ fault_count_of_history (g.history old)
-    → ReadsOnly g mid back → ReportsFaults {X = X} g mid back (Err error) → GivesDeviceBackOnlyReadWithError g old back error
-given_back {X = X} g old mid back error same before none read reports = record {
-  disk = disk_now read ∙ same;
-  reads = AreCallsSinceOnlyReads-trans before read.reads (ap (λ (d : Disk). d.blocks) same);
-  fault = λ io. let rose = reports.fault (ap Err io) in omega (arith, none, rose);
-  no_fault = λ other. reports.no_fault (λ io. other (err_same {X = X} io)) ∙ none;
+pub given_back : {D X : Type 0} (g : Ghosts D) (old mid back : D) (error : MountError) → disk_of_device g mid ≡ disk_of_device g old → AreCallsSinceOnlyReads (g.blocks old) (g.history old) (g.history mid) → fault_count_of_history (g.history mid) ≡ fault_count_of_history (g.history old)
+    → OnlyReadsUnlessFault {X = X} g mid back (Err error) → GivesDeviceBackOnlyReadWithError g old back (error_of_mount error)
+given_back {X = X} g old mid back error same before none reports = record {
+  disk = disk_now reports.device ∙ same;
+  reads = AreCallsSinceOnlyReads-trans before reports.device.reads (ap (λ (d : Disk). d.blocks) same);
+  fault = λ io. let rose = reports.fault (ap Err (io_same error io)) in omega (arith, none, rose);
+  no_fault = λ other. reports.no_fault (λ io. other (ap error_of_mount (err_same {Y = X} io))) ∙ none;
 }

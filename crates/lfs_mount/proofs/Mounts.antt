@@ -1,14 +1,14 @@
 -- From the parts of the check to the image.
-use Rattle.std.proofs.Common.{Bool, ℕ, ◌≡◌, ◌++◌, List, ◌∷◌, drop, sym, ap, subst, ◌∙◌}
+use Rattle.std.proofs.Common.{ℕ, ◌≡◌, inr, ◌++◌, List, ◌∷◌, Option, drop, sym, ap, subst, ◌∙◌}
 use Rattle.lfs_model.specs.BlockSets.{BlockStateList}
-use Rattle.lfs_model.specs.Content.{content_of_pair_at}
-use Rattle.lfs_model.specs.Disk.{Disk, block_count}
+use Rattle.lfs_model.specs.Disk.{Disk}
 use Rattle.lfs_model.specs.History.{DeviceCallEvent}
 use Rattle.lfs_model.specs.Slots.{Gstate}
-use Rattle.lfs_model.specs.Thread.{IsThreadOfMetadataPairs, Pair, gstate_of_pairs}
+use Rattle.lfs_model.specs.Thread.{Pair, gstate_of_pairs}
 use Rattle.lfs_model.specs.View.{IsAcceptedImage, HasValidMoveOrNone}
 use Rattle.lfs_model.specs.Shown.{used_blocks}
-use Rattle.lfs_model.proofs.Uniqueness.{one_thread}
+use Rattle.lfs_model.specs.Violations.{Breaks, BreaksPairs}
+use Rattle.lfs_model.specs.declared.violations.Violation.{Violation}
 use Rattle.lfs_thread.specs.Kept.{PairHeader, pairs_of_headers}
 use Rattle.lfs_mount.specs.Accepted.{HasAcceptedImageIfNameOrderFits, MapUsesExactlyTheseBlocks, IsImageAcceptedIfDirectoriesFitNameOrder}
 use Rattle.lfs_mount.specs.SuperblockChain.{AreHeadersOfDiskThread, HasSuperblockChainOfLength}
@@ -20,10 +20,6 @@ use Rattle.lfs_mount.proofs.KnownThread.{known_thread}
 pub has_headers : (disk : Disk) (history : List DeviceCallEvent) (hs : List PairHeader) (sets : BlockStateList) (g : Gstate) → IsThreadReadFromDisk disk history hs sets g → AreHeadersOfDiskThread disk history hs
 has_headers disk history hs sets g r = record { each = r.kept.each; thread = r.thread }
 
--- there is one thread only
-pub none_accepted : (disk : Disk) (ps : List Pair) → IsThreadOfMetadataPairs (content_of_pair_at disk) (block_count disk) ps → (IsAcceptedImage disk ps → ⊥) → (qs : List Pair) → IsAcceptedImage disk qs → ⊥
-none_accepted disk ps thread not qs a = not (subst (IsAcceptedImage disk) (one_thread (content_of_pair_at disk) (block_count disk) qs ps a.thread thread) a)
-
 module _ (disk : Disk) (history : List DeviceCallEvent) (hs : List PairHeader) (sets : BlockStateList) (g : Gstate) (count : ℕ) (r : IsThreadReadFromDisk disk history hs sets g) (head : HasSuperblockChainOfLength disk (pairs_of_headers disk hs) count) where
   abbrev dirs : List PairHeader
   dirs = drop count hs
@@ -34,31 +30,31 @@ module _ (disk : Disk) (history : List DeviceCallEvent) (hs : List PairHeader) (
   known : IsThreadMatchingMapAndDirectoryHeaders disk sets g dirs head.chain head.p head.rest
   known = known_thread disk history hs sets g count r head
 
-  refused : (IsAcceptedImage disk (head.chain ++ head.p ∷ head.rest) → ⊥) → (qs : List Pair) → IsAcceptedImage disk qs → ⊥
-  refused not = none_accepted disk (pairs_of_headers disk hs) r.thread (λ a. not (subst (IsAcceptedImage disk) head.parts a))
+  -- what the pairs of the thread break, the disk breaks
+  breaks : (violation : Violation) → BreaksPairs disk (head.chain ++ head.p ∷ head.rest) violation → Breaks disk violation
+  breaks violation h = inr (pairs_of_headers disk hs, (r.thread, subst (λ ps. BreaksPairs disk ps violation) (sym head.parts) h))
 
-  pub move_refuses : (xs : List PairHeader) → xs ≡ dirs → ((d : Disk) (chain : List Pair) (p : Pair) (rest : List Pair) → AreDirectoryHeadersWithGstate g xs chain p rest → IsAcceptedImage d (chain ++ p ∷ rest) → ⊥) → (qs : List Pair) → IsAcceptedImage disk qs → ⊥
-  move_refuses xs e not = refused (not disk head.chain head.p head.rest (subst (λ ys. AreDirectoryHeadersWithGstate g ys head.chain head.p head.rest) (sym e) directories))
+  pub move_breaks : (xs : List PairHeader) → xs ≡ dirs → (violation : Violation) → ((d : Disk) (chain : List Pair) (p : Pair) (rest : List Pair) → AreDirectoryHeadersWithGstate g xs chain p rest → BreaksPairs d (chain ++ p ∷ rest) violation) → Breaks disk violation
+  move_breaks xs e violation broken = breaks violation (broken disk head.chain head.p head.rest (subst (λ ys. AreDirectoryHeadersWithGstate g ys head.chain head.p head.rest) (sym e) directories))
 
-  pub pairs_refuse : (now : Disk) → now ≡ disk → (xs : List PairHeader) → xs ≡ dirs
-      → ((chain : List Pair) (p : Pair) (rest : List Pair) → IsThreadMatchingMapAndDirectoryHeaders now sets g xs chain p rest → IsAcceptedImage now (chain ++ p ∷ rest) → ⊥) → (qs : List Pair) → IsAcceptedImage disk qs → ⊥
-  pairs_refuse now same xs e not =
-      refused (λ a. not head.chain head.p head.rest (subst (λ d. IsThreadMatchingMapAndDirectoryHeaders d sets g xs head.chain head.p head.rest) (sym same) (subst (λ ys. IsThreadMatchingMapAndDirectoryHeaders disk sets g ys head.chain head.p head.rest) (sym e) known))
-      (subst (λ d. IsAcceptedImage d (head.chain ++ head.p ∷ head.rest)) (sym same) a))
+  pub pairs_break : (now : Disk) → now ≡ disk → (xs : List PairHeader) → xs ≡ dirs → (violation : Violation)
+      → ((chain : List Pair) (p : Pair) (rest : List Pair) → IsThreadMatchingMapAndDirectoryHeaders now sets g xs chain p rest → BreaksPairs now (chain ++ p ∷ rest) violation) → Breaks disk violation
+  pairs_break now same xs e violation broken = breaks violation (subst (λ d. BreaksPairs d (head.chain ++ head.p ∷ head.rest) violation) same
+      (broken head.chain head.p head.rest (subst (λ d. IsThreadMatchingMapAndDirectoryHeaders d sets g xs head.chain head.p head.rest) (sym same) (subst (λ ys. IsThreadMatchingMapAndDirectoryHeaders disk sets g ys head.chain head.p head.rest) (sym e) known))))
 
   pub has_image : (now : Disk) → now ≡ disk → (new : BlockStateList) (xs : List PairHeader) → xs ≡ dirs
       → ((chain : List Pair) (p : Pair) (rest : List Pair) → AreDirectoryHeadersWithGstate g xs chain p rest → HasEntryAtSlotNamedBySetMove g (p ∷ rest) → HasValidMoveOrNone (chain ++ p ∷ rest) g)
-      → (fits : Bool) → ((chain : List Pair) (p : Pair) (rest : List Pair) → IsThreadMatchingMapAndDirectoryHeaders now sets g xs chain p rest → IsImageAcceptedIfDirectoriesFitNameOrder now fits sets new chain p rest)
-      → HasAcceptedImageIfNameOrderFits disk hs fits sets new
-  has_image now same new xs e move fits judged =
+      → (broken_rule : Option Violation) → ((chain : List Pair) (p : Pair) (rest : List Pair) → IsThreadMatchingMapAndDirectoryHeaders now sets g xs chain p rest → IsImageAcceptedIfDirectoriesFitNameOrder now broken_rule sets new chain p rest)
+      → HasAcceptedImageIfNameOrderFits disk hs broken_rule sets new
+  has_image now same new xs e move broken_rule judged =
       let ps : List Pair = head.chain ++ head.p ∷ head.rest in
       let thread = subst (λ d. IsThreadMatchingMapAndDirectoryHeaders d sets g xs head.chain head.p head.rest) (sym same) (subst (λ ys. IsThreadMatchingMapAndDirectoryHeaders disk sets g ys head.chain head.p head.rest) (sym e) known) in
-      let is : IsImageAcceptedIfDirectoriesFitNameOrder disk fits sets new head.chain head.p head.rest = subst (λ d. IsImageAcceptedIfDirectoriesFitNameOrder d fits sets new head.chain head.p head.rest) same (judged head.chain head.p head.rest thread) in
+      let is : IsImageAcceptedIfDirectoriesFitNameOrder disk broken_rule sets new head.chain head.p head.rest = subst (λ d. IsImageAcceptedIfDirectoriesFitNameOrder d broken_rule sets new head.chain head.p head.rest) same (judged head.chain head.p head.rest thread) in
       let global : g ≡ gstate_of_pairs ps = r.global ∙ ap gstate_of_pairs head.parts in
       let has = subst (λ ys. AreDirectoryHeadersWithGstate g ys head.chain head.p head.rest) (sym e) directories in
       let moves = move head.chain head.p head.rest has (subst (λ s. HasEntryAtSlotNamedBySetMove s (head.p ∷ head.rest)) (sym global) is.moved) in
       record {
         marked = subst (λ qs. MapUsesExactlyTheseBlocks sets new (used_blocks disk qs)) (sym head.parts) (is.marked head.bytes head.head);
         accepted = λ fit. subst (IsAcceptedImage disk) (sym head.parts) (is.accepted fit head.bytes head.head (subst (HasValidMoveOrNone ps) global moves));
-        refused = λ unfit. refused (is.refused unfit);
+        broken = λ violation found. breaks violation (is.broken violation found);
       }

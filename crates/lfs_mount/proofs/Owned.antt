@@ -1,5 +1,5 @@
 -- Blocks can be marked one by one exactly where no block is owned twice.
-use Rattle.std.proofs.Common.{Bool, true, false, cond, eqb-true, ℕ, zero, suc, ◌≡◌, ◌≤◌, ◌+◌, ◌<◌, ⊎_elim, List, [], ◌∷◌, ◌++◌, length, set, Some, refl, sym, ap, subst, ◌∙◌, arith, slice_get, nat_eq, append_assoc, append-nil}
+use Rattle.std.proofs.Common.{Bool, true, false, cond, eqb-true, ℕ, zero, suc, ◌≡◌, ◌≤◌, ◌+◌, ◌<◌, ⊎_elim, inl, inr, List, [], ◌∷◌, ◌++◌, length, set, Some, refl, sym, ap, subst, ◌∙◌, arith, slice_get, nat_eq, append_assoc, append-nil}
 use Rattle.std.specs.Prelude.{All, Contains}
 use Rattle.std.specs.List.{IsDistinct}
 use Rattle.std.proofs.lemmas.Bool.{cases_eq}
@@ -9,10 +9,10 @@ use Rattle.std.proofs.lemmas.Option.{same_Some, slice_get_within, slice_get-get_
 use Rattle.lfs_model.specs.BlockSets.{AreExactlyTheInFlightBlocks, AreExactlyTheUsedBlocks, BlockState, BlockStateList, IsBlockFree, IsBlockMarkedUsedInMap}
 use Rattle.lfs_model.specs.BlockSets.BlockState.{Free, InFlight, Used}
 use Rattle.lfs_model.proofs.BlockSets.{Contains-occurrence_count_of_number, occurrence_count_of_number-Contains}
-use Rattle.lfs_model.proofs.Counts.{occurrence_count_of_number, count_here}
+use Rattle.lfs_model.proofs.Counts.{occurrence_count_of_number, count_append, count_here}
 use Rattle.lfs_mount.specs.Accepted.{MapUsesExactlyTheseBlocks}
 use Rattle.lfs_mount.proofs.ReadCounts.{marks_length}
-use Rattle.lfs_mount.specs.Marking.{MarksFreeBlocksUsed, HasExactlyTheseUsedBlocks}
+use Rattle.lfs_mount.specs.Marking.{MarksFreeBlocksUsed, MeetsTakenBlock, HasExactlyTheseUsedBlocks}
 use Rattle.lfs_mount.proofs.Found.{get_left, get_right, Part, left, right, part}
 use Rattle.lfs_mount.proofs.Searches.{place_once, distinct_by_places}
 
@@ -120,3 +120,45 @@ pub has_only : (old new : BlockStateList) (bs more cs : List ℕ) → HasExactly
 has_only old new bs more cs owns marks same =
     let all = owned_more old bs more new owns marks in
     record { len = marks_length more old new marks; used = are_used new (bs ++ more) cs all same; none_in_flight = none_flies new (bs ++ more) cs all same }
+
+-- ---- a block that was marked before
+
+pub meets_behind : (xs ys : List ℕ) (old mid : BlockStateList) (block : ℕ) → MarksFreeBlocksUsed old xs mid → MeetsTakenBlock mid ys block → MeetsTakenBlock old (xs ++ ys) block
+meets_behind [] ys old mid block e h = subst (λ (s : BlockStateList). MeetsTakenBlock s ys block) (sym e) h
+meets_behind (x ∷ xs) ys old mid block (free, m) h = inr (free, meets_behind xs ys _ mid block m h)
+
+pub meets_in : (old : BlockStateList) (bs : List ℕ) (block : ℕ) → MeetsTakenBlock old bs block → 1 ≤ occurrence_count_of_number block bs
+meets_in old [] block h = absurd h
+meets_in old (b ∷ bs) block (inl h) = placed_count block (b ∷ bs) 0 (ap (λ (y : ℕ). Some y) h.0)
+meets_in old (b ∷ bs) block (inr h) = let k = meets_in _ bs block h.1 in omega arith
+
+is_owned : (sets : BlockStateList) (bs : List ℕ) (b : ℕ) → HasExactlyTheseUsedBlocks sets bs → b < length sets → ¬ IsBlockFree sets b → 1 ≤ occurrence_count_of_number b bs
+is_owned sets bs b h within held = go (occurrence_count_of_number b bs) refl
+  where
+    go : (n : ℕ) → occurrence_count_of_number b bs ≡ n → 1 ≤ n
+    go zero none = absurd (held (h.free b within (λ i e. absurd (let k = placed_count b bs i e in omega arith))))
+    go (suc n) some = omega arith
+
+-- It is owned, too: it is counted twice.
+pub meets_twice : (sets : BlockStateList) (owned bs : List ℕ) (block : ℕ) → HasExactlyTheseUsedBlocks sets owned → block < length sets → MeetsTakenBlock sets bs block
+    → 2 ≤ occurrence_count_of_number block owned + occurrence_count_of_number block bs
+meets_twice sets owned [] block h within m = absurd m
+meets_twice sets owned (b ∷ bs) block h within (inl m) =
+    let k = is_owned sets owned block h within (λ free. m.1 (subst (IsBlockFree sets) (sym m.0) free)) in
+    let here = placed_count block (b ∷ bs) 0 (ap (λ (y : ℕ). Some y) m.0) in
+    omega arith
+meets_twice sets owned (b ∷ bs) block h within (inr m) =
+    let next = meets_twice (set sets b Used) (owned ++ b ∷ []) bs block (one_owned sets owned b h m.0) (omega (arith, within, length-set sets b Used)) m.1 in
+    let apart = count_append block owned (b ∷ []) in
+    let here = count_append block (b ∷ []) bs in
+    omega arith
+
+-- a number that is counted twice stands at two places
+pub two_places : (b : ℕ) (xs : List ℕ) → 2 ≤ occurrence_count_of_number b xs → (i j : ℕ) × ((i < j) × (slice_get xs i ≡ Some b) × (slice_get xs j ≡ Some b))
+two_places b [] twice = absurd (omega arith)
+two_places b (x ∷ xs) twice = go (nat_eq b x) refl twice (two_places b xs)
+  where
+    go : (t : Bool) → nat_eq b x ≡ t → 2 ≤ cond t 1 0 + occurrence_count_of_number b xs → (2 ≤ occurrence_count_of_number b xs → (i j : ℕ) × ((i < j) × (slice_get xs i ≡ Some b) × (slice_get xs j ≡ Some b)))
+        → (i j : ℕ) × ((i < j) × (slice_get (x ∷ xs) i ≡ Some b) × (slice_get (x ∷ xs) j ≡ Some b))
+    go true e k next = let p = counted_place b xs (omega arith) in (0, suc p.0, (omega arith, ap (λ (y : ℕ). Some y) (sym (eqb-true b x e)), p.1))
+    go false e k next = let p = next (omega arith) in (suc p.0, suc p.1, (omega (arith, p.2.0), p.2.1, p.2.2))

@@ -1,22 +1,21 @@
 -- A thread that was read, with its names in another order.
-use Rattle.std.proofs.Common.{◌≡◌, ◌∙◌, List, ap, ap₂, subst, sym}
+use Rattle.std.proofs.Common.{◌≡◌, ◌∙◌, List, ap, subst, sym}
 use Rattle.lfs_device.specs.declared.device.BlockDevice.{Ghosts}
 use Rattle.lfs_device.specs.declared.error.Error.TheVariants.{Corrupt}
 use Rattle.lfs_model.specs.BlockSets.{BlockStateList}
 use Rattle.lfs_model.specs.Disk.{Disk, disk_in_order}
-use Rattle.lfs_model.specs.History.{DeviceCallEvent, AreCallsSinceOnlyReads, fault_count_of_history}
+use Rattle.lfs_model.specs.History.{AreCallsSinceOnlyReads, fault_count_of_history}
 use Rattle.lfs_model.specs.declared.order.NameOrder.TheVariants.{LongerFirst}
-use Rattle.lfs_model.proofs.Histories.{began}
 use Rattle.lfs_thread.specs.Device.{GivesDeviceBackOnlyReadWithError}
 use Rattle.lfs_model.specs.declared.order.NameOrder.{NameOrder}
-use Rattle.lfs_thread.specs.Kept.{KeptThread, PairHeader, IsKeptThreadOnDisk, ThreadView, WasKeptThreadOnDisk, disk_of_device, kept_thread_in_order, kept_thread_of_device}
+use Rattle.lfs_thread.specs.Kept.{KeptThread, PairHeader, ThreadView, disk_of_device, kept_thread_in_order, kept_thread_of_device}
 use Rattle.lfs_mount.specs.ReadImage.{IsAcceptedInNameOrders}
-use Rattle.lfs_mount.specs.declared.orders.NameOrderSet.{NameOrderSet}
+use Rattle.lfs_mount.specs.declared.orders.OrderViolations.{OrderViolations}
 
 -- the device of a thread that was read, where the image isn't accepted in the order that is wanted
-pub refused_back : {D : Type 0} (g : Ghosts D) (old back : D) (t : ThreadView) (orders : NameOrderSet) → IsAcceptedInNameOrders (disk_of_device g old) (g.history old) t orders
+pub refused_back : {D : Type 0} (g : Ghosts D) (old back : D) (t : ThreadView) (found : OrderViolations) → IsAcceptedInNameOrders (disk_of_device g old) (g.history old) t found
     → disk_in_order t.kept.disk.order (disk_of_device g back) ≡ t.kept.disk → g.history back ≡ t.kept.history → GivesDeviceBackOnlyReadWithError g old back Corrupt
-refused_back g old back t orders read disk history = record {
+refused_back g old back t found read disk history = record {
   disk = ap (disk_in_order LongerFirst) (disk ∙ read.disk_is);
   reads = subst (AreCallsSinceOnlyReads (g.blocks old) (g.history old)) (sym history) read.reads;
   fault = λ is. absurd (cc);

@@ -123,7 +123,7 @@ unmoved-without g p = go (g.kind == 0x4ff && same_pair g.pair p.at)
 
 -- ---- the lists in slots
 
-some_parts : {X : Type 0} (f : EntryNameAndReference → Option X) (y : X) (o : Option EntryNameAndReference) → option_and_then f o ≡ Some y → (x : EntryNameAndReference) × ((o ≡ Some x) × (f x ≡ Some y))
+pub some_parts : {X : Type 0} (f : EntryNameAndReference → Option X) (y : X) (o : Option EntryNameAndReference) → option_and_then f o ≡ Some y → (x : EntryNameAndReference) × ((o ≡ Some x) × (f x ≡ Some y))
 some_parts f y None e = absurd (cc)
 some_parts f y (Some x) e = (x, (refl, e))
 

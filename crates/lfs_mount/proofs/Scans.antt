@@ -1,5 +1,5 @@
 -- What a scan of slots finds: they are entries of a directory, or they aren't.
-use Rattle.std.proofs.Common.{ℕ, ◌≡◌, ◌/◌, ◌^◌, ◌<◌, ◌==◌, ◌&&◌, ◌||◌, ⊎_elim, Bool, true, false, cond, List, [], ◌∷◌, length, map, Option, Some, None, refl, sym, ap, ap₂, subst, subst₂, ◌∙◌, arith, eqb-true, eq-eqb, option_and_then, option_map, true≢false}
+use Rattle.std.proofs.Common.{ℕ, suc, ◌≡◌, ◌/◌, ◌^◌, ◌<◌, ◌==◌, ◌&&◌, ◌||◌, ⊎_elim, Bool, true, false, cond, List, [], ◌∷◌, length, map, Option, Some, None, refl, sym, ap, ap₂, subst, subst₂, ◌∙◌, arith, eqb-true, eq-eqb, option_and_then, option_map, true≢false}
 use Rattle.std.specs.Prelude.{All}
 use Rattle.std.proofs.lemmas.Bool.{and_parts, or_cases, ne_eqb}
 use Rattle.std.proofs.lemmas.List.Elements.{All-head, All-tail, All-cons}
@@ -15,7 +15,7 @@ use Rattle.lfs_model.specs.View.{IsFileOrDirectoryEntry, IsStructOfKind}
 use Rattle.lfs_model.proofs.WrittenAnew.{type_of_tag-tag_of_type_id_and_length, length_of_tag-tag_of_type_id_and_length}
 use Rattle.lfs_model.proofs.Completed.{AreComplete, complete_parts, complete_cons}
 use Rattle.lfs_mount.specs.Reaching.{DirectoryVertexWithSoundnessAndBranches}
-use Rattle.lfs_mount.specs.Entries.{EntryReference, InSlot, InList, Below, entry_reference_of_struct, EntryNameAndReference, name_and_reference_of_slot, entry_reference_of_raw_struct, directory_entry_of_raw_slot, directory_scan_with_entry, directory_scan_with_entries}
+use Rattle.lfs_mount.specs.Entries.{HoldsNoEntryAt, EntryReference, InSlot, InList, Below, entry_reference_of_struct, EntryNameAndReference, name_and_reference_of_slot, entry_reference_of_raw_struct, directory_entry_of_raw_slot, directory_scan_with_entry, directory_scan_with_entries}
 use Rattle.lfs_mount.specs.Scanned.{directory_scan_after_slots}
 
 -- ---- one slot that is an entry
@@ -235,3 +235,13 @@ scan_none by firsts known (s ∷ raws) parts e slots are entries = go (directory
         → ((x : EntryNameAndReference) → directory_scan_after_slots by firsts (directory_scan_with_entry by firsts known x) raws ≡ None → ⊥) → ⊥
     go None f g next = entry_none s p.first parts.0 f p.is_first (All-head IsFileOrDirectoryEntry p.first p.others all)
     go (Some x) f g next = next x g
+
+-- where they aren't all entries, one isn't
+pub scan_none_at : (by : NameOrder) (firsts : List (ℕ × ℕ)) (known : Name × DirectoryVertexWithSoundnessAndBranches) (raws : List RawSlot) → directory_scan_after_slots by firsts known raws ≡ None → (index : ℕ) × HoldsNoEntryAt raws index
+scan_none_at by firsts known [] e = absurd (cc)
+scan_none_at by firsts known (s ∷ raws) e = go (directory_entry_of_raw_slot s) refl e (λ x. scan_none_at by firsts (directory_scan_with_entry by firsts known x) raws)
+  where
+    go : (o : Option EntryNameAndReference) → directory_entry_of_raw_slot s ≡ o → option_and_then (λ x. directory_scan_after_slots by firsts (directory_scan_with_entry by firsts known x) raws) o ≡ None
+        → ((x : EntryNameAndReference) → directory_scan_after_slots by firsts (directory_scan_with_entry by firsts known x) raws ≡ None → (index : ℕ) × HoldsNoEntryAt raws index) → (index : ℕ) × HoldsNoEntryAt (s ∷ raws) index
+    go None f g next = (0, (s, (refl, f)))
+    go (Some x) f g next = let r = next x g in (suc r.0, r.1)

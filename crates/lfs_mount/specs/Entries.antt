@@ -1,5 +1,5 @@
 -- The entries in the slots of a pair, and what they add to what is known of a directory.
-use Rattle.std.specs.Prelude.{ℕ, ◌==◌, ◌&&◌, Bool, true, false, if◌then◌else◌, List, [], ◌∷◌, ◌++◌, length, Option, Some, None}
+use Rattle.std.specs.Prelude.{ℕ, ◌≡◌, ◌==◌, ◌&&◌, Bool, true, false, if◌then◌else◌, List, [], ◌∷◌, ◌++◌, length, slice_get, Option, Some, None}
 use Rattle.std.specs.Option.{option_and_then, option_map}
 use Rattle.lfs_model.specs.declared.order.NameOrder.{NameOrder}
 use Rattle.lfs_model.specs.Names.{Name, name_cmp, is_less_ordering, is_valid_name}
@@ -39,6 +39,10 @@ entry_reference_of_raw_struct kind part =
 abbrev pub directory_entry_of_raw_slot : RawSlot → Option EntryNameAndReference
 directory_entry_of_raw_slot s = option_and_then (λ name. option_and_then (λ struct.
     if is_valid_name name.1 then option_map (λ stand. (name.1, stand)) (entry_reference_of_raw_struct name.0 struct) else None) s.struct) s.name
+
+-- the slot at an index holds no entry
+abbrev pub HoldsNoEntryAt : List RawSlot → ℕ → Type 0
+HoldsNoEntryAt slots index = (s : RawSlot) × ((slice_get slots index ≡ Some s) × (directory_entry_of_raw_slot s ≡ None))
 
 -- ---- one entry more
 

@@ -10,10 +10,11 @@ pub mod KnownView
 pub mod Marking
 pub mod ListsView
 pub mod Taken
+pub mod Broken
 pub mod Passed
 pub mod Described
 pub mod Checked
-pub mod Device
+pub mod TrueViolation
 pub mod Reads
 pub mod Members
 pub mod SuperblockChain

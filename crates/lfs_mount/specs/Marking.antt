@@ -1,5 +1,5 @@
 -- Blocks of files that are marked in a map of blocks.
-use Rattle.std.specs.Prelude.{Option, None, All, reverse, ℕ, ◌≡◌, ◌⊎◌, ◌<◌, Bool, true, false, List, [], ◌∷◌, Some, length, nat_eq, slice_get, slice_set}
+use Rattle.std.specs.Prelude.{Option, None, All, reverse, ℕ, ◌≡◌, ◌⊎◌, ◌<◌, List, [], ◌∷◌, Some, length, nat_eq, slice_get, slice_set}
 use Rattle.std.specs.List.{IsDistinct, filter_map, flat_map}
 use Rattle.std.specs.Option.{option_and_then}
 use Rattle.lfs_model.specs.Disk.{Disk}
@@ -14,10 +14,15 @@ abbrev pub MarksFreeBlocksUsed : BlockStateList → List ℕ → BlockStateList 
 MarksFreeBlocksUsed old [] new = old ≡ new
 MarksFreeBlocksUsed old (b ∷ bs) new = IsBlockFree old b × MarksFreeBlocksUsed (slice_set old b Used) bs new
 
--- A walk marks one block. `was_free` and `is_free` say whether all blocks were free so far, before and after it.
-pub record MarksBlockIfFree (old : BlockStateList) (was_free : Bool) (b : ℕ) (new : BlockStateList) (is_free : Bool) : Type 0 where
-  pub free : is_free ≡ true → (was_free ≡ true) × IsBlockFree old b × (new ≡ slice_set old b Used)
-  pub taken : is_free ≡ false → (was_free ≡ false) ⊎ (IsBlockFree old b → ⊥)
+-- The first blocks were free. This one behind them wasn't, after they were marked.
+abbrev pub MeetsTakenBlock : BlockStateList → List ℕ → ℕ → Type 0
+MeetsTakenBlock old [] block = ⊥
+MeetsTakenBlock old (b ∷ bs) block = ((b ≡ block) × ¬ IsBlockFree old b) ⊎ (IsBlockFree old b × MeetsTakenBlock (slice_set old b Used) bs block)
+
+-- A walk marks one block. `before` and `after` are the first block so far that wasn't free, if any.
+pub record MarksBlockIfFree (old : BlockStateList) (before : Option ℕ) (b : ℕ) (new : BlockStateList) (after : Option ℕ) : Type 0 where
+  pub free : after ≡ None → (before ≡ None) × IsBlockFree old b × (new ≡ slice_set old b Used)
+  pub taken : (block : ℕ) → after ≡ Some block → (before ≡ Some block) ⊎ ((before ≡ None) × (b ≡ block) × ¬ IsBlockFree old b)
 
 -- These blocks are used, each is in the list once, and all others are free.
 pub record HasExactlyTheseUsedBlocks (sets : BlockStateList) (bs : List ℕ) : Type 0 where

@@ -24,6 +24,7 @@ id_of_moved_slot_at_address g at = if g.kind == 0x4ff && same_pair g.pair at the
 
 abbrev pub pair_description_of_header : Gstate → Bool → PairHeader → PairBeforeSlotsAreRead
 pair_description_of_header g is_first h = record {
+  at = h.blocks;
   active = h.active;
   is_hard = header_has_hard_tail h;
   has_superblock = is_first;

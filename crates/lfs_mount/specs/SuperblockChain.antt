@@ -9,6 +9,8 @@ use Rattle.lfs_model.specs.History.{DeviceCallEvent}
 use Rattle.lfs_model.specs.Log.{log_entries_of_block}
 use Rattle.lfs_model.specs.Thread.{Pair, IsThreadOfMetadataPairs, is_hard_tail, pair_count_before_root}
 use Rattle.lfs_model.specs.declared.limits.AcceptedVersions.{AcceptedVersions}
+use Rattle.lfs_model.specs.declared.violations.Violation.{Violation}
+use Rattle.lfs_model.specs.declared.violations.Violation.TheVariants as violation
 use Rattle.lfs_model.specs.View.{BeginsWithLogEntry, is_accepted_version, superblock_name_log_entry}
 use Rattle.lfs_tag.specs.ContentView.{tail_view}
 use Rattle.lfs_tag.specs.KindView.{is_superblock_name}
@@ -71,6 +73,12 @@ pub record IsSuperblockStructInBlock (disk : Disk) (block : ℕ) (bytes : List �
   pub struct : superblock_struct_in_block_log disk.profile.versions disk.block_size (block_count disk) (block_bytes_on_disk disk block) ≡ Some bytes
 
 -- ---- pairs
+
+-- the log of the first pair that has a slot begins with another entry, or comes to no superblock's struct in slot 0
+abbrev pub BreaksFirstSuperblock : Disk → PairHeader → Violation → Type 0
+BreaksFirstSuperblock disk h (violation.FirstEntry pair) = (pair ≡ h.blocks) × ¬ BeginsWithLogEntry (Some (block_bytes_on_disk disk h.active)) superblock_name_log_entry
+BreaksFirstSuperblock disk h (violation.Superblock pair) = (pair ≡ h.blocks) × (superblock_struct_in_block_log disk.profile.versions disk.block_size (block_count disk) (block_bytes_on_disk disk h.active) ≡ None)
+BreaksFirstSuperblock disk h _ = ⊥
 
 -- whether the superblock's chain may continue after the pair: it has at most one slot and a hard tail
 abbrev pub superblock_chain_may_continue_after : PairHeader → Bool

@@ -1,22 +1,24 @@
 // A device's image, where it is accepted.
 
-ghost use Rattle.std.specs.Prelude.{ℕ, List, ◌≡◌, ◌≤◌, ◌<◌, ◌+◌, ◌%◌, ◌++◌, ◌∷◌, drop, false, length, sum_by, true, IfErr, IfNone, IfOk, IfSome, IsErrOf, OnOk};
+ghost use Rattle.std.specs.Prelude.{ℕ, Err, List, ◌≡◌, ◌≤◌, ◌<◌, ◌+◌, ◌%◌, ◌++◌, ◌∷◌, drop, length, sum_by, true, IfErr, IfNone, IfOk, IfSome, None, OnOk};
 ghost use Rattle.lfs_alloc.specs.Next.{IsNextFreeBlockInCircle};
-ghost use Rattle.lfs_device.specs.Calls.{ReadsOnly};
 ghost use Rattle.lfs_model.specs.Disk.{disk_in_order};
 ghost use Rattle.lfs_model.specs.BlockSets.{IsBlockFree};
 ghost use Rattle.lfs_model.specs.History.{read_count_of_history};
 ghost use Rattle.lfs_model.specs.Thread.{Pair as ThreadPair};
 ghost use Rattle.lfs_model.specs.View.{IsAcceptedImage};
+ghost use Rattle.lfs_model.specs.Violations.{Breaks, BreaksPairs};
 ghost use Rattle.lfs_model.specs.declared.order.NameOrder.{NameOrder};
 ghost use Rattle.lfs_model.specs.declared.order.NameOrder.TheVariants.{LongerFirst, ShorterFirst};
+ghost use Rattle.lfs_model.specs.declared.violations.Violation.{Violation};
 ghost use Rattle.lfs_tag.specs.FieldsView.{move_view};
 ghost use Rattle.lfs_thread.specs.Device.{GivesDeviceBackOnlyReadWithError};
 ghost use Rattle.lfs_thread.specs.Kept.{disk_of_device, pairs_of_headers};
+ghost use Rattle.lfs_thread.specs.MountErrors.{OnlyReadsUnlessFault, error_of_mount};
 ghost use Rattle.lfs_mount.specs.Accepted.{HasAcceptedImageIfNameOrderFits, IsImageAcceptedIfDirectoriesFitNameOrder, IsMountedThread};
-ghost use Rattle.lfs_mount.specs.Device.{IsIoCorruptOrNoMemory, ReportsMountErrorsAndFaults};
+ghost use Rattle.lfs_mount.specs.TrueViolation.{HasTrueViolation};
 ghost use Rattle.lfs_mount.specs.Members.{AreDirectoryHeadersOfThread, IsThreadReadFromDisk, IsThreadMatchingMapAndDirectoryHeaders, pair_descriptions_of_headers};
-ghost use Rattle.lfs_mount.specs.Orders.{includes_name_order};
+ghost use Rattle.lfs_mount.specs.Orders.{violation_in_order};
 ghost use Rattle.lfs_mount.specs.ReadImage.{HasAtMostMountReads, IsAcceptedInNameOrders};
 ghost use Rattle.lfs_mount.specs.Reads.{check_read_count, pair_read_count};
 ghost use Rattle.lfs_mount.specs.Start.{allocation_seed, image_number, mixed_number};
@@ -24,14 +26,14 @@ ghost use Rattle.lfs_mount.specs.Start.{allocation_seed, image_number, mixed_num
 use crate::check::check_slots_and_mark_lists_of_thread;
 use crate::members::{first_pair_addresses_of_all_directories, make_directory_pairs_from_headers};
 use crate::moves::check_move;
-use crate::orders::NameOrderSet;
+use crate::orders::OrderViolations;
 use crate::superblock_chain::superblock_chain_length;
 use lfs_alloc::BlockMap;
 use lfs_device::{BlockDevice, Error};
 use lfs_model::NameOrder;
 use lfs_pair::Pair;
 use lfs_tag::MoveState;
-use lfs_thread::Thread;
+use lfs_thread::{MountError, Thread};
 use std::alloc::Global;
 
 /// Reads the image of a device, and keeps its thread where the image is accepted: what littlefs
@@ -44,60 +46,62 @@ use std::alloc::Global;
 /// longer name comes first where one is the beginning of the other (`lfs_dir_find_match`). Where
 /// both orders fit, the call takes that one.
 ///
-/// Errors: `Corrupt` exactly where the image is accepted in neither order. `Io` where a read
+/// Errors: `Corrupt` exactly where the image is accepted in neither order, with a rule that it
+/// breaks. The rules of names are then those of the order of littlefs's own code. `Io` where a read
 /// failed, and `NoMemory` where memory isn't granted. The device comes back with an error.
-pub fn mount<D: BlockDevice>(alloc: Global, device: D) -> Result<Thread<D>, (D, Error)>
+pub fn mount<D: BlockDevice>(alloc: Global, device: D) -> Result<Thread<D>, (D, MountError)>
     ensures mounted { IfOk result (λ t. IsMountedThread (disk_in_order t.kept.disk.order (disk_of_device D.BlockDevice device)) (D.history device) t) }
     ensures longer { IfOk result (λ t. t.kept.disk.order ≡ ShorterFirst → (ps : List ThreadPair) → ¬ IsAcceptedImage (disk_in_order LongerFirst (disk_of_device D.BlockDevice device)) ps) }
-    ensures corrupt { IfErr result (λ e. e.1 ≡ Error.Corrupt → (order : NameOrder) (ps : List ThreadPair) → ¬ IsAcceptedImage (disk_in_order order (disk_of_device D.BlockDevice device)) ps) }
-    ensures errors { IfErr result (λ e. IsIoCorruptOrNoMemory e.1) }
-    ensures back { IfErr result (λ e. GivesDeviceBackOnlyReadWithError D.BlockDevice device e.0 e.1) }
+    ensures broken { IfErr result (λ e. HasTrueViolation (disk_in_order LongerFirst (disk_of_device D.BlockDevice device)) e.1) }
+    ensures corrupt { IfErr result (λ e. error_of_mount e.1 ≡ Error.Corrupt → (order : NameOrder) (ps : List ThreadPair) → ¬ IsAcceptedImage (disk_in_order order (disk_of_device D.BlockDevice device)) ps) }
+    ensures back { IfErr result (λ e. GivesDeviceBackOnlyReadWithError D.BlockDevice device e.0 (error_of_mount e.1)) }
     // Those of a fetch and one more for each pair, two more, and one for each block of a file's list.
     ensures few { IfOk result (HasAtMostMountReads (disk_of_device D.BlockDevice device) (D.history device)) }
 {
-    let (mut thread, orders) = read_and_check_image(alloc, device)?;
-    match orders.preferred() {
-        Some(order) => {
+    let (mut thread, found) = read_and_check_image(alloc, device)?;
+    match found.preferred() {
+        Ok(order) => {
             thread.set_order(order);
             Ok(thread)
         }
-        None => Err((thread.into_device(), Error::Corrupt)),
+        Err(violation) => Err((thread.into_device(), MountError::Corrupt(violation))),
     }
 }
 
 /// Mounts the image of a device as [`mount`] does, where its directories have their names in that
 /// order.
 ///
-/// Errors: `Corrupt` exactly where the image isn't accepted in that order, and those of [`mount`].
+/// Errors: `Corrupt` exactly where the image isn't accepted in that order, with a rule that it breaks
+/// there, and those of [`mount`].
 pub fn mount_in_order<D: BlockDevice>(
     alloc: Global,
     device: D,
     order: NameOrder,
-) -> Result<Thread<D>, (D, Error)>
+) -> Result<Thread<D>, (D, MountError)>
     ensures mounted { IfOk result (IsMountedThread (disk_in_order order (disk_of_device D.BlockDevice device)) (D.history device)) }
-    ensures corrupt { IfErr result (λ e. e.1 ≡ Error.Corrupt → (ps : List ThreadPair) → ¬ IsAcceptedImage (disk_in_order order (disk_of_device D.BlockDevice device)) ps) }
-    ensures errors { IfErr result (λ e. IsIoCorruptOrNoMemory e.1) }
-    ensures back { IfErr result (λ e. GivesDeviceBackOnlyReadWithError D.BlockDevice device e.0 e.1) }
+    ensures broken { IfErr result (λ e. HasTrueViolation (disk_in_order order (disk_of_device D.BlockDevice device)) e.1) }
+    ensures corrupt { IfErr result (λ e. error_of_mount e.1 ≡ Error.Corrupt → (ps : List ThreadPair) → ¬ IsAcceptedImage (disk_in_order order (disk_of_device D.BlockDevice device)) ps) }
+    ensures back { IfErr result (λ e. GivesDeviceBackOnlyReadWithError D.BlockDevice device e.0 (error_of_mount e.1)) }
     ensures few { IfOk result (HasAtMostMountReads (disk_of_device D.BlockDevice device) (D.history device)) }
 {
-    let (mut thread, orders) = read_and_check_image(alloc, device)?;
-    if !orders.contains(order) {
-        return Err((thread.into_device(), Error::Corrupt));
+    let (mut thread, found) = read_and_check_image(alloc, device)?;
+    if let Some(violation) = found.get(order) {
+        return Err((thread.into_device(), MountError::Corrupt(violation)));
     }
     thread.set_order(order);
     Ok(thread)
 }
 
-// Reads the image of a device, and finds the orders of names in which it is accepted. There may be
-// none; `Corrupt` says so too, and comes where something else than its names is wrong.
+// Reads the image of a device, and finds for each order of names a rule that it breaks, or none
+// where it is accepted. `Corrupt` comes where something else than its directories is wrong, and so
+// in each order.
 pub(crate) fn read_and_check_image<D: BlockDevice>(
     alloc: Global,
     device: D,
-) -> Result<(Thread<D>, NameOrderSet), (D, Error)>
+) -> Result<(Thread<D>, OrderViolations), (D, MountError)>
     ensures read { IfOk result (λ r. IsAcceptedInNameOrders (disk_of_device D.BlockDevice device) (D.history device) r.0 r.1) }
-    ensures corrupt { IfErr result (λ e. e.1 ≡ Error.Corrupt → (order : NameOrder) (ps : List ThreadPair) → ¬ IsAcceptedImage (disk_in_order order (disk_of_device D.BlockDevice device)) ps) }
-    ensures errors { IfErr result (λ e. IsIoCorruptOrNoMemory e.1) }
-    ensures back { IfErr result (λ e. GivesDeviceBackOnlyReadWithError D.BlockDevice device e.0 e.1) }
+    ensures broken { IfErr result (λ e. (order : NameOrder) → HasTrueViolation (disk_in_order order (disk_of_device D.BlockDevice device)) e.1) }
+    ensures back { IfErr result (λ e. GivesDeviceBackOnlyReadWithError D.BlockDevice device e.0 (error_of_mount e.1)) }
 {
     let thread = Thread::read(alloc, device)?;
     let state = thread.state();
@@ -109,34 +113,34 @@ pub(crate) fn read_and_check_image<D: BlockDevice>(
         &parts.pairs,
         &state,
     ) {
-        Ok(orders) => Ok((Thread::from_parts(parts), orders)),
+        Ok(found) => Ok((Thread::from_parts(parts), found)),
         Err(error) => Err((parts.device, error)),
     }
 }
 
-// Checks the image whose thread was read, marks the blocks of its files, and finds the orders of
-// names in which it is accepted. The map goes on at another block than after an earlier mount.
+// Checks the image whose thread was read, marks the blocks of its files, and finds for each order of
+// names a rule that it breaks, or none. The map goes on at another block than after an earlier
+// mount.
 fn check_image<D: BlockDevice>(
     alloc: Global,
     device: &mut D,
     map: &mut BlockMap,
     pairs: &[Pair],
     state: &MoveState,
-) -> Result<NameOrderSet, Error>
+) -> Result<OrderViolations, MountError>
     requires { IsThreadReadFromDisk (disk_of_device D.BlockDevice device.old) (D.history device.old) pairs.now map.old (move_view state.now) }
-    ensures image { IfOk result (λ orders. (order : NameOrder) → HasAcceptedImageIfNameOrderFits (disk_in_order order (disk_of_device D.BlockDevice device.old)) pairs.now (includes_name_order order orders) map.old map.new) }
-    ensures corrupt { IsErrOf result Error.Corrupt → (order : NameOrder) (ps : List ThreadPair) → ¬ IsAcceptedImage (disk_in_order order (disk_of_device D.BlockDevice device.old)) ps }
-    ensures device { ReadsOnly D.BlockDevice device.old device.new }
-    ensures errors { ReportsMountErrorsAndFaults D.BlockDevice device.old device.new result }
-    ensures few { IfOk result (λ orders. (order : NameOrder) → includes_name_order order orders ≡ true
+    ensures image { IfOk result (λ found. (order : NameOrder) → HasAcceptedImageIfNameOrderFits (disk_in_order order (disk_of_device D.BlockDevice device.old)) pairs.now (violation_in_order order found) map.old map.new) }
+    ensures broken { (v : Violation) → result ≡ Err (MountError.Corrupt v) → (order : NameOrder) → Breaks (disk_in_order order (disk_of_device D.BlockDevice device.old)) v }
+    ensures device { OnlyReadsUnlessFault D.BlockDevice device.old device.new result }
+    ensures few { IfOk result (λ found. (order : NameOrder) → violation_in_order order found ≡ None
         → read_count_of_history (D.history device.new) ≤ read_count_of_history (D.history device.old) + check_read_count (disk_of_device D.BlockDevice device.old) (pairs_of_headers (disk_of_device D.BlockDevice device.old) pairs.now)) }
 {
     let count = superblock_chain_length(alloc, device, pairs)?;
     let directories = pairs_from_index(pairs, count);
     check_move(state, directories)?;
-    let orders = check_directories(alloc, device, map, directories, state)?;
+    let found = check_directories(alloc, device, map, directories, state)?;
     start_allocation_elsewhere(map, pairs);
-    Ok(orders)
+    Ok(found)
 }
 
 // A number made of the image: how many blocks are used, and the pairs' revisions, which rise with
@@ -177,30 +181,30 @@ fn pairs_from_index(pairs: &[Pair], index: usize) -> &[Pair]
     &pairs[index..]
 }
 
-// Checks what stands in the pairs of directories, marks the blocks of their files, and finds the
-// orders of names in which they are right.
+// Checks what stands in the pairs of directories, marks the blocks of their files, and finds for
+// each order of names a rule that the directories break, or none.
 fn check_directories<D: BlockDevice>(
     alloc: Global,
     device: &mut D,
     map: &mut BlockMap,
     pairs: &[Pair],
     state: &MoveState,
-) -> Result<NameOrderSet, Error>
+) -> Result<OrderViolations, MountError>
     requires { AreDirectoryHeadersOfThread (disk_of_device D.BlockDevice device.old) map.old (move_view state.now) pairs.now }
-    ensures ok { IfOk result (λ orders. (order : NameOrder) (chain : List ThreadPair) (p : ThreadPair) (rest : List ThreadPair)
+    ensures ok { IfOk result (λ found. (order : NameOrder) (chain : List ThreadPair) (p : ThreadPair) (rest : List ThreadPair)
         → IsThreadMatchingMapAndDirectoryHeaders (disk_in_order order (disk_of_device D.BlockDevice device.old)) map.old (move_view state.now) pairs.now chain p rest
-        → IsImageAcceptedIfDirectoriesFitNameOrder (disk_in_order order (disk_of_device D.BlockDevice device.old)) (includes_name_order order orders) map.old map.new chain p rest) }
-    ensures corrupt { IsErrOf result Error.Corrupt → (order : NameOrder) (chain : List ThreadPair) (p : ThreadPair) (rest : List ThreadPair)
+        → IsImageAcceptedIfDirectoriesFitNameOrder (disk_in_order order (disk_of_device D.BlockDevice device.old)) (violation_in_order order found) map.old map.new chain p rest) }
+    ensures broken { (v : Violation) → result ≡ Err (MountError.Corrupt v) → (order : NameOrder) (chain : List ThreadPair) (p : ThreadPair) (rest : List ThreadPair)
         → IsThreadMatchingMapAndDirectoryHeaders (disk_in_order order (disk_of_device D.BlockDevice device.old)) map.old (move_view state.now) pairs.now chain p rest
-        → ¬ IsAcceptedImage (disk_in_order order (disk_of_device D.BlockDevice device.old)) (chain ++ p ∷ rest) }
-    ensures device { ReadsOnly D.BlockDevice device.old device.new }
-    ensures errors { ReportsMountErrorsAndFaults D.BlockDevice device.old device.new result }
+        → BreaksPairs (disk_in_order order (disk_of_device D.BlockDevice device.old)) (chain ++ p ∷ rest) v }
+    ensures device { OnlyReadsUnlessFault D.BlockDevice device.old device.new result }
     ensures few { OnOk result (read_count_of_history (D.history device.new) ≤ read_count_of_history (D.history device.old) + sum_by (pair_read_count (disk_of_device D.BlockDevice device.old)) (pair_descriptions_of_headers (move_view state.now) true pairs.now)) }
 {
-    let members = make_directory_pairs_from_headers(alloc, state, pairs)?;
-    let places = first_pair_addresses_of_all_directories(alloc, pairs)?;
-    let orders = check_slots_and_mark_lists_of_thread(
-        alloc, device, map, &places, &members, state.sync,
-    )?;
-    Ok(orders)
+    let Ok(members) = make_directory_pairs_from_headers(alloc, state, pairs) else {
+        return Err(MountError::NoMemory);
+    };
+    let Ok(places) = first_pair_addresses_of_all_directories(alloc, pairs) else {
+        return Err(MountError::NoMemory);
+    };
+    check_slots_and_mark_lists_of_thread(alloc, device, map, &places, &members, state.sync)
 }

@@ -1,25 +1,25 @@
 // The check of a thread's slots and directories.
 
-ghost use Rattle.std.specs.Prelude.{List, ◌≡◌, ◌≤◌, ◌+◌, ◌++◌, ◌∷◌, IfOk, OnOk, IsErrOf, sum_by};
-ghost use Rattle.lfs_device.specs.Calls.{ReadsOnly};
+ghost use Rattle.std.specs.Prelude.{Err, List, ◌≡◌, ◌≤◌, ◌+◌, ◌++◌, ◌∷◌, IfOk, OnOk, sum_by};
 ghost use Rattle.lfs_model.specs.Disk.{disk_in_order};
 ghost use Rattle.lfs_model.specs.History.{read_count_of_history};
 ghost use Rattle.lfs_model.specs.Thread.{Pair};
-ghost use Rattle.lfs_model.specs.View.{IsAcceptedImage};
+ghost use Rattle.lfs_model.specs.Violations.{BreaksPairs};
 ghost use Rattle.lfs_model.specs.declared.order.NameOrder.{NameOrder};
+ghost use Rattle.lfs_model.specs.declared.violations.Violation.{Violation};
 ghost use Rattle.lfs_mount.specs.Checked.{HasThreadMatchingMapAndPairDescriptions, IsThreadMatchingMapAndPairDescriptions};
 ghost use Rattle.lfs_mount.specs.Accepted.{IsImageAcceptedIfDirectoriesFitNameOrder};
-ghost use Rattle.lfs_mount.specs.Device.{ReportsMountErrorsAndFaults};
 ghost use Rattle.lfs_thread.specs.Kept.{disk_of_device};
-ghost use Rattle.lfs_mount.specs.Orders.{includes_name_order};
+ghost use Rattle.lfs_thread.specs.MountErrors.{OnlyReadsUnlessFault};
+ghost use Rattle.lfs_mount.specs.Orders.{violation_in_order};
 ghost use Rattle.lfs_mount.specs.Reads.{pair_read_count};
 
-use crate::orders::NameOrderSet;
+use crate::orders::OrderViolations;
 use crate::pass::{PairBeforeSlotsAreRead, scan_pairs_and_mark_lists};
-use crate::reachability::name_orders_that_make_directories_a_tree;
+use crate::reachability::find_directory_violations;
 use lfs_alloc::BlockMap;
-use lfs_device::{BlockDevice, Error};
-use lfs_thread::PairAddressList;
+use lfs_device::BlockDevice;
+use lfs_thread::{MountError, PairAddressList};
 use std::alloc::Global;
 
 // Checks the slots of a thread whose headers are known, and marks the blocks of its files in `map`.
@@ -29,14 +29,14 @@ use std::alloc::Global;
 // addresses of the directories. `sync` is the sync bit of the global state.
 //
 // The result holds where the superblock's pairs are right, and the move that the global state
-// names. Ok then says in which orders of names the image is accepted, and the map has its blocks.
-// In an order in which the directories are no tree, or their names don't rise, the image isn't
-// accepted.
+// names. Ok then says which rule the directories break in each order of names. In an order in which
+// they break none the image is accepted, and the map has its blocks.
 //
-// Errors: `Corrupt` where the image is accepted in no order. Then a slot holds no entry, a file's
-// list isn't well formed, or a block is owned twice (SPEC.md of littlefs, "Metadata types";
-// DESIGN.md, "CTZ skip-lists", "Directories" and "The move problem"). `NoMemory` where memory isn't
-// granted, and `Io` where the device failed. After an error nothing is known of the map.
+// Errors: `Corrupt` where the image breaks a rule in each order. Then a slot holds no entry
+// (`Entry`, `Move`), a file's list isn't well formed (`List`), or a block is owned twice
+// (`TwoOwners`; SPEC.md of littlefs, "Metadata types"; DESIGN.md, "CTZ skip-lists" and "The move
+// problem"). `NoMemory` where memory isn't granted, and `Io` where the device failed. After an error
+// nothing is known of the map.
 pub(crate) fn check_slots_and_mark_lists_of_thread<D: BlockDevice>(
     alloc: Global,
     device: &mut D,
@@ -44,20 +44,19 @@ pub(crate) fn check_slots_and_mark_lists_of_thread<D: BlockDevice>(
     places: &PairAddressList,
     members: &[PairBeforeSlotsAreRead],
     sync: bool,
-) -> Result<NameOrderSet, Error>
+) -> Result<OrderViolations, MountError>
     requires { HasThreadMatchingMapAndPairDescriptions (disk_of_device D.BlockDevice device.old) map.old places.now members.now sync }
-    ensures ok { IfOk result (λ orders. (order : NameOrder) (chain : List Pair) (p : Pair) (rest : List Pair)
+    ensures ok { IfOk result (λ found. (order : NameOrder) (chain : List Pair) (p : Pair) (rest : List Pair)
         → IsThreadMatchingMapAndPairDescriptions (disk_in_order order (disk_of_device D.BlockDevice device.old)) map.old places.now members.now sync chain p rest
-        → IsImageAcceptedIfDirectoriesFitNameOrder (disk_in_order order (disk_of_device D.BlockDevice device.old)) (includes_name_order order orders) map.old map.new chain p rest) }
-    ensures corrupt { IsErrOf result Error.Corrupt → (order : NameOrder) (chain : List Pair) (p : Pair) (rest : List Pair)
+        → IsImageAcceptedIfDirectoriesFitNameOrder (disk_in_order order (disk_of_device D.BlockDevice device.old)) (violation_in_order order found) map.old map.new chain p rest) }
+    ensures broken { (v : Violation) → result ≡ Err (MountError.Corrupt v) → (order : NameOrder) (chain : List Pair) (p : Pair) (rest : List Pair)
         → IsThreadMatchingMapAndPairDescriptions (disk_in_order order (disk_of_device D.BlockDevice device.old)) map.old places.now members.now sync chain p rest
-        → ¬ IsAcceptedImage (disk_in_order order (disk_of_device D.BlockDevice device.old)) (chain ++ p ∷ rest) }
-    ensures device { ReadsOnly D.BlockDevice device.old device.new }
-    ensures errors { ReportsMountErrorsAndFaults D.BlockDevice device.old device.new result }
+        → BreaksPairs (disk_in_order order (disk_of_device D.BlockDevice device.old)) (chain ++ p ∷ rest) v }
+    ensures device { OnlyReadsUnlessFault D.BlockDevice device.old device.new result }
     // One read for each pair, and those of the files' lists.
     ensures few { OnOk result (read_count_of_history (D.history device.new) ≤ read_count_of_history (D.history device.old) + sum_by (pair_read_count (disk_of_device D.BlockDevice device.old)) members.now) }
 {
     let directories = scan_pairs_and_mark_lists(alloc, device, map, places, members)?;
-    let orders = name_orders_that_make_directories_a_tree(alloc, &directories, sync)?;
-    Ok(orders)
+    let found = find_directory_violations(alloc, &directories, places.addresses(), sync)?;
+    Ok(found)
 }

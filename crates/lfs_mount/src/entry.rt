@@ -1,10 +1,10 @@
 // The entry in a slot of a directory.
 
-ghost use Rattle.std.specs.Prelude.{◌≡◌};
+ghost use Rattle.std.specs.Prelude.{ℕ, ◌≡◌, ◌≤◌, is_some, length, map};
 ghost use Rattle.std.specs.Option.{option_map};
 ghost use Rattle.lfs_tag.specs.ContentView.{name_or_struct_view, slot_view};
 ghost use Rattle.lfs_tag.specs.StructView.{struct_view};
-ghost use Rattle.lfs_mount.specs.Entries.{directory_entry_of_raw_slot, entry_reference_of_raw_struct, entry_reference_of_struct};
+ghost use Rattle.lfs_mount.specs.Entries.{HoldsNoEntryAt, directory_entry_of_raw_slot, entry_reference_of_raw_struct, entry_reference_of_struct};
 ghost use Rattle.lfs_mount.specs.EntryView.{entry_view};
 
 use lfs_tag::{NameOrStruct, Slot, SlotNameKind, Struct, is_name};
@@ -53,4 +53,23 @@ pub(crate) fn file_or_directory_entry_in_slot<'a>(slot: &Slot<'a>) -> Option<Nam
         }),
         None => None,
     }
+}
+
+pub(crate) fn is_file_or_directory_entry(slot: &Slot<'_>) -> bool
+    ensures { result ≡ is_some (directory_entry_of_raw_slot (slot_view slot.now)) }
+{
+    file_or_directory_entry_in_slot(slot).is_some()
+}
+
+// Returns the index of the first slot that holds no entry, where there is one, else the slots' count.
+pub(crate) fn index_of_first_non_entry(slots: &[Slot<'_>]) -> usize
+    ensures holds { (other : ℕ) → HoldsNoEntryAt (map slot_view slots.now) other → HoldsNoEntryAt (map slot_view slots.now) result }
+    ensures within { result ≤ length slots.now }
+{
+    for index in 0..slots.len() {
+        if !is_file_or_directory_entry(&slots[index]) {
+            return index;
+        }
+    }
+    slots.len()
 }

@@ -1,24 +1,30 @@
 // The lists of files, whose blocks are marked as used.
 
-ghost use Rattle.std.specs.Prelude.{◌≡◌, ◌⊎◌, ◌≤◌, ◌+◌, slice_set, sum_by, OnOk, IfErr, IsErrOf, IsTrue, ◌↔◌};
+ghost use Rattle.std.specs.Prelude.{◌≡◌, ◌≤◌, ◌<◌, ◌+◌, ◌^◌, ◌↔◌, Err, IsTrue, OnOk, length, slice_set, sum_by};
 ghost use Rattle.std.specs.Bool.{OnFalse, OnTrue};
 ghost use Rattle.std.specs.Option.{option_and_then};
-ghost use Rattle.lfs_device.specs.Calls.{ReadsOnly, ReportsFaults};
-ghost use Rattle.lfs_model.specs.BlockSets.{BlockStateList, IsBlockFree};
+ghost use Rattle.lfs_model.specs.BlockSets.{IsBlockFree};
 ghost use Rattle.lfs_model.specs.BlockSets.BlockState.{Used};
 ghost use Rattle.lfs_model.specs.History.{read_count_of_history};
+ghost use Rattle.lfs_model.specs.declared.violations.Violation.{Violation};
 ghost use Rattle.lfs_thread.specs.Kept.{disk_of_device};
+ghost use Rattle.lfs_thread.specs.MountErrors.{OnlyReadsUnlessFault};
+ghost use Rattle.lfs_thread.specs.declared.mount_error.MountError.TheVariants.{Corrupt};
+ghost use Rattle.lfs_mount.specs.Broken.{BreaksKeptList, BreaksList};
 ghost use Rattle.lfs_mount.specs.Entries.{directory_entry_of_raw_slot};
-ghost use Rattle.lfs_mount.specs.ListsView.{file_lists_view};
+ghost use Rattle.lfs_mount.specs.ListsView.{file_lists_view, raw_slots_view};
 ghost use Rattle.lfs_mount.specs.Marking.{MarksFreeBlocksOfList, MarksFreeBlocksOfLists, MarksBlockIfFree, skip_list_of_entry};
 ghost use Rattle.lfs_mount.specs.Reads.{list_read_count};
 ghost use Rattle.lfs_tag.specs.ContentView.{slot_view};
 
 use crate::entry::file_or_directory_entry_in_slot;
+use crate::pass::PairBeforeSlotsAreRead;
 use lfs_alloc::BlockMap;
 use lfs_ctz::walk;
-use lfs_device::{BlockDevice, Error};
+use lfs_device::BlockDevice;
+use lfs_model::Violation;
 use lfs_tag::{Slot, Struct};
+use lfs_thread::MountError;
 
 // Marks a free block as used, and returns whether it was free. A block that the map doesn't have
 // isn't free.
@@ -30,35 +36,43 @@ fn mark_block_if_free(map: &mut BlockMap, block: u32) -> bool
     block < map.block_count() && map.mark(block)
 }
 
-// Marks the blocks of a file's list as used. The list has its last block at `head`, and `size`
-// bytes. Corrupt exactly where the list isn't well formed, or where one of its blocks was marked
-// before. Some of its blocks may be marked then.
-fn mark_list_blocks_as_used<D: BlockDevice>(
+// Marks the blocks of a slot's list as used. The list has its last block at `list.0`, and `list.1`
+// bytes.
+//
+// Errors: `Corrupt` where the list isn't well formed, or where one of its blocks was marked before:
+// then it names the first one. Some of its blocks may be marked then. `Io` where a read failed.
+fn mark_list_of_slot_used<D: BlockDevice>(
     device: &mut D,
     map: &mut BlockMap,
-    head: u32,
-    size: u32,
-) -> Result<(), Error>
-    ensures marked { OnOk result (MarksFreeBlocksOfList (disk_of_device D.BlockDevice device.old) map.old (head, size) map.new) }
-    ensures corrupt { IsErrOf result Error.Corrupt → (new : BlockStateList) → ¬ MarksFreeBlocksOfList (disk_of_device D.BlockDevice device.old) map.old (head, size) new }
-    ensures device { ReadsOnly D.BlockDevice device.old device.new }
-    ensures faults { ReportsFaults D.BlockDevice device.old device.new result }
-    ensures errors { IfErr result (λ e. (e ≡ Error.Io) ⊎ (e ≡ Error.Corrupt)) }
-    ensures few { OnOk result (read_count_of_history (D.history device.new) ≤ read_count_of_history (D.history device.old) + list_read_count (D.geometry device.old).block_size (head, size)) }
+    pair: [u32; 2],
+    slot: u32,
+    list: (u32, u32),
+) -> Result<(), MountError>
+    ensures marked { OnOk result (MarksFreeBlocksOfList (disk_of_device D.BlockDevice device.old) map.old list map.new) }
+    ensures broken { (v : Violation) → result ≡ Err (Corrupt v) → BreaksList (disk_of_device D.BlockDevice device.old) map.old list pair slot v }
+    ensures reading { OnlyReadsUnlessFault D.BlockDevice device.old device.new result }
+    ensures few { OnOk result (read_count_of_history (D.history device.new) ≤ read_count_of_history (D.history device.old) + list_read_count (D.geometry device.old).block_size list) }
 {
-    let mut is_free = true;
-    walk(
+    let mut taken: Option<u32> = None;
+    let walked = walk(
         device,
-        head,
-        size,
+        list.0,
+        list.1,
         &mut |block: u32|
-            ensures { MarksBlockIfFree map.entry.now is_free.entry block map.exit.now is_free.exit }
+            ensures { MarksBlockIfFree map.entry.now taken.entry block map.exit.now taken.exit }
         {
-            let was_free = mark_block_if_free(map, block);
-            is_free = is_free && was_free;
+            if !mark_block_if_free(map, block) && taken.is_none() {
+                taken = Some(block);
+            }
         },
-    )?;
-    if is_free { Ok(()) } else { Err(Error::Corrupt) }
+    );
+    if let Err(error) = walked {
+        return Err(MountError::of(error, Violation::List { pair, slot }));
+    }
+    match taken {
+        Some(block) => Err(MountError::Corrupt(Violation::TwoOwners { pair, slot, block })),
+        None => Ok(()),
+    }
 }
 
 // Returns the head and the size of the list that a slot's entry has, if it has one.
@@ -74,23 +88,26 @@ fn skip_list_of_slot(slot: &Slot<'_>) -> Option<(u32, u32)>
     }
 }
 
-// Marks the blocks of all lists of these slots as used. Corrupt exactly where one of the lists
-// isn't well formed, or where a block was marked before. Some blocks may be marked then.
+// Marks the blocks of all lists of a pair's slots as used. These are the slots that are kept.
+//
+// Errors: `Corrupt` where one of the lists isn't well formed, or where a block was marked before.
+// Some blocks may be marked then. `Io` where a read failed.
 pub(crate) fn mark_lists_of_slots_used<D: BlockDevice>(
     device: &mut D,
     map: &mut BlockMap,
+    member: &PairBeforeSlotsAreRead,
     slots: &[Slot<'_>],
-) -> Result<(), Error>
+) -> Result<(), MountError>
+    requires { length slots.now < 2 ^ 31 }
     ensures marked { OnOk result (MarksFreeBlocksOfLists (disk_of_device D.BlockDevice device.old) map.old (file_lists_view slots.now) map.new) }
-    ensures corrupt { IsErrOf result Error.Corrupt → (new : BlockStateList) → ¬ MarksFreeBlocksOfLists (disk_of_device D.BlockDevice device.old) map.old (file_lists_view slots.now) new }
-    ensures device { ReadsOnly D.BlockDevice device.old device.new }
-    ensures faults { ReportsFaults D.BlockDevice device.old device.new result }
-    ensures errors { IfErr result (λ e. (e ≡ Error.Io) ⊎ (e ≡ Error.Corrupt)) }
+    ensures broken { (v : Violation) → result ≡ Err (Corrupt v) → BreaksKeptList (disk_of_device D.BlockDevice device.old) member.now map.old (raw_slots_view slots.now) v }
+    ensures reading { OnlyReadsUnlessFault D.BlockDevice device.old device.new result }
     ensures few { OnOk result (read_count_of_history (D.history device.new) ≤ read_count_of_history (D.history device.old) + sum_by (list_read_count (D.geometry device.old).block_size) (file_lists_view slots.now)) }
 {
-    for slot in slots {
-        if let Some((head, size)) = skip_list_of_slot(slot) {
-            mark_list_blocks_as_used(device, map, head, size)?;
+    for index in 0..slots.len() {
+        if let Some(list) = skip_list_of_slot(&slots[index]) {
+            let number = member.number_of_kept_slot(index);
+            mark_list_of_slot_used(device, map, member.at, number, list)?;
         }
     }
     Ok(())

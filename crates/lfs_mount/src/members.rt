@@ -35,6 +35,7 @@ fn make_directory_pair_from_header(
     ensures { result ≡ pair_description_of_header (move_view state.now) is_first pair.now }
 {
     PairBeforeSlotsAreRead {
+        at: pair.blocks,
         active: pair.active,
         is_hard: has_hard_tail(pair.tail),
         has_superblock: is_first,

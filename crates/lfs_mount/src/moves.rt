@@ -1,18 +1,21 @@
 // The check of the move that a thread's global state sets.
 
-ghost use Rattle.std.specs.Prelude.{◌≡◌, ◌++◌, ◌∷◌, IfErr, List, OnErr, OnOk, false, map, true};
+ghost use Rattle.std.specs.Prelude.{◌≡◌, ◌++◌, ◌∷◌, Err, IfErr, List, OnOk, false, map, true};
 ghost use Rattle.lfs_model.specs.Disk.{Disk};
 ghost use Rattle.lfs_model.specs.Slots.{pair_address_of_array};
 ghost use Rattle.lfs_model.specs.Thread.{Pair as ThreadPair};
-ghost use Rattle.lfs_model.specs.View.{IsAcceptedImage, HasValidMoveOrNone};
+ghost use Rattle.lfs_model.specs.View.{HasValidMoveOrNone};
+ghost use Rattle.lfs_model.specs.Violations.{BreaksPairs};
+ghost use Rattle.lfs_model.specs.declared.violations.Violation.{Violation};
 ghost use Rattle.lfs_pair.specs.Pair.{pair_address_in_header};
 ghost use Rattle.lfs_tag.specs.FieldsView.{move_view};
 ghost use Rattle.lfs_mount.specs.Moves.{AreDirectoryHeadersWithGstate, HasEntryAtSlotNamedBySetMove, is_move_none_or_at_addresses, is_pair_among_addresses};
 
-use lfs_device::Error;
+use lfs_model::Violation;
 use lfs_pair::{Pair, is_same_pair};
 use lfs_tag::MoveState;
 use lfs_tag::kinds::DELETE;
+use lfs_thread::MountError;
 
 // Returns whether one of the pairs is at an address.
 fn is_address_of_any_pair(address: [u32; 2], pairs: &[Pair]) -> bool
@@ -31,19 +34,19 @@ fn is_address_of_any_pair(address: [u32; 2], pairs: &[Pair]) -> bool
 // zero. Or the move is a delete of a slot in one of these pairs. Whoever reads the slots checks
 // that the slot is an entry there. Where it is one, the move is right.
 //
-// Errors: `Corrupt` exactly where the move is neither. No accepted image has such a move.
-pub(crate) fn check_move(state: &MoveState, pairs: &[Pair]) -> Result<(), Error>
+// Errors: `Corrupt` exactly where the move is neither, with the rule of the move. The image breaks it.
+pub(crate) fn check_move(state: &MoveState, pairs: &[Pair]) -> Result<(), MountError>
     ensures ok { OnOk result (is_move_none_or_at_addresses (move_view state.now) (map pair_address_in_header pairs.now) ≡ true) }
-    ensures corrupt { IfErr result (λ e. (e ≡ Error.Corrupt) × (is_move_none_or_at_addresses (move_view state.now) (map pair_address_in_header pairs.now) ≡ false)) }
+    ensures corrupt { IfErr result (λ e. (e ≡ MountError.Corrupt Violation.Move) × (is_move_none_or_at_addresses (move_view state.now) (map pair_address_in_header pairs.now) ≡ false)) }
     ensures right { OnOk result ((chain : List ThreadPair) (p : ThreadPair) (rest : List ThreadPair)
         → AreDirectoryHeadersWithGstate (move_view state.now) pairs.now chain p rest → HasEntryAtSlotNamedBySetMove (move_view state.now) (p ∷ rest) → HasValidMoveOrNone (chain ++ p ∷ rest) (move_view state.now)) }
-    ensures refused { OnErr result ((disk : Disk) (chain : List ThreadPair) (p : ThreadPair) (rest : List ThreadPair)
-        → AreDirectoryHeadersWithGstate (move_view state.now) pairs.now chain p rest → ¬ IsAcceptedImage disk (chain ++ p ∷ rest)) }
+    ensures broken { (v : Violation) → result ≡ Err (MountError.Corrupt v) → (disk : Disk) (chain : List ThreadPair) (p : ThreadPair) (rest : List ThreadPair)
+        → AreDirectoryHeadersWithGstate (move_view state.now) pairs.now chain p rest → BreaksPairs disk (chain ++ p ∷ rest) v }
 {
     if is_move_none_or_in_pairs(state, pairs) {
         Ok(())
     } else {
-        Err(Error::Corrupt)
+        Err(MountError::Corrupt(Violation::Move))
     }
 }
 

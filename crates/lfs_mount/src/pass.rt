@@ -1,36 +1,43 @@
 // The pass over the pairs of the directories, each of which is read once.
 
-ghost use Rattle.std.specs.Prelude.{◌≡◌, ◌≤◌, ◌<◌, ◌+◌, All, IfOk, OnOk, IfErr, IsErrOf, None, Some, is_some, map, sum_by};
-ghost use Rattle.lfs_device.specs.Calls.{ReadsOnly};
+ghost use Rattle.std.specs.Prelude.{◌≡◌, ◌≢◌, ◌≤◌, ◌<◌, ◌+◌, ◌++◌, ◌∷◌, ◌^◌, Bool, Err, List, All, IfErr, IfOk, None, OnOk, Some, length, map, sum_by};
 ghost use Rattle.lfs_model.specs.Disk.{disk_in_order};
-ghost use Rattle.lfs_model.specs.BlockSets.{BlockStateList};
+ghost use Rattle.lfs_model.specs.Blocks.{block_bytes_by_number};
 ghost use Rattle.lfs_model.specs.History.{read_count_of_history};
-ghost use Rattle.lfs_model.specs.Names.{Name};
+ghost use Rattle.lfs_model.specs.Thread.{Pair};
+ghost use Rattle.lfs_model.specs.Violations.{BreaksPairs};
 ghost use Rattle.lfs_model.specs.declared.order.NameOrder.{NameOrder};
-ghost use Rattle.lfs_mount.specs.Device.{ReportsMountErrorsAndFaults};
-ghost use Rattle.lfs_thread.specs.Kept.{disk_of_device};
+ghost use Rattle.lfs_model.specs.declared.violations.Violation.{Violation};
+ghost use Rattle.lfs_model.specs.declared.violations.Violation.TheVariants.{NoSuperblock};
+ghost use Rattle.lfs_mount.specs.Broken.{BreaksDescribedPair, BreaksMovedSlot, BreaksSlotsInBlock, kept_slots_in_block};
+ghost use Rattle.lfs_mount.specs.Checked.{IsThreadMatchingMapAndPairDescriptions};
 ghost use Rattle.lfs_mount.specs.DirectoryView.{directory_graph_view};
-ghost use Rattle.lfs_mount.specs.Entries.{directory_entry_of_raw_slot, empty_directory_scan};
+ghost use Rattle.lfs_mount.specs.Entries.{empty_directory_scan};
 ghost use Rattle.lfs_mount.specs.KnownView.{directory_scan_view};
 ghost use Rattle.lfs_mount.specs.Passed.{ScansPairsIntoDirectoryGraph};
-ghost use Rattle.lfs_mount.specs.Reaching.{DirectoryGraph, DirectoryVertexWithSoundnessAndBranches};
 ghost use Rattle.lfs_mount.specs.Reads.{pair_read_count};
-ghost use Rattle.lfs_mount.specs.Taken.{AddsPairToDirectoryScan, slots_after_superblock, raw_slots_not_moved};
+ghost use Rattle.lfs_mount.specs.Taken.{AddsPairToDirectoryScan, raw_slots_not_moved, slots_after_superblock};
 ghost use Rattle.lfs_tag.specs.ContentView.{slot_view};
+ghost use Rattle.lfs_thread.specs.Kept.{disk_of_device};
+ghost use Rattle.lfs_thread.specs.MountErrors.{OnlyReadsUnlessFault};
+ghost use Rattle.lfs_thread.specs.declared.mount_error.MountError.TheVariants.{Corrupt, Io};
 
 use crate::directory_scan::ScannedDirectory;
-use crate::entry::file_or_directory_entry_in_slot;
+use crate::entry::{index_of_first_non_entry, is_file_or_directory_entry};
 use crate::lists::mark_lists_of_slots_used;
 use crate::reachability::Directory;
 use lfs_alloc::BlockMap;
 use lfs_device::{BlockDevice, Error, read_block};
+use lfs_model::Violation;
 use lfs_tag::{Content, Log, Slot};
-use lfs_thread::PairAddressList;
+use lfs_thread::{MountError, PairAddressList};
 use std::alloc::Global;
 
 // What is known of a directory's pair before its slots are read.
 #[derive(Clone, Copy, Drop)]
 pub(crate) struct PairBeforeSlotsAreRead {
+    // The pair's address, as the thread names it.
+    pub at: [u32; 2],
     // The pair's active block.
     pub active: u32,
     // Whether the tail is hard: then the next pair continues the directory.
@@ -41,50 +48,119 @@ pub(crate) struct PairBeforeSlotsAreRead {
     pub moved: Option<u32>,
 }
 
-// Removes the slot that a set move names. Corrupt exactly where it is no entry.
-fn remove_moved_slot_or_refuse_non_entry(
+impl PairBeforeSlotsAreRead {
+    ghost use Rattle.std.specs.Prelude.{◌≡◌, ◌<◌, ◌^◌};
+    ghost use Rattle.lfs_mount.specs.Taken.{number_of_kept_slot};
+
+    // Returns the number in the pair of a slot that is kept, by its index among those.
+    pub fn number_of_kept_slot(&self, index: usize) -> u32
+        requires { index < 2 ^ 31 }
+        ensures { result ≡ number_of_kept_slot self.now index }
+    {
+        let behind = u32::from(self.has_superblock);
+        let number = index as u32 + behind;
+        match self.moved {
+            Some(id) if id <= number => number + 1,
+            _ => number,
+        }
+    }
+}
+
+// Removes the slot that a set move names, where it is an entry.
+//
+// Errors: `Corrupt`, where it is no entry.
+fn remove_moved_slot(
     slots: &mut Vec<Slot<'_>>,
-    moved: Option<u32>,
-) -> Result<(), Error>
-    ensures ok { OnOk result (raw_slots_not_moved moved (map slot_view slots.old.items) ≡ Some (map slot_view slots.new.items)) }
-    ensures corrupt { IfErr result (λ e. (e ≡ Error.Corrupt) × (raw_slots_not_moved moved (map slot_view slots.old.items) ≡ None)) }
+    member: &PairBeforeSlotsAreRead,
+) -> Result<(), MountError>
+    ensures ok { OnOk result (raw_slots_not_moved member.now.moved (map slot_view slots.old.items) ≡ Some (map slot_view slots.new.items)) }
+    ensures fewer { OnOk result (length slots.new.items ≤ length slots.old.items) }
+    ensures broken { IfErr result (λ e. (v : Violation) × ((e ≡ Corrupt v) × BreaksMovedSlot member.now (map slot_view slots.old.items) v)) }
 {
-    let Some(id) = moved else {
+    let Some(id) = member.moved else {
         return Ok(());
     };
-    let id = id as usize;
-    if id >= slots.len() || !is_file_or_directory_entry(&slots[id]) {
-        return Err(Error::Corrupt);
+    let index = id as usize;
+    if index >= slots.len() || slots[index].is_superblock() {
+        return Err(MountError::Corrupt(Violation::Move));
     }
-    slots.remove(id);
+    if !is_file_or_directory_entry(&slots[index]) {
+        return Err(MountError::Corrupt(Violation::Entry {
+            pair: member.at,
+            slot: id,
+        }));
+    }
+    slots.remove(index);
     Ok(())
 }
 
-fn is_file_or_directory_entry(slot: &Slot<'_>) -> bool
-    ensures { result ≡ is_some (directory_entry_of_raw_slot (slot_view slot.now)) }
-{
-    file_or_directory_entry_in_slot(slot).is_some()
-}
-
 // Removes the superblock's slot. Corrupt exactly where there is no slot.
-fn remove_superblock_slot(slots: &mut Vec<Slot<'_>>, has_superblock: bool) -> Result<(), Error>
+fn remove_superblock_slot(slots: &mut Vec<Slot<'_>>, has_superblock: bool) -> Result<(), MountError>
     ensures ok { OnOk result (slots_after_superblock has_superblock (map slot_view slots.old.items) ≡ Some (map slot_view slots.new.items)) }
-    ensures corrupt { IfErr result (λ e. (e ≡ Error.Corrupt) × (slots_after_superblock has_superblock (map slot_view slots.old.items) ≡ None)) }
+    ensures fewer { OnOk result (length slots.new.items ≤ length slots.old.items) }
+    ensures broken { IfErr result (λ e. (e ≡ Corrupt NoSuperblock) × (slots_after_superblock has_superblock (map slot_view slots.old.items) ≡ None)) }
 {
     if !has_superblock {
         return Ok(());
     }
     if slots.is_empty() {
-        return Err(Error::Corrupt);
+        return Err(MountError::Corrupt(Violation::NoSuperblock));
     }
     slots.remove(0);
     Ok(())
 }
 
+// Returns the slots of a pair's log, without the superblock's and the one that a set move names.
+//
+// Errors: `Corrupt` where the log is malformed, the slot that the move names is no entry, or there
+// is no superblock to remove. `NoMemory` where memory for slots isn't granted.
+fn read_kept_slots<'a>(
+    alloc: Global,
+    log: &Log<'a>,
+    member: &PairBeforeSlotsAreRead,
+) -> Result<Vec<Slot<'a>>, MountError>
+    ensures kept { IfOk result (λ slots. kept_slots_in_block member.now log.now ≡ Some (map slot_view slots.items)) }
+    ensures few { length log.now ≤ 2 ^ 16 → IfOk result (λ slots. length slots.items < 2 ^ 15) }
+    ensures broken { (v : Violation) → result ≡ Err (Corrupt v) → BreaksSlotsInBlock member.now log.now v }
+    ensures error { IfErr result (λ e. e ≢ Io) }
+{
+    let mut slots = match Content::read(alloc, log) {
+        Ok(content) => content.slots,
+        Err(error) => {
+            let none = Violation::NoContent { pair: member.at };
+            return Err(MountError::of(Error::from(error), none));
+        }
+    };
+    remove_moved_slot(&mut slots, member)?;
+    remove_superblock_slot(&mut slots, member.has_superblock)?;
+    Ok(slots)
+}
+
+// Reads the active block of a pair. There is no error `Corrupt`.
+fn read_active_block<D: BlockDevice>(
+    alloc: Global,
+    device: &mut D,
+    member: &PairBeforeSlotsAreRead,
+) -> Result<Vec<u8>, MountError>
+    requires { member.now.active < (D.geometry device.old).block_count }
+    ensures bytes { IfOk result (λ bytes. bytes.items ≡ block_bytes_by_number (D.blocks device.old) member.now.active) }
+    ensures sound { (v : Violation) → result ≢ Err (Corrupt v) }
+    ensures reading { OnlyReadsUnlessFault D.BlockDevice device.old device.new result }
+    ensures once { OnOk result (read_count_of_history (D.history device.new) ≡ read_count_of_history (D.history device.old) + 1) }
+{
+    match read_block(alloc, device, member.active) {
+        Ok(bytes) => Ok(bytes),
+        Err(Error::Io) => Err(MountError::Io),
+        Err(_) => Err(MountError::NoMemory),
+    }
+}
+
 // Reads a pair of a directory by its active block. Its entries are added to what is known of the
-// directory, in each order of names, and the blocks of its files are marked. Corrupt exactly where
-// the pair's log is malformed, a slot holds no entry, a list isn't well formed, or a block was
-// marked before.
+// directory, in each order of names, and the blocks of its files are marked.
+//
+// Errors: `Corrupt` where the pair's log is malformed, a slot holds no entry, a list isn't well
+// formed, or a block was marked before. `Io` where a read failed, and `NoMemory` where memory isn't
+// granted.
 fn scan_pair_and_mark_lists<D: BlockDevice>(
     alloc: Global,
     device: &mut D,
@@ -92,38 +168,47 @@ fn scan_pair_and_mark_lists<D: BlockDevice>(
     places: &PairAddressList,
     known: &mut ScannedDirectory,
     member: &PairBeforeSlotsAreRead,
-) -> Result<(), Error>
+) -> Result<(), MountError>
     requires { member.now.active < (D.geometry device.old).block_count }
     ensures taken { OnOk result ((order : NameOrder) → AddsPairToDirectoryScan (disk_in_order order (disk_of_device D.BlockDevice device.old)) places.now member.now (directory_scan_view order known.old) map.old (directory_scan_view order known.new) map.new) }
-    ensures corrupt { IsErrOf result Error.Corrupt → (order : NameOrder) (new : Name × DirectoryVertexWithSoundnessAndBranches) (sets : BlockStateList) → ¬ AddsPairToDirectoryScan (disk_in_order order (disk_of_device D.BlockDevice device.old)) places.now member.now (directory_scan_view order known.old) map.old new sets }
-    ensures device { ReadsOnly D.BlockDevice device.old device.new }
-    ensures errors { ReportsMountErrorsAndFaults D.BlockDevice device.old device.new result }
+    ensures broken { (v : Violation) → result ≡ Err (Corrupt v) → (order : NameOrder) → BreaksDescribedPair (disk_in_order order (disk_of_device D.BlockDevice device.old)) member.now map.old v }
+    ensures reading { OnlyReadsUnlessFault D.BlockDevice device.old device.new result }
     ensures few { OnOk result (read_count_of_history (D.history device.new) ≤ read_count_of_history (D.history device.old) + pair_read_count (disk_of_device D.BlockDevice device.old) member.now) }
 {
-    let bytes = read_block(alloc, device, member.active)?;
-    let log = Log::read(&bytes);
-    let mut slots = Content::read(alloc, &log)?.slots;
-    remove_moved_slot_or_refuse_non_entry(&mut slots, member.moved)?;
-    remove_superblock_slot(&mut slots, member.has_superblock)?;
-    known.scan_directory_slots(places, &slots)?;
-    mark_lists_of_slots_used(device, map, &slots)?;
+    let bytes = read_active_block(alloc, device, member)?;
+    let slots = read_kept_slots(alloc, &Log::read(&bytes), member)?;
+    if let Err(error) = known.scan_directory_slots(places, &slots) {
+        let slot = member.number_of_kept_slot(index_of_first_non_entry(&slots));
+        return Err(MountError::of(
+            error,
+            Violation::Entry {
+                pair: member.at,
+                slot,
+            },
+        ));
+    }
+    mark_lists_of_slots_used(device, map, member, &slots)?;
     Ok(())
 }
 
 // Reads the pairs of all directories, in the thread's order, and returns what is known of each
-// directory in each order of names. Corrupt exactly where one of the pairs can't be taken.
+// directory in each order of names. The map's used blocks are those of the thread's pairs.
+//
+// Errors: `Corrupt` where a slot holds no entry, a file's list isn't well formed, or a block is owned
+// twice. `Io` where a read failed, and `NoMemory` where memory isn't granted.
 pub(crate) fn scan_pairs_and_mark_lists<D: BlockDevice>(
     alloc: Global,
     device: &mut D,
     map: &mut BlockMap,
     places: &PairAddressList,
     members: &[PairBeforeSlotsAreRead],
-) -> Result<Vec<Directory>, Error>
+) -> Result<Vec<Directory>, MountError>
     requires { All (λ m. m.active < (D.geometry device.old).block_count) members.now }
     ensures taken { IfOk result (λ ds. (order : NameOrder) → ScansPairsIntoDirectoryGraph (disk_in_order order (disk_of_device D.BlockDevice device.old)) places.now empty_directory_scan map.old members.now (directory_graph_view order ds.items) map.new) }
-    ensures corrupt { IsErrOf result Error.Corrupt → (order : NameOrder) (graph : DirectoryGraph) (end : BlockStateList) → ¬ ScansPairsIntoDirectoryGraph (disk_in_order order (disk_of_device D.BlockDevice device.old)) places.now empty_directory_scan map.old members.now graph end }
-    ensures device { ReadsOnly D.BlockDevice device.old device.new }
-    ensures errors { ReportsMountErrorsAndFaults D.BlockDevice device.old device.new result }
+    ensures broken { (v : Violation) → result ≡ Err (Corrupt v) → (order : NameOrder) (sync : Bool) (chain : List Pair) (p : Pair) (rest : List Pair)
+        → IsThreadMatchingMapAndPairDescriptions (disk_in_order order (disk_of_device D.BlockDevice device.old)) map.old places.now members.now sync chain p rest
+        → BreaksPairs (disk_in_order order (disk_of_device D.BlockDevice device.old)) (chain ++ p ∷ rest) v }
+    ensures reading { OnlyReadsUnlessFault D.BlockDevice device.old device.new result }
     ensures few { OnOk result (read_count_of_history (D.history device.new) ≤ read_count_of_history (D.history device.old) + sum_by (pair_read_count (disk_of_device D.BlockDevice device.old)) members.now) }
 {
     let mut directories = Vec::new(alloc);

@@ -1,21 +1,25 @@
 // The superblock's pairs, which come before the root's first pair.
 
-ghost use Rattle.std.specs.Prelude.{ℕ, List, ◌≡◌, ◌↔◌, ◌⊎◌, ◌<◌, ◌≤◌, ◌+◌, length, IsTrue, IfOk, IfErr, IsErrOf, OnOk, None, Some, map};
+ghost use Rattle.std.specs.Prelude.{Err, ◌≡◌, ◌↔◌, ◌⊎◌, ◌<◌, ◌≤◌, ◌+◌, length, IsTrue, IfOk, IfErr, IfSome, IsErrOf, None, Some, map};
 ghost use Rattle.std.specs.Option.{option_map};
-ghost use Rattle.lfs_device.specs.Calls.{ReadsOnly, ReportsFaults};
 ghost use Rattle.lfs_model.specs.Disk.{disk_in_order};
 ghost use Rattle.lfs_model.specs.Blocks.{block_bytes_by_number};
 ghost use Rattle.lfs_model.specs.History.{read_count_of_history};
-ghost use Rattle.lfs_model.specs.View.{BeginsWithLogEntry, IsAcceptedImage, superblock_name_log_entry};
+ghost use Rattle.lfs_model.specs.View.{BeginsWithLogEntry, superblock_name_log_entry};
+ghost use Rattle.lfs_model.specs.Violations.{BreaksPairs};
 ghost use Rattle.lfs_model.specs.declared.order.NameOrder.{NameOrder};
+ghost use Rattle.lfs_model.specs.declared.violations.Violation.{Violation};
 ghost use Rattle.lfs_tag.specs.ContentView.{slot_view};
 ghost use Rattle.lfs_thread.specs.Kept.{disk_of_device, pairs_of_headers};
-ghost use Rattle.lfs_mount.specs.SuperblockChain.{AreHeadersOfDiskThread, HasSuperblockChainOfLength, IsSuperblockStructInBlock, is_superblock_struct_of_geometry, number_of_first_pair_with_nonzero_slot_count, inline_struct_bytes, has_name_bytes, superblock_chain_may_continue_after, repeats_superblock_struct, first_slot_repeats_superblock, block_repeats_superblock, superblock_struct_in_first_slot, superblock_struct_in_block_log};
+ghost use Rattle.lfs_thread.specs.MountErrors.{OnlyReadsUnlessFault};
+ghost use Rattle.lfs_mount.specs.SuperblockChain.{AreHeadersOfDiskThread, BreaksFirstSuperblock, HasSuperblockChainOfLength, IsSuperblockStructInBlock, is_superblock_struct_of_geometry, number_of_first_pair_with_nonzero_slot_count, inline_struct_bytes, has_name_bytes, superblock_chain_may_continue_after, repeats_superblock_struct, first_slot_repeats_superblock, block_repeats_superblock, superblock_struct_in_first_slot, superblock_struct_in_block_log};
 
 use lfs_device::{AcceptedVersions, BlockDevice, Error, Geometry, read_block};
+use lfs_model::Violation;
 use lfs_pair::Pair;
 use lfs_tag::kinds::{INLINE_STRUCT, SUPERBLOCK_NAME};
 use lfs_tag::{Content, Log, Slot, Tag, has_hard_tail, superblock_of};
+use lfs_thread::MountError;
 use std::alloc::Global;
 
 const MAGIC: &[u8] = b"littlefs";
@@ -117,23 +121,17 @@ fn is_superblock_repeated_in_slots(
     }
 }
 
-// Returns the superblock's struct in a block whose log begins with the superblock. Corrupt exactly
-// where the block has none.
-fn superblock_struct_from_block(
+// Returns the superblock's struct in slot 0 of a log. Corrupt exactly where there is none.
+fn superblock_struct_from_log(
     alloc: Global,
     geometry: &Geometry,
-    block: &[u8],
+    log: &Log<'_>,
 ) -> Result<Vec<u8>, Error>
-    ensures begins { OnOk result (BeginsWithLogEntry (Some block.now) superblock_name_log_entry) }
-    ensures holds { IfOk result (λ bytes. superblock_struct_in_block_log geometry.now.profile.versions geometry.now.block_size geometry.now.block_count block.now ≡ Some bytes.items) }
-    ensures corrupt { IsErrOf result Error.Corrupt → BeginsWithLogEntry (Some block.now) superblock_name_log_entry → superblock_struct_in_block_log geometry.now.profile.versions geometry.now.block_size geometry.now.block_count block.now ≡ None }
+    ensures ok { IfOk result (λ bytes. superblock_struct_in_block_log geometry.now.profile.versions geometry.now.block_size geometry.now.block_count log.now ≡ Some bytes.items) }
+    ensures corrupt { IsErrOf result Error.Corrupt → superblock_struct_in_block_log geometry.now.profile.versions geometry.now.block_size geometry.now.block_count log.now ≡ None }
     ensures errors { IfErr result (λ e. (e ≡ Error.Corrupt) ⊎ (e ≡ Error.NoMemory)) }
 {
-    let log = Log::read(block);
-    if !log_begins_with_superblock(&log) {
-        return Err(Error::Corrupt);
-    }
-    let content = Content::read(alloc, &log)?;
+    let content = Content::read(alloc, log)?;
     match superblock_struct_in_slots(geometry, &content.slots) {
         Some(bytes) => Ok(Vec::from_slice(alloc, bytes)?),
         None => Err(Error::Corrupt),
@@ -159,47 +157,61 @@ fn is_superblock_repeated_in_block(
     is_superblock_repeated_in_slots(versions, &content.slots, bytes)
 }
 
-// Reads a block of the device, and returns the superblock's struct in it. Corrupt exactly where the
-// block has none.
-fn read_superblock_struct_from_block<D: BlockDevice>(
+// Reads the first pair that has a slot, and returns its superblock's struct. The log begins with the
+// superblock.
+fn read_first_superblock_struct<D: BlockDevice>(
     alloc: Global,
     dev: &mut D,
-    block: u32,
-) -> Result<Vec<u8>, Error>
-    requires { block < (D.geometry dev.old).block_count }
-    ensures found { IfOk result (λ bytes. IsSuperblockStructInBlock (disk_of_device D.BlockDevice dev.old) block bytes.items) }
-    ensures corrupt { IsErrOf result Error.Corrupt → (bytes : List ℕ) → ¬ IsSuperblockStructInBlock (disk_of_device D.BlockDevice dev.old) block bytes }
-    ensures device { ReadsOnly D.BlockDevice dev.old dev.new }
-    ensures errors { IfErr result (λ e. (e ≡ Error.Corrupt) ⊎ ((e ≡ Error.Io) ⊎ (e ≡ Error.NoMemory))) }
-    ensures faults { ReportsFaults D.BlockDevice dev.old dev.new result }
+    pair: &Pair,
+) -> Result<Vec<u8>, MountError>
+    requires { pair.now.active < (D.geometry dev.old).block_count }
+    ensures found { IfOk result (λ bytes. IsSuperblockStructInBlock (disk_of_device D.BlockDevice dev.old) pair.now.active bytes.items) }
+    ensures broken { (v : Violation) → result ≡ Err (MountError.Corrupt v) → BreaksFirstSuperblock (disk_of_device D.BlockDevice dev.old) pair.now v }
+    ensures device { OnlyReadsUnlessFault D.BlockDevice dev.old dev.new result }
     ensures reads { read_count_of_history (D.history dev.new) ≤ read_count_of_history (D.history dev.old) + 1 }
 {
     let geometry = dev.geometry();
-    let bytes = read_block(alloc, dev, block)?;
-    superblock_struct_from_block(alloc, &geometry, &bytes)
+    let no_struct = Violation::Superblock { pair: pair.blocks };
+    let block = match read_block(alloc, dev, pair.active) {
+        Ok(block) => block,
+        Err(error) => return Err(MountError::of(error, no_struct)),
+    };
+    let log = Log::read(&block);
+    if !log_begins_with_superblock(&log) {
+        return Err(MountError::Corrupt(Violation::FirstEntry { pair: pair.blocks }));
+    }
+    match superblock_struct_from_log(alloc, &geometry, &log) {
+        Ok(bytes) => Ok(bytes),
+        Err(error) => Err(MountError::of(error, no_struct)),
+    }
 }
 
-// Reads a block of the device, and returns whether its first slot is a superblock's. Corrupt
-// exactly where it is one whose struct differs from `bytes` in more than an accepted version, or
-// where the log has no content.
-fn read_whether_block_repeats_superblock<D: BlockDevice>(
+// Reads a pair, and returns whether its first slot is a superblock's. Corrupt exactly where it is one
+// whose struct differs from `bytes` in more than an accepted version, or where the log has no
+// content.
+fn read_whether_pair_repeats_superblock<D: BlockDevice>(
     alloc: Global,
     dev: &mut D,
-    block: u32,
+    pair: &Pair,
     bytes: &[u8],
-) -> Result<bool, Error>
-    requires block { block < (D.geometry dev.old).block_count }
+) -> Result<bool, MountError>
+    requires block { pair.now.active < (D.geometry dev.old).block_count }
     requires bytes { length bytes.now ≡ 24 }
-    ensures ok { IfOk result (λ repeats. block_repeats_superblock (D.geometry dev.old).profile.versions bytes.now (block_bytes_by_number (D.blocks dev.old) block) ≡ Some repeats) }
-    ensures corrupt { IsErrOf result Error.Corrupt → block_repeats_superblock (D.geometry dev.old).profile.versions bytes.now (block_bytes_by_number (D.blocks dev.old) block) ≡ None }
-    ensures device { ReadsOnly D.BlockDevice dev.old dev.new }
-    ensures errors { IfErr result (λ e. (e ≡ Error.Corrupt) ⊎ ((e ≡ Error.Io) ⊎ (e ≡ Error.NoMemory))) }
-    ensures faults { ReportsFaults D.BlockDevice dev.old dev.new result }
+    ensures ok { IfOk result (λ repeats. block_repeats_superblock (D.geometry dev.old).profile.versions bytes.now (block_bytes_by_number (D.blocks dev.old) pair.now.active) ≡ Some repeats) }
+    ensures broken { (v : Violation) → result ≡ Err (MountError.Corrupt v) → (v ≡ Violation.OtherSuperblock pair.now.blocks) × (block_repeats_superblock (D.geometry dev.old).profile.versions bytes.now (block_bytes_by_number (D.blocks dev.old) pair.now.active) ≡ None) }
+    ensures device { OnlyReadsUnlessFault D.BlockDevice dev.old dev.new result }
     ensures reads { read_count_of_history (D.history dev.new) ≤ read_count_of_history (D.history dev.old) + 1 }
 {
     let versions = dev.geometry().profile.versions;
-    let block = read_block(alloc, dev, block)?;
-    is_superblock_repeated_in_block(alloc, versions, &block, bytes)
+    let other = Violation::OtherSuperblock { pair: pair.blocks };
+    let block = match read_block(alloc, dev, pair.active) {
+        Ok(block) => block,
+        Err(error) => return Err(MountError::of(error, other)),
+    };
+    match is_superblock_repeated_in_block(alloc, versions, &block, bytes) {
+        Ok(repeats) => Ok(repeats),
+        Err(error) => Err(MountError::of(error, other)),
+    }
 }
 
 // Returns whether a pair has at most one slot, and a hard tail.
@@ -209,22 +221,21 @@ fn can_superblock_chain_continue(pair: &Pair) -> bool
     (pair.slot_count == 0 || pair.slot_count == 1) && has_hard_tail(pair.tail)
 }
 
-// Returns the number of the first pair that has a slot. Corrupt exactly where there is none, or
-// where a pair before it has no hard tail.
-fn first_pair_with_slots(pairs: &[Pair]) -> Result<usize, Error>
-    ensures ok { IfOk result (λ index. number_of_first_pair_with_nonzero_slot_count pairs.now ≡ Some index) }
-    ensures below { IfOk result (λ index. index < length pairs.now) }
-    ensures corrupt { IfErr result (λ e. (e ≡ Error.Corrupt) × (number_of_first_pair_with_nonzero_slot_count pairs.now ≡ None)) }
+// Returns the number of the first pair that has a slot. Returns None where there is none, or where
+// a pair before it has no hard tail.
+fn first_pair_with_slots(pairs: &[Pair]) -> Option<usize>
+    ensures first { result ≡ number_of_first_pair_with_nonzero_slot_count pairs.now }
+    ensures below { IfSome result (λ index. index < length pairs.now) }
 {
     for index in 0..pairs.len() {
         if pairs[index].slot_count != 0 {
-            return Ok(index);
+            return Some(index);
         }
         if !has_hard_tail(pairs[index].tail) {
-            return Err(Error::Corrupt);
+            return None;
         }
     }
-    Err(Error::Corrupt)
+    None
 }
 
 // Returns how many pairs come before the root's first pair in the thread with these headers. These
@@ -237,27 +248,26 @@ fn first_pair_with_slots(pairs: &[Pair]) -> Result<usize, Error>
 // only where the next pair that has a slot begins with a superblock. All superblocks have the same
 // struct but for an accepted version, and the root begins at the last one.
 //
-// Errors: `Corrupt` where the superblock isn't so; no such image is accepted, in either order of
-// names. `Io` where a read failed, and `NoMemory` where memory for a block and its slots isn't
-// granted. Nothing is written. Each pair of the chain is read at most once, and so is the pair
-// after it.
+// Errors: `Corrupt` where the superblock isn't so, with the rule that the image breaks. `Io` where a
+// read failed, and `NoMemory` where memory for a block and its slots isn't granted. Nothing is
+// written. Each pair of the chain is read at most once, and so is the pair after it.
 //
 // The caller's condition: the headers are all those of the device's thread, in its order.
 pub(crate) fn superblock_chain_length<D: BlockDevice>(
     alloc: Global,
     dev: &mut D,
     pairs: &[Pair],
-) -> Result<usize, Error>
+) -> Result<usize, MountError>
     requires { AreHeadersOfDiskThread (disk_of_device D.BlockDevice dev.old) (D.history dev.old) pairs.now }
     ensures head { IfOk result (HasSuperblockChainOfLength (disk_of_device D.BlockDevice dev.old) (pairs_of_headers (disk_of_device D.BlockDevice dev.old) pairs.now)) }
-    ensures corrupt { IsErrOf result Error.Corrupt → (order : NameOrder) → ¬ IsAcceptedImage (disk_in_order order (disk_of_device D.BlockDevice dev.old)) (pairs_of_headers (disk_of_device D.BlockDevice dev.old) pairs.now) }
-    ensures device { ReadsOnly D.BlockDevice dev.old dev.new }
-    ensures errors { IfErr result (λ e. (e ≡ Error.Corrupt) ⊎ ((e ≡ Error.Io) ⊎ (e ≡ Error.NoMemory))) }
-    ensures faults { ReportsFaults D.BlockDevice dev.old dev.new result }
+    ensures broken { (v : Violation) → result ≡ Err (MountError.Corrupt v) → (order : NameOrder) → BreaksPairs (disk_in_order order (disk_of_device D.BlockDevice dev.old)) (pairs_of_headers (disk_of_device D.BlockDevice dev.old) pairs.now) v }
+    ensures device { OnlyReadsUnlessFault D.BlockDevice dev.old dev.new result }
     ensures reads { IfOk result (λ count. read_count_of_history (D.history dev.new) ≤ read_count_of_history (D.history dev.old) + count + 2) }
 {
-    let first = first_pair_with_slots(pairs)?;
-    let bytes = read_superblock_struct_from_block(alloc, dev, pairs[first].active)?;
+    let Some(first) = first_pair_with_slots(pairs) else {
+        return Err(MountError::Corrupt(Violation::NoSuperblock));
+    };
+    let bytes = read_first_superblock_struct(alloc, dev, &pairs[first])?;
     let mut root = first;
     for index in first + 1..pairs.len() {
         if !can_superblock_chain_continue(&pairs[index - 1]) {
@@ -266,7 +276,7 @@ pub(crate) fn superblock_chain_length<D: BlockDevice>(
         if pairs[index].slot_count == 0 {
             continue;
         }
-        if !read_whether_block_repeats_superblock(alloc, dev, pairs[index].active, &bytes)? {
+        if !read_whether_pair_repeats_superblock(alloc, dev, &pairs[index], &bytes)? {
             return Ok(root);
         }
         root = index;

@@ -1,4 +1,4 @@
-use Rattle.std.proofs.Common.{◌≡◌, ◌≤◌, ◌+◌, Err, List, true, sym, ap, ap₂, subst, subst₂, arith}
+use Rattle.std.proofs.Common.{◌≡◌, ◌∙◌, ◌≤◌, ◌+◌, inr, Err, List, true, sym, ap, ap₂, subst, subst₂, arith}
 use Rattle.std.specs.Prelude.{sum_by}
 use Rattle.std.proofs.lemmas.Result.{err_from_is_err_and}
 use Rattle.lfs_device.specs.Shown.{disk_of_geometry_and_blocks}
@@ -9,21 +9,21 @@ use Rattle.lfs_tag.specs.FieldsView.{move_view}
 use Rattle.lfs_thread.specs.Kept.{PairHeader, disk_of_device, pairs_of_headers}
 use Rattle.lfs_mount.specs.Accepted.{HasAcceptedImageIfNameOrderFits}
 use Rattle.lfs_mount.specs.Members.{AreDirectoryHeadersOfThread, pair_descriptions_of_headers}
-use Rattle.lfs_mount.specs.Orders.{includes_name_order}
+use Rattle.lfs_mount.specs.Orders.{violation_in_order}
 use Rattle.lfs_mount.specs.Reads.{pair_read_count}
+use Rattle.lfs_mount.proofs.Called.{only_read, passed_on, quiet, read_on, same_error}
 use Rattle.lfs_mount.proofs.InOrders.{head_in, read_in}
 use Rattle.lfs_mount.proofs.KnownMoves.{directories_within}
 use Rattle.lfs_mount.proofs.KnownThread.{directories_are}
 use Rattle.lfs_mount.proofs.MountReads.{directories_read}
-use Rattle.lfs_mount.proofs.Mounts.{has_image, move_refuses, none_accepted, pairs_refuse}
-use Rattle.lfs_mount.proofs.Reported.{same_error, then_reads}
+use Rattle.lfs_mount.proofs.Mounts.{has_image, move_breaks, pairs_break}
 use Rattle.lfs_mount.proofs.accepted_images.check_image.Goals as goal
 
-pub returns-in_err-count-clause-corrupt : goal.returns-in_err-count-clause-corrupt
-returns-in_err-count-clause-corrupt g c = λ is order.
+pub returns-in_err-count-clause-broken : goal.returns-in_err-count-clause-broken
+returns-in_err-count-clause-broken g c = λ v is order.
     let disk : Disk = disk_of_device g.D.BlockDevice c.args.device.now in
     let e = err_from_is_err_and c.from_residual.result c.from_residual.ensures.1 in
-    none_accepted (disk_in_order order disk) (pairs_of_headers disk c.args.pairs.now) c.requires.thread (c.in_err-count.ensures.corrupt (ap Err (same_error e.1 e.2 is)) order)
+    inr (pairs_of_headers disk c.args.pairs.now, (c.requires.thread, c.in_err-count.ensures.broken v (ap Err (same_error e.1 e.2 is)) order))
 
 pub pairs_from_index-directories-requires : goal.pairs_from_index-directories-requires
 pairs_from_index-directories-requires g c =
@@ -31,57 +31,68 @@ pairs_from_index-directories-requires g c =
     let below = directories_within disk c.args.pairs.now c.in_ok-count.count c.in_ok-count.ensures.head in
     omega (arith, below)
 
-pub returns-in_err-check_move-clause-corrupt : goal.returns-in_err-check_move-clause-corrupt
-returns-in_err-check_move-clause-corrupt g c = λ is order.
+pub returns-in_err-check_move-clause-broken : goal.returns-in_err-check_move-clause-broken
+returns-in_err-check_move-clause-broken g c = λ v is order.
     let disk : Disk = disk_of_device g.D.BlockDevice c.args.device.now in
     let history = g.D.BlockDevice.history c.args.device.now in
     let state : Gstate = move_view c.args.state.now in
-    move_refuses (disk_in_order order disk) history c.args.pairs.now c.args.map.now state c.in_ok-count.count (read_in order disk history c.args.pairs.now c.args.map.now state c.requires)
+    let e = err_from_is_err_and c.from_residual-in_err-check_move.result c.from_residual-in_err-check_move.ensures.1 in
+    move_breaks (disk_in_order order disk) history c.args.pairs.now c.args.map.now state c.in_ok-count.count (read_in order disk history c.args.pairs.now c.args.map.now state c.requires)
     (head_in order disk c.args.pairs.now c.in_ok-count.count c.in_ok-count.ensures.head)
-    c.pairs_from_index-directories.result.now c.pairs_from_index-directories.ensures c.in_err-check_move.ensures.refused
+    c.pairs_from_index-directories.result.now c.pairs_from_index-directories.ensures v (c.in_err-check_move.ensures.broken v (ap Err (same_error e.1 e.2 is)))
+
+pub returns-in_err-check_move-clause-device : goal.returns-in_err-check_move-clause-device
+returns-in_err-check_move-clause-device g c =
+    let e = err_from_is_err_and c.from_residual-in_err-check_move.result c.from_residual-in_err-check_move.ensures.1 in
+    only_read g.D.BlockDevice c.in_ok-count.ensures.device.device (quiet g.D.BlockDevice c.in_ok-count.ensures.device) (λ io. absurd (let corrupt = c.in_err-check_move.ensures.corrupt.0 in let gives = same_error e.1 e.2 io in cc))
 
 pub check_directories-requires : goal.check_directories-requires
 check_directories-requires g c =
     let disk : Disk = disk_of_device g.D.BlockDevice c.args.device.now in
     let now : Disk = disk_of_device g.D.BlockDevice c.superblock_chain_length.new.dev in
     let history = g.D.BlockDevice.history c.args.device.now in
-    let read = c.in_ok-count.ensures.device in
+    let read = c.in_ok-count.ensures.device.device in
     let same : now ≡ disk = ap₂ disk_of_geometry_and_blocks read.geometry read.same in
     let state : Gstate = move_view c.args.state.now in
     subst (λ d. AreDirectoryHeadersOfThread d c.args.map.now state c.pairs_from_index-directories.result.now) (sym same)
     (subst (λ xs. AreDirectoryHeadersOfThread disk c.args.map.now state xs) (sym c.pairs_from_index-directories.ensures)
     (directories_are disk history c.args.pairs.now c.args.map.now state c.in_ok-count.count c.requires c.in_ok-count.ensures.head))
 
-pub returns-in_err-orders-clause-corrupt : goal.returns-in_err-orders-clause-corrupt
-returns-in_err-orders-clause-corrupt g c = λ is order.
+pub returns-in_err-found-clause-broken : goal.returns-in_err-found-clause-broken
+returns-in_err-found-clause-broken g c = λ v is order.
     let disk : Disk = disk_of_device g.D.BlockDevice c.args.device.now in
     let now : Disk = disk_of_device g.D.BlockDevice c.superblock_chain_length.new.dev in
     let history = g.D.BlockDevice.history c.args.device.now in
-    let read = c.in_ok-count.ensures.device in
-    let e = err_from_is_err_and c.from_residual-in_err-orders.result c.from_residual-in_err-orders.ensures.1 in
+    let read = c.in_ok-count.ensures.device.device in
+    let e = err_from_is_err_and c.from_residual-in_err-found.result c.from_residual-in_err-found.ensures.1 in
     let state : Gstate = move_view c.args.state.now in
-    pairs_refuse (disk_in_order order disk) history c.args.pairs.now c.args.map.now state c.in_ok-count.count (read_in order disk history c.args.pairs.now c.args.map.now state c.requires)
+    pairs_break (disk_in_order order disk) history c.args.pairs.now c.args.map.now state c.in_ok-count.count (read_in order disk history c.args.pairs.now c.args.map.now state c.requires)
     (head_in order disk c.args.pairs.now c.in_ok-count.count c.in_ok-count.ensures.head)
-    (disk_in_order order now) (ap (disk_in_order order) (ap₂ disk_of_geometry_and_blocks read.geometry read.same)) c.pairs_from_index-directories.result.now c.pairs_from_index-directories.ensures (c.in_err-orders.ensures.corrupt (ap Err (same_error e.1 e.2 is)) order)
+    (disk_in_order order now) (ap (disk_in_order order) (ap₂ disk_of_geometry_and_blocks read.geometry read.same)) c.pairs_from_index-directories.result.now c.pairs_from_index-directories.ensures v (c.in_err-found.ensures.broken v (ap Err (same_error e.1 e.2 is)) order)
 
-pub returns-in_err-orders-clause-device : goal.returns-in_err-orders-clause-device
-returns-in_err-orders-clause-device g c = then_reads c.in_ok-count.ensures.device c.in_err-orders.ensures.device
+pub returns-in_err-found-clause-device : goal.returns-in_err-found-clause-device
+returns-in_err-found-clause-device g c =
+    let e = err_from_is_err_and c.from_residual-in_err-found.result c.from_residual-in_err-found.ensures.1 in
+    passed_on g.D.BlockDevice e.1 e.2 c.in_ok-count.ensures.device.device (quiet g.D.BlockDevice c.in_ok-count.ensures.device) c.in_err-found.ensures.device
 
 pub returns-clause-image : goal.returns-clause-image
 returns-clause-image g c = λ order.
     let disk : Disk = disk_of_device g.D.BlockDevice c.args.device.now in
     let now : Disk = disk_of_device g.D.BlockDevice c.superblock_chain_length.new.dev in
     let history = g.D.BlockDevice.history c.args.device.now in
-    let read = c.in_ok-count.ensures.device in
+    let read = c.in_ok-count.ensures.device.device in
     let state : Gstate = move_view c.args.state.now in
-    subst (HasAcceptedImageIfNameOrderFits (disk_in_order order disk) c.args.pairs.now (includes_name_order order c.in_ok-orders.orders) c.args.map.now) (sym c.start_allocation_elsewhere.ensures.same)
+    subst (HasAcceptedImageIfNameOrderFits (disk_in_order order disk) c.args.pairs.now (violation_in_order order c.in_ok-found.found) c.args.map.now) (sym c.start_allocation_elsewhere.ensures.same)
     (has_image (disk_in_order order disk) history c.args.pairs.now c.args.map.now state c.in_ok-count.count (read_in order disk history c.args.pairs.now c.args.map.now state c.requires)
     (head_in order disk c.args.pairs.now c.in_ok-count.count c.in_ok-count.ensures.head)
     (disk_in_order order now) (ap (disk_in_order order) (ap₂ disk_of_geometry_and_blocks read.geometry read.same)) c.check_directories.new.map c.pairs_from_index-directories.result.now c.pairs_from_index-directories.ensures
-    c.in_ok-check_move.ensures.right (includes_name_order order c.in_ok-orders.orders) (c.in_ok-orders.ensures.ok order))
+    c.in_ok-check_move.ensures.right (violation_in_order order c.in_ok-found.found) (c.in_ok-found.ensures.ok order))
 
 pub returns-clause-device : goal.returns-clause-device
-returns-clause-device g c = then_reads c.in_ok-count.ensures.device c.in_ok-orders.ensures.device
+returns-clause-device g c =
+    let first = c.in_ok-count.ensures.device in
+    let second = c.in_ok-found.ensures.device in
+    only_read g.D.BlockDevice (read_on g.D.BlockDevice first.device second.device) (quiet g.D.BlockDevice second ∙ quiet g.D.BlockDevice first) (λ io. absurd (cc))
 
 pub returns-clause-few : goal.returns-clause-few
 unfolding returns-clause-image
@@ -89,11 +100,11 @@ returns-clause-few g c = λ order fits.
     let disk : Disk = disk_of_device g.D.BlockDevice c.args.device.now in
     let history = g.D.BlockDevice.history c.args.device.now in
     let state : Gstate = move_view c.args.state.now in
-    let image : HasAcceptedImageIfNameOrderFits (disk_in_order order disk) c.args.pairs.now (includes_name_order order c.in_ok-orders.orders) c.args.map.now c.start_allocation_elsewhere.new.map = returns-clause-image g c order in
-    let read = c.in_ok-count.ensures.device in
+    let image : HasAcceptedImageIfNameOrderFits (disk_in_order order disk) c.args.pairs.now (violation_in_order order c.in_ok-found.found) c.args.map.now c.start_allocation_elsewhere.new.map = returns-clause-image g c order in
+    let read = c.in_ok-count.ensures.device.device in
     let first = c.in_ok-count.ensures.reads in
     let rest = subst₂ (λ (d : Disk) (hs : List PairHeader). read_count_of_history (g.D.BlockDevice.history c.check_directories.new.device) ≤ read_count_of_history (g.D.BlockDevice.history c.superblock_chain_length.new.dev) + sum_by (pair_read_count d) (pair_descriptions_of_headers state true hs))
-    (ap₂ disk_of_geometry_and_blocks read.geometry read.same) c.pairs_from_index-directories.ensures (c.in_ok-orders.ensures.few) in
+    (ap₂ disk_of_geometry_and_blocks read.geometry read.same) c.pairs_from_index-directories.ensures (c.in_ok-found.ensures.few) in
     let most = directories_read (disk_in_order order disk) history c.args.pairs.now c.args.map.now state c.in_ok-count.count (read_in order disk history c.args.pairs.now c.args.map.now state c.requires)
     (head_in order disk c.args.pairs.now c.in_ok-count.count c.in_ok-count.ensures.head) (g.met.D.BlockDevice.bytes c.args.device.now) (image.accepted fits) in
     omega (arith, first, rest, most)

@@ -2,9 +2,7 @@ use Rattle.std.proofs.Common.{Err, arith, ◌≡◌, ◌≤◌, ◌+◌, sym, ap
 use Rattle.lfs_model.specs.Disk.{disk_in_order, Disk}
 use Rattle.lfs_model.specs.Blocks.{Blocks}
 use Rattle.lfs_model.specs.History.{AreCallsSinceOnlyReads, fault_count_of_history, read_count_of_history}
-use Rattle.lfs_model.specs.Content.{content_of_pair_at}
-use Rattle.lfs_model.specs.Thread.{IsThreadOfMetadataPairs}
-use Rattle.lfs_model.specs.View.{IsAcceptedImage}
+use Rattle.lfs_model.specs.Violations.{Breaks}
 use Rattle.lfs_model.proofs.Histories.{AreCallsSinceOnlyReads-trans, read_count_of_history-since}
 use Rattle.lfs_tag.specs.FieldsView.{move_view}
 use Rattle.lfs_thread.specs.Kept.{IsCacheCurrent, KeptThread, disk_of_device}
@@ -13,7 +11,9 @@ use Rattle.lfs_mount.specs.Reads.{mount_read_count}
 use Rattle.lfs_mount.proofs.MountReads.{read_count_of_thread_headers-no_fewer, mount_few, some_pair}
 use Rattle.lfs_mount.proofs.ReadImages.{plain_again}
 use Rattle.lfs_model.specs.declared.order.NameOrder.{NameOrder}
-use Rattle.lfs_mount.proofs.Mounted.{disk_now, given_back, is_mounted, kept_again, ok_reports, read_is}
+use Rattle.lfs_mount.proofs.Called.{quiet}
+use Rattle.lfs_mount.proofs.Mounted.{disk_now, given_back, is_mounted, kept_again, read_is}
+use Rattle.lfs_mount.proofs.Unaccepted.{thread_violation, true_violation}
 use Rattle.std.proofs.lemmas.Result.{err_from_is_err_and}
 use Rattle.lfs_mount.proofs.accepted_images.read_and_check_image.Goals as goal
 
@@ -31,21 +31,21 @@ check_image-requires g c =
 pub from_parts-requires-clause-kept : goal.from_parts-requires-clause-kept
 from_parts-requires-clause-kept g c =
     let parts = c.into_parts-parts in
-    let device = c.in-Ok.ensures.device in
+    let device = c.in-Ok.ensures.device.device in
     let disk : Disk = disk_of_device g.D.BlockDevice parts.result.device in
     kept_again disk (disk_of_device g.D.BlockDevice c.check_image.new.device) (g.D.BlockDevice.history parts.result.device) (g.D.BlockDevice.history c.check_image.new.device)
     parts.result.pairs.items c.deref.result.now parts.result.map c.check_image.new.map (disk_now device) c.deref.ensures.value device.reads parts.ensures.kept (c.in-Ok.ensures.image disk.order).marked
 
 pub from_parts-requires-clause-current : goal.from_parts-requires-clause-current
 from_parts-requires-clause-current g c =
-    subst (λ (blocks : Blocks). IsCacheCurrent blocks c.into_parts-parts.result.cache) (sym c.in-Ok.ensures.device.same) c.into_parts-parts.ensures.current
+    subst (λ (blocks : Blocks). IsCacheCurrent blocks c.into_parts-parts.result.cache) (sym c.in-Ok.ensures.device.device.same) c.into_parts-parts.ensures.current
 
 pub returns-in-Ok-clause-read : goal.returns-in-Ok-clause-read
 returns-in-Ok-clause-read g c =
     let read = c.in_ok-thread.ensures.read in
     let parts = c.into_parts-parts in
     let same = plain_again g.D.BlockDevice c.args.device parts.result.device parts.result.order parts.result.pairs.items parts.result.map c.in_ok-thread.thread.kept parts.ensures.same read.disk in
-    let device = c.in-Ok.ensures.device in
+    let device = c.in-Ok.ensures.device.device in
     let old : Disk = disk_of_device g.D.BlockDevice c.args.device in
     let disk : Disk = disk_of_device g.D.BlockDevice parts.result.device in
     let now : Disk = disk_of_device g.D.BlockDevice c.check_image.new.device in
@@ -54,7 +54,7 @@ returns-in-Ok-clause-read g c =
     let later = g.D.BlockDevice.history c.check_image.new.device in
     let from : disk ≡ old = ap (λ (k : KeptThread). k.disk) same ∙ read.disk in
     let before : AreCallsSinceOnlyReads old.blocks first history = subst (λ (k : KeptThread). AreCallsSinceOnlyReads old.blocks first k.history) (sym same) read.only in
-    let quiet : fault_count_of_history later ≡ fault_count_of_history first = ok_reports c.in-Ok.ensures.errors.faults ∙ ap (λ (k : KeptThread). fault_count_of_history k.history) same ∙ read.no_fault in
+    let quiet : fault_count_of_history later ≡ fault_count_of_history first = quiet g.D.BlockDevice c.in-Ok.ensures.device ∙ ap (λ (k : KeptThread). fault_count_of_history k.history) same ∙ read.no_fault in
     let kept = c.from_parts.ensures.kept in
     record {
       works = c.from_parts.ensures.works;
@@ -80,16 +80,17 @@ returns-in-Ok-clause-read g c =
                 from (disk_now device) c.deref.ensures.value (ap (λ (k : KeptThread). k.pairs) same) (ap (λ (k : KeptThread). k.pairs) kept)
                 (count ∙ begun) (c.in-Ok.ensures.few order fits));
           };
-      refused = λ order unfit ps a. (c.in-Ok.ensures.image order).refused unfit ps (subst (λ (d : Disk). IsAcceptedImage (disk_in_order order d) ps) (sym from) a);
+      broken = λ order violation found. subst (λ (d : Disk). Breaks (disk_in_order order d) violation) from ((c.in-Ok.ensures.image order).broken violation found);
     }
 
-pub returns-in-Err-clause-corrupt : goal.returns-in-Err-clause-corrupt
-returns-in-Err-clause-corrupt g c = λ is order ps a.
+pub returns-in-Err-clause-broken : goal.returns-in-Err-clause-broken
+returns-in-Err-clause-broken g c = λ order.
     let read = c.in_ok-thread.ensures.read in
     let parts = c.into_parts-parts in
     let same = plain_again g.D.BlockDevice c.args.device parts.result.device parts.result.order parts.result.pairs.items parts.result.map c.in_ok-thread.thread.kept parts.ensures.same read.disk in
     let from : disk_of_device g.D.BlockDevice parts.result.device ≡ disk_of_device g.D.BlockDevice c.args.device = ap (λ (k : KeptThread). k.disk) same ∙ read.disk in
-    c.in-Err.ensures.corrupt (ap Err is) order ps (subst (λ (d : Disk). IsAcceptedImage (disk_in_order order d) ps) (sym from) a)
+    true_violation (disk_in_order order (disk_of_device g.D.BlockDevice c.args.device)) c.in-Err.error
+    (λ v is. subst (λ (d : Disk). Breaks (disk_in_order order d) v) from (c.in-Err.ensures.broken v (ap Err is) order))
 
 pub returns-in-Err-clause-back : goal.returns-in-Err-clause-back
 returns-in-Err-clause-back g c =
@@ -101,10 +102,9 @@ returns-in-Err-clause-back g c =
     (ap (λ (k : KeptThread). k.disk) same ∙ read.disk)
     (subst (λ (k : KeptThread). AreCallsSinceOnlyReads old.blocks (g.D.BlockDevice.history c.args.device) k.history) (sym same) read.only)
     (ap (λ (k : KeptThread). fault_count_of_history k.history) same ∙ read.no_fault)
-    c.in-Err.ensures.device c.in-Err.ensures.errors.faults
+    c.in-Err.ensures.device
 
-pub returns-in_err-thread-clause-corrupt : goal.returns-in_err-thread-clause-corrupt
-returns-in_err-thread-clause-corrupt g c =
+pub returns-in_err-thread-clause-broken : goal.returns-in_err-thread-clause-broken
+returns-in_err-thread-clause-broken g c =
     let e = err_from_is_err_and c.from_residual.result c.from_residual.ensures.1 in
-    rw e.1 (rw e.2 (λ is order ps a. c.in_err-thread.ensures.corrupt is ps
-    (subst (λ n. IsThreadOfMetadataPairs (content_of_pair_at (disk_of_device g.D.BlockDevice c.args.device)) n ps) (g.met.D.BlockDevice.shape c.args.device).count a.thread)))
+    rw e.1 (rw e.2 (λ order. thread_violation order (disk_of_device g.D.BlockDevice c.args.device) _ c.in_err-thread.ensures.broken))

@@ -1,12 +1,15 @@
-use Rattle.std.proofs.Common.{◌∙◌, sym}
+use Rattle.std.proofs.Common.{◌≡◌, ◌∙◌, subst, sym}
+use Rattle.lfs_model.specs.Violations.{BreaksPairs}
+use Rattle.lfs_model.specs.declared.violations.Violation.TheVariants as violation
 use Rattle.lfs_tag.specs.FieldsView.{move_view}
-use Rattle.lfs_mount.proofs.KnownMoves.{known_right, unknown_refused}
+use Rattle.lfs_mount.proofs.KnownMoves.{known_right, unknown_breaks}
 use Rattle.lfs_mount.proofs.moves.check_move.Goals as goal
 
 pub returns-then-is_move_none_or_in_pairs-clause-right : goal.returns-then-is_move_none_or_in_pairs-clause-right
 returns-then-is_move_none_or_in_pairs-clause-right c = λ chain p rest has moved.
     known_right (move_view c.args.state.now) c.args.pairs.now chain p rest has (sym c.is_move_none_or_in_pairs.ensures ∙ c.if-is_move_none_or_in_pairs.true) moved
 
-pub returns-else-is_move_none_or_in_pairs-clause-refused : goal.returns-else-is_move_none_or_in_pairs-clause-refused
-returns-else-is_move_none_or_in_pairs-clause-refused c = λ disk chain p rest has.
-    unknown_refused (move_view c.args.state.now) c.args.pairs.now disk chain p rest has (sym c.is_move_none_or_in_pairs.ensures ∙ c.if-is_move_none_or_in_pairs.false)
+pub returns-else-is_move_none_or_in_pairs-clause-broken : goal.returns-else-is_move_none_or_in_pairs-clause-broken
+returns-else-is_move_none_or_in_pairs-clause-broken c = λ v is disk chain p rest has.
+    let which : violation.Move ≡ v = cc in
+    subst (BreaksPairs disk _) which (unknown_breaks (move_view c.args.state.now) c.args.pairs.now disk chain p rest has (sym c.is_move_none_or_in_pairs.ensures ∙ c.if-is_move_none_or_in_pairs.false))

@@ -1,84 +1,122 @@
-use Rattle.std.proofs.Common.{ℕ, List, Err, Some, arith, ◌≡◌, ◌≤◌, ◌+◌, sym, ap, ap₂, ◌∙◌, map, subst, option_and_then}
+use Rattle.std.proofs.Common.{ℕ, List, Err, inl, inr, refl, arith, ◌≡◌, ◌≤◌, ◌+◌, sym, ap, ap₂, ◌∙◌, length, map, subst}
 use Rattle.std.specs.Prelude.{sum_by}
-use Rattle.std.proofs.lemmas.Option.{same_Some}
 use Rattle.std.proofs.lemmas.Result.{err_from_is_err_and}
+use Rattle.lfs_device.specs.Calls.{ReadsOnly}
 use Rattle.lfs_device.specs.Shown.{disk_of_geometry_and_blocks}
-use Rattle.lfs_model.specs.Disk.{disk_in_order, Disk, block_bytes_on_disk}
+use Rattle.lfs_device.specs.declared.device.BlockDevice.{Ghosts}
 use Rattle.lfs_device.specs.declared.geometry.Geometry.{Geometry}
 use Rattle.lfs_model.specs.BlockSets.{BlockStateList}
+use Rattle.lfs_model.specs.Content.{RawSlot}
+use Rattle.lfs_model.specs.Disk.{disk_in_order, Disk, block_bytes_on_disk}
 use Rattle.lfs_model.specs.History.{read_count_of_history}
 use Rattle.lfs_model.specs.declared.order.NameOrder.{NameOrder}
+use Rattle.lfs_model.specs.declared.violations.Violation.{Violation}
+use Rattle.lfs_model.specs.declared.violations.Violation.TheVariants as violation
+use Rattle.lfs_tag.specs.ContentView.{slot_view}
 use Rattle.lfs_thread.specs.Kept.{disk_of_device}
-use Rattle.lfs_mount.specs.Reads.{list_read_count, file_lists_of_described_pair}
-use Rattle.lfs_mount.proofs.ReadCounts.{takes_lists}
-use Rattle.lfs_model.specs.Content.{RawPairContent, RawSlot, content_after_log_entries, empty_raw_pair_content}
-use Rattle.lfs_model.specs.Names.{Name}
-use Rattle.lfs_model.specs.Log.{log_entries_of_block}
-use Rattle.lfs_tag.specs.ContentView.{content_view, slot_view}
+use Rattle.lfs_mount.specs.Broken.{BreaksKeptList, kept_slots_in_block}
+use Rattle.lfs_mount.specs.Entries.{HoldsNoEntryAt}
 use Rattle.lfs_mount.specs.KnownView.{directory_scan_view}
-use Rattle.lfs_mount.specs.ListsView.{file_lists_view}
-use Rattle.lfs_mount.specs.Marking.{MarksFreeBlocksOfLists, file_lists_of_raw_slots}
+use Rattle.lfs_mount.specs.ListsView.{file_lists_view, raw_slots_view}
+use Rattle.lfs_mount.specs.Marking.{MarksFreeBlocksOfLists}
+use Rattle.lfs_mount.specs.Reads.{list_read_count, file_lists_of_described_pair}
 use Rattle.lfs_mount.specs.Scanned.{directory_scan_after_slots}
-use Rattle.lfs_mount.specs.Taken.{AddsPairToDirectoryScan, slots_after_superblock, slots_of_pair_without_superblock_and_moved}
-use Rattle.lfs_mount.specs.Reaching.{DirectoryVertexWithSoundnessAndBranches}
 use Rattle.lfs_mount.specs.declared.pass.PairBeforeSlotsAreRead.{PairBeforeSlotsAreRead}
-use Rattle.lfs_mount.proofs.Called.{read_on, same_error}
+use Rattle.lfs_mount.proofs.Called.{gone_on, passed_on, quiet, same_error, violation_of}
+use Rattle.lfs_mount.proofs.Kept.{held_kept}
+use Rattle.lfs_mount.proofs.ReadCounts.{takes_lists}
+use Rattle.lfs_mount.proofs.Scans.{scan_none_at}
 use Rattle.lfs_mount.proofs.pass.scan_pair_and_mark_lists.Goals as goal
 
--- the lists are those of the slots that are kept
-lists_taken : (disk : Disk) (firsts : List (ℕ × ℕ)) (member : PairBeforeSlotsAreRead) (known new : Name × DirectoryVertexWithSoundnessAndBranches) (sets marked : BlockStateList) (held : RawPairContent) (entries : List RawSlot)
-    → content_after_log_entries empty_raw_pair_content (log_entries_of_block (block_bytes_on_disk disk member.active)) ≡ Some held → slots_of_pair_without_superblock_and_moved member held.slots ≡ Some entries → AddsPairToDirectoryScan disk firsts member known sets new marked
-    → MarksFreeBlocksOfLists disk sets (file_lists_of_raw_slots entries) marked
-lists_taken disk firsts member known new sets marked held entries content kept t =
-    subst (λ (es : List RawSlot). MarksFreeBlocksOfLists disk sets (file_lists_of_raw_slots es) marked)
-    (same_Some t.entries entries (sym t.kept ∙ ap (λ (c : RawPairContent). slots_of_pair_without_superblock_and_moved member c.slots) (same_Some t.held held (sym t.content ∙ content)) ∙ kept)) t.lists
+-- whatever the order of names, on the device as it was before
+lists_first_on : {D : Type 0} (g : Ghosts D) (old mid : D) → ReadsOnly g old mid → (order : NameOrder) (m : PairBeforeSlotsAreRead) (sets : BlockStateList) (slots : List RawSlot) (v : Violation) → BreaksKeptList (disk_of_device g mid) m sets slots v
+    → BreaksKeptList (disk_in_order order (disk_of_device g old)) m sets slots v
+lists_first_on g old mid reads order m sets slots v broken =
+    let b = subst (λ (d : Disk). BreaksKeptList d m sets slots v) (ap₂ disk_of_geometry_and_blocks reads.geometry reads.same) broken in
+    record { index = b.index; l = b.l; is = b.is; mid = b.mid; before = b.before; breaks = b.breaks }
 
--- whatever the order of names
 lists_in_order : (order : NameOrder) (disk : Disk) {old new : BlockStateList} {all : List (ℕ × ℕ)} → MarksFreeBlocksOfLists disk old all new → MarksFreeBlocksOfLists (disk_in_order order disk) old all new
 lists_in_order order disk m = record { lists = m.lists; marked = m.marked }
 
-lists_without_order : (order : NameOrder) (disk : Disk) {old new : BlockStateList} {all : List (ℕ × ℕ)} → MarksFreeBlocksOfLists (disk_in_order order disk) old all new → MarksFreeBlocksOfLists disk old all new
-lists_without_order order disk m = record { lists = m.lists; marked = m.marked }
+pub returns-in-Err-clause-broken : goal.returns-in-Err-clause-broken
+returns-in-Err-clause-broken g c = λ v is order.
+    let log = c.read.ensures ∙ c.deref.ensures.value ∙ c.in_ok-bytes.ensures.bytes in
+    let from = violation_of c.in-Err.error _ v c.in-Err.ensures.errors (sym c.of.ensures ∙ same_error refl refl is) in
+    let none = c.in-Err.ensures.corrupt (ap Err from.0) order in
+    let at = scan_none_at order c.args.places.now (directory_scan_view order c.args.known.now) (map slot_view c.deref-2.result.now) none in
+    let same = ap (map slot_view) (c.deref-2.ensures.value ∙ sym c.deref-in-Err.ensures.value) in
+    let first = c.index_of_first_non_entry.ensures.holds at.0 (subst (λ ss. HoldsNoEntryAt ss at.0) same at.1) in
+    inr (
+      map slot_view c.in_ok-slots.slots.items,
+      (
+        ap (kept_slots_in_block c.args.member.now) (sym log) ∙ c.in_ok-slots.ensures.kept,
+        inl (
+          c.index_of_first_non_entry.result,
+          (
+            sym from.1 ∙ ap (violation.Entry c.args.member.now.at) c.number_of_kept_slot-slot.ensures,
+            subst (λ ss. HoldsNoEntryAt ss c.index_of_first_non_entry.result) (ap (map slot_view) c.deref-in-Err.ensures.value) first,
+          ),
+        ),
+      ),
+    )
 
-pub returns-in_err-mark_lists_of_slots_used-clause-corrupt : goal.returns-in_err-mark_lists_of_slots_used-clause-corrupt
-returns-in_err-mark_lists_of_slots_used-clause-corrupt g c = λ is order new sets t.
-    let disk : Disk = disk_of_device g.D.BlockDevice c.args.device.now in
-    let e = err_from_is_err_and c.from_residual-in_err-mark_lists_of_slots_used.result c.from_residual-in_err-mark_lists_of_slots_used.ensures.1 in
-    let content = ap (λ b. content_after_log_entries empty_raw_pair_content (log_entries_of_block b)) (sym (c.read-log.ensures ∙ c.deref.ensures.value ∙ c.in_ok-bytes.ensures.bytes)) ∙ c.in_ok-slots.ensures.content in
-    let kept = ap (option_and_then (slots_after_superblock c.args.member.now.has_superblock)) c.in_ok-remove_moved_slot_or_refuse_non_entry.ensures.ok ∙ c.in_ok-remove_superblock_slot.ensures.ok in
-    let lists = lists_taken (disk_in_order order disk) c.args.places.now c.args.member.now (directory_scan_view order c.args.known.now) new c.args.map.now sets (content_view c.in_ok-slots.field-0) (map slot_view c.remove_superblock_slot.new.slots.items) content kept t in
-    c.in_err-mark_lists_of_slots_used.ensures.corrupt (ap Err (same_error e.1 e.2 is)) sets
-    (subst (λ d. MarksFreeBlocksOfLists d c.args.map.now (file_lists_view c.deref-3.result.now) sets) (sym (ap₂ disk_of_geometry_and_blocks c.in_ok-bytes.ensures.device.geometry c.in_ok-bytes.ensures.device.same))
-    (subst (λ ls. MarksFreeBlocksOfLists disk c.args.map.now ls sets) (sym (ap file_lists_view c.deref-3.ensures.value)) (lists_without_order order disk lists)))
+pub mark_lists_of_slots_used-requires : goal.mark_lists_of_slots_used-requires
+mark_lists_of_slots_used-requires g c =
+    let log = ap length (c.read.ensures ∙ c.deref.ensures.value ∙ c.in_ok-bytes.ensures.bytes) in
+    let size = (g.met.D.BlockDevice.shape c.args.device.now).sizes c.args.member.now.active c.requires in
+    let small = (g.D.BlockDevice.geometry c.args.device.now).valid.no_larger in
+    let few = c.in_ok-slots.ensures.few (omega arith) in
+    let same = ap length c.deref-3.ensures.value in
+    omega arith
 
-pub returns-in_err-mark_lists_of_slots_used-clause-device : goal.returns-in_err-mark_lists_of_slots_used-clause-device
-returns-in_err-mark_lists_of_slots_used-clause-device g c = read_on g.D.BlockDevice c.in_ok-bytes.ensures.device c.in_err-mark_lists_of_slots_used.ensures.device
+pub returns-in_err-mark_lists_of_slots_used-clause-broken : goal.returns-in_err-mark_lists_of_slots_used-clause-broken
+returns-in_err-mark_lists_of_slots_used-clause-broken g c = λ v is order.
+    let p = err_from_is_err_and c.from_residual-in_err-mark_lists_of_slots_used.result c.from_residual-in_err-mark_lists_of_slots_used.ensures.1 in
+    let log = c.read.ensures ∙ c.deref.ensures.value ∙ c.in_ok-bytes.ensures.bytes in
+    let broken = lists_first_on g.D.BlockDevice c.args.device.now c.read_active_block.new.device c.in_ok-bytes.ensures.reading.device order c.args.member.now c.args.map.now (raw_slots_view c.deref-3.result.now) v
+    (c.in_err-mark_lists_of_slots_used.ensures.broken v (ap Err (same_error p.1 p.2 is))) in
+    inr (
+      map slot_view c.in_ok-slots.slots.items,
+      (
+        ap (kept_slots_in_block c.args.member.now) (sym log) ∙ c.in_ok-slots.ensures.kept,
+        inr (subst (λ ss. BreaksKeptList (disk_in_order order (disk_of_device g.D.BlockDevice c.args.device.now)) c.args.member.now c.args.map.now ss v) (ap (map slot_view) c.deref-3.ensures.value) broken),
+      ),
+    )
 
-pub returns-clause-device : goal.returns-clause-device
-returns-clause-device g c = read_on g.D.BlockDevice c.in_ok-bytes.ensures.device c.in_ok-mark_lists_of_slots_used.ensures.device
+pub returns-in_err-mark_lists_of_slots_used-clause-reading : goal.returns-in_err-mark_lists_of_slots_used-clause-reading
+returns-in_err-mark_lists_of_slots_used-clause-reading g c =
+    let p = err_from_is_err_and c.from_residual-in_err-mark_lists_of_slots_used.result c.from_residual-in_err-mark_lists_of_slots_used.ensures.1 in
+    passed_on g.D.BlockDevice p.1 p.2 c.in_ok-bytes.ensures.reading.device (quiet g.D.BlockDevice c.in_ok-bytes.ensures.reading) c.in_err-mark_lists_of_slots_used.ensures.reading
 
 pub returns-clause-taken : goal.returns-clause-taken
-returns-clause-taken g c = λ order. record {
-  held = content_view c.in_ok-slots.field-0;
-  content = ap (λ b. content_after_log_entries empty_raw_pair_content (log_entries_of_block b)) (sym (c.read-log.ensures ∙ c.deref.ensures.value ∙ c.in_ok-bytes.ensures.bytes)) ∙ c.in_ok-slots.ensures.content;
-  entries = map slot_view c.remove_superblock_slot.new.slots.items;
-  kept = ap (option_and_then (slots_after_superblock c.args.member.now.has_superblock)) c.in_ok-remove_moved_slot_or_refuse_non_entry.ensures.ok ∙ c.in_ok-remove_superblock_slot.ensures.ok;
-  scan = ap (λ xs. directory_scan_after_slots order c.args.places.now (directory_scan_view order c.args.known.now) (map slot_view xs)) (sym c.deref-2.ensures.value) ∙ c.in_ok-scan_directory_slots.ensures.ok order;
-  lists = lists_in_order order (disk_of_device g.D.BlockDevice c.args.device.now) (subst (λ ls. MarksFreeBlocksOfLists (disk_of_device g.D.BlockDevice c.args.device.now) c.args.map.now ls c.mark_lists_of_slots_used.new.map)
-      (ap file_lists_view c.deref-3.ensures.value)
-      (subst (λ d. MarksFreeBlocksOfLists d c.args.map.now (file_lists_view c.deref-3.result.now) c.mark_lists_of_slots_used.new.map) (ap₂ disk_of_geometry_and_blocks c.in_ok-bytes.ensures.device.geometry c.in_ok-bytes.ensures.device.same) c.in_ok-mark_lists_of_slots_used.ensures.marked));
-}
+returns-clause-taken g c = λ order.
+    let disk = disk_of_device g.D.BlockDevice c.args.device.now in
+    let log = c.read.ensures ∙ c.deref.ensures.value ∙ c.in_ok-bytes.ensures.bytes in
+    let held = held_kept c.args.member.now (block_bytes_on_disk disk c.args.member.now.active) (map slot_view c.in_ok-slots.slots.items) (ap (kept_slots_in_block c.args.member.now) (sym log) ∙ c.in_ok-slots.ensures.kept) in
+    record {
+      held = held.0;
+      content = held.1.0;
+      entries = map slot_view c.in_ok-slots.slots.items;
+      kept = held.1.1;
+      scan = ap (λ xs. directory_scan_after_slots order c.args.places.now (directory_scan_view order c.args.known.now) (map slot_view xs)) (sym c.deref-2.ensures.value) ∙ c.in_default.ensures.ok order;
+      lists = lists_in_order order disk (subst (λ ls. MarksFreeBlocksOfLists disk c.args.map.now ls c.mark_lists_of_slots_used.new.map)
+          (ap file_lists_view c.deref-3.ensures.value)
+          (subst (λ d. MarksFreeBlocksOfLists d c.args.map.now (file_lists_view c.deref-3.result.now) c.mark_lists_of_slots_used.new.map) (ap₂ disk_of_geometry_and_blocks c.in_ok-bytes.ensures.reading.device.geometry c.in_ok-bytes.ensures.reading.device.same) c.in_ok-mark_lists_of_slots_used.ensures.marked));
+    }
 
 pub returns-clause-few : goal.returns-clause-few
 unfolding returns-clause-taken
 returns-clause-few g c =
     let disk = disk_of_device g.D.BlockDevice c.args.device.now in
     let t = returns-clause-taken g c disk.order in
-    let lists : file_lists_of_described_pair disk c.args.member.now ≡ file_lists_view c.remove_superblock_slot.new.slots.items = takes_lists disk c.args.places.now c.args.member.now (directory_scan_view disk.order c.args.known.now) _ c.args.map.now c.mark_lists_of_slots_used.new.map t in
+    let lists : file_lists_of_described_pair disk c.args.member.now ≡ file_lists_view c.in_ok-slots.slots.items = takes_lists disk c.args.places.now c.args.member.now (directory_scan_view disk.order c.args.known.now) _ c.args.map.now c.mark_lists_of_slots_used.new.map t in
     let sum = ap (sum_by (list_read_count disk.block_size)) lists in
-    let bytes = ap read_count_of_history c.in_ok-bytes.ensures.ok in
-    let these = subst (λ n. read_count_of_history (g.D.BlockDevice.history c.mark_lists_of_slots_used.new.device) ≤ read_count_of_history (g.D.BlockDevice.history c.read_block.new.device) + sum_by (list_read_count n) (file_lists_view c.deref-3.result.now))
-    (ap (λ (k : Geometry). k.block_size) c.in_ok-bytes.ensures.device.geometry) (c.in_ok-mark_lists_of_slots_used.ensures.few) in
-    let same : sum_by (list_read_count disk.block_size) (file_lists_view c.deref-3.result.now) ≡ sum_by (list_read_count disk.block_size) (file_lists_view c.remove_superblock_slot.new.slots.items) =
+    let one = c.in_ok-bytes.ensures.once in
+    let these = subst (λ n. read_count_of_history (g.D.BlockDevice.history c.mark_lists_of_slots_used.new.device) ≤ read_count_of_history (g.D.BlockDevice.history c.read_active_block.new.device) + sum_by (list_read_count n) (file_lists_view c.deref-3.result.now))
+    (ap (λ (k : Geometry). k.block_size) c.in_ok-bytes.ensures.reading.device.geometry) (c.in_ok-mark_lists_of_slots_used.ensures.few) in
+    let same : sum_by (list_read_count disk.block_size) (file_lists_view c.deref-3.result.now) ≡ sum_by (list_read_count disk.block_size) (file_lists_view c.in_ok-slots.slots.items) =
     ap (λ ss. sum_by (list_read_count disk.block_size) (file_lists_view ss)) c.deref-3.ensures.value in
     omega arith
+
+pub returns-clause-reading : goal.returns-clause-reading
+returns-clause-reading g c = gone_on g.D.BlockDevice c.in_ok-bytes.ensures.reading c.in_ok-mark_lists_of_slots_used.ensures.reading

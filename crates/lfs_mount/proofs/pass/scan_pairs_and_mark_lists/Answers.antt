@@ -1,27 +1,34 @@
 use Rattle.std.proofs.Common.{refl, ◌≤◌, ◌+◌, ◌++◌, ◌∷◌, [], Err, drop, get_or, sym, ap, ap₂, subst, subst₂, ◌∙◌, arith, false, None}
 use Rattle.std.proofs.lemmas.List.{map-append}
 use Rattle.std.proofs.Math.ListN.{drop_of_length-le}
+use Rattle.std.proofs.lemmas.Option.{slice_get-get_or}
 use Rattle.std.proofs.lemmas.Result.{err_from_is_err_and}
 use Rattle.lfs_model.specs.History.{read_count_of_history}
 use Rattle.lfs_thread.specs.Kept.{disk_of_device}
 use Rattle.lfs_mount.specs.Reads.{pair_read_count}
+use Rattle.lfs_device.specs.Calls.{ReadsOnly}
+use Rattle.lfs_device.specs.declared.device.BlockDevice.{Ghosts}
 use Rattle.lfs_device.specs.Shown.{disk_of_geometry_and_blocks}
 use Rattle.lfs_model.specs.Disk.{disk_in_order, Disk}
+use Rattle.lfs_model.specs.BlockSets.{BlockStateList}
+use Rattle.lfs_model.specs.declared.violations.Violation.{Violation}
 use Rattle.lfs_model.specs.declared.order.NameOrder.{NameOrder}
+use Rattle.lfs_mount.specs.Broken.{BreaksDescribedPair}
 use Rattle.lfs_mount.specs.DirectoryView.{directory_vertex_view, directory_graph_view}
 use Rattle.lfs_mount.specs.KnownView.{directory_scan_view}
 use Rattle.lfs_mount.specs.Reaching.{DirectoryVertexWithSoundnessAndBranches, DirectoryGraph}
 use Rattle.lfs_mount.specs.Taken.{AddsPairToDirectoryScan}
 use Rattle.lfs_mount.specs.declared.pass.PairBeforeSlotsAreRead.{PairBeforeSlotsAreRead}
-use Rattle.lfs_mount.proofs.Called.{same_error, not_read, read_on, quiet, passed_on}
+use Rattle.lfs_mount.proofs.Breaking.{marked_first, marked_next, thread_breaks}
+use Rattle.lfs_mount.proofs.Called.{not_read, passed_on, quiet, read_on, same_error}
 use Rattle.lfs_mount.proofs.ReadCounts.{pairs_more}
-use Rattle.lfs_mount.proofs.Passing.{IsUnderWay, begun, all_taken, taken_hard, taken_soft, not_taken_at}
+use Rattle.lfs_mount.proofs.Passing.{IsUnderWay, all_taken, begun, taken_hard, taken_soft}
 use Rattle.lfs_mount.proofs.pass.scan_pairs_and_mark_lists.Goals as goal
 use Rattle.lfs_mount.proofs.pass.scan_pairs_and_mark_lists.Goals.{then-not-member+in_ok-push, else-not-member}
 
 -- what stands past the end of a list of members
 abbrev none : PairBeforeSlotsAreRead
-none = record { active = 0; is_hard = false; has_superblock = false; moved = None }
+none = record { at = []; active = 0; is_hard = false; has_superblock = false; moved = None }
 
 pub loop-member-init : goal.loop-member-init
 loop-member-init g c =
@@ -31,31 +38,39 @@ loop-member-init g c =
           subst₂ (λ (done : DirectoryGraph) k. IsUnderWay (disk_in_order order disk) c.args.places.now c.args.map.now c.args.members.now done k c.args.map.now c.args.members.now)
           (sym (ap (directory_graph_view order) c.new-directories.ensures.items)) (sym (c.begin_directory_scan-known.ensures order))
           (begun (disk_in_order order disk) c.args.places.now c.args.map.now c.args.members.now);
+      marks = λ order sync chain p rest t. marked_first (disk_in_order order disk) c.args.map.now c.args.places.now c.args.members.now sync chain p rest t;
       device = not_read g.D.BlockDevice c.args.device.now;
       quiet = refl;
       few = omega arith;
     }
 
-pub returns-in_err-scan_pair_and_mark_lists-clause-corrupt : goal.returns-in_err-scan_pair_and_mark_lists-clause-corrupt
-returns-in_err-scan_pair_and_mark_lists-clause-corrupt g c = λ is order graph end all.
-    let p = err_from_is_err_and c.from_residual.result c.from_residual.ensures.1 in
+-- on the device as it was before
+first_on : {D : Type 0} (g : Ghosts D) (old mid : D) → ReadsOnly g old mid → (order : NameOrder) (m : PairBeforeSlotsAreRead) (sets : BlockStateList) (v : Violation) → BreaksDescribedPair (disk_in_order order (disk_of_device g mid)) m sets v
+    → BreaksDescribedPair (disk_in_order order (disk_of_device g old)) m sets v
+first_on g old mid reads order m sets v broken = subst (λ (d : Disk). BreaksDescribedPair (disk_in_order order d) m sets v) (ap₂ disk_of_geometry_and_blocks reads.geometry reads.same) broken
+
+pub returns-in_err-scan_pair_and_mark_lists-clause-broken : goal.returns-in_err-scan_pair_and_mark_lists-clause-broken
+returns-in_err-scan_pair_and_mark_lists-clause-broken g c = λ v is order sync chain p rest t.
+    let e = err_from_is_err_and c.from_residual.result c.from_residual.ensures.1 in
     let disk = disk_in_order order (disk_of_device g.D.BlockDevice c.args.device.now) in
-    not_taken_at disk c.args.places.now c.args.map.now c.args.members.now (directory_graph_view order c.loop-member.directories.items) (directory_scan_view order c.loop-member.known) c.loop-member.map
-    c.loop-member.member-index none c.loop-member-test.true (c.loop-member.invariant.way order)
-    (λ new mid takes. c.in_err-scan_pair_and_mark_lists.ensures.corrupt (ap Err (same_error p.1 p.2 is)) order new mid
-    (subst (λ (d : Disk). AddsPairToDirectoryScan (disk_in_order order d) c.args.places.now (get_or c.args.members.now c.loop-member.member-index none) (directory_scan_view order c.loop-member.known) c.loop-member.map new mid) (sym (ap₂ disk_of_geometry_and_blocks c.loop-member.invariant.device.geometry c.loop-member.invariant.device.same)) takes))
-    graph end all
+    let m : PairBeforeSlotsAreRead = get_or c.args.members.now c.loop-member.member-index none in
+    thread_breaks disk c.args.map.now c.args.places.now c.args.members.now sync chain p rest t c.loop-member.member-index m (slice_get-get_or c.args.members.now c.loop-member.member-index none c.loop-member-test.true)
+    c.loop-member.map (c.loop-member.invariant.marks order sync chain p rest t) v (g.met.D.BlockDevice.bytes c.args.device.now)
+    (first_on g.D.BlockDevice c.args.device.now c.loop-member.device c.loop-member.invariant.device order m c.loop-member.map v (c.in_err-scan_pair_and_mark_lists.ensures.broken v (ap Err (same_error e.1 e.2 is)) order))
 
-pub returns-in_err-scan_pair_and_mark_lists-clause-device : goal.returns-in_err-scan_pair_and_mark_lists-clause-device
-returns-in_err-scan_pair_and_mark_lists-clause-device g c = read_on g.D.BlockDevice c.loop-member.invariant.device c.in_err-scan_pair_and_mark_lists.ensures.device
+pub returns-in_err-scan_pair_and_mark_lists-clause-reading : goal.returns-in_err-scan_pair_and_mark_lists-clause-reading
+returns-in_err-scan_pair_and_mark_lists-clause-reading g c =
+    let e = err_from_is_err_and c.from_residual.result c.from_residual.ensures.1 in
+    passed_on g.D.BlockDevice e.1 e.2 c.loop-member.invariant.device c.loop-member.invariant.quiet c.in_err-scan_pair_and_mark_lists.ensures.reading
 
-pub returns-in_err-scan_pair_and_mark_lists-clause-errors : goal.returns-in_err-scan_pair_and_mark_lists-clause-errors
-returns-in_err-scan_pair_and_mark_lists-clause-errors g c =
-    let p = err_from_is_err_and c.from_residual.result c.from_residual.ensures.1 in
-    passed_on g.D.BlockDevice p.1 p.2 c.loop-member.invariant.quiet c.in_err-scan_pair_and_mark_lists.ensures.errors
-
-pub returns-in_err-push-clause-device : goal.returns-in_err-push-clause-device
-returns-in_err-push-clause-device g c = read_on g.D.BlockDevice c.loop-member.invariant.device c.in_ok-scan_pair_and_mark_lists.ensures.device
+pub returns-in_err-push-clause-reading : goal.returns-in_err-push-clause-reading
+returns-in_err-push-clause-reading g c =
+    let e = err_from_is_err_and c.from_residual-in_err-push.result c.from_residual-in_err-push.ensures.1 in
+    record {
+      device = read_on g.D.BlockDevice c.loop-member.invariant.device c.in_ok-scan_pair_and_mark_lists.ensures.reading.device;
+      fault = λ is. absurd (let clash = same_error e.1 e.2 is in cc);
+      no_fault = λ other. quiet g.D.BlockDevice c.in_ok-scan_pair_and_mark_lists.ensures.reading ∙ c.loop-member.invariant.quiet;
+    }
 
 pub loop-member-preserved : goal.loop-member-preserved
 loop-member-preserved g c =
@@ -80,8 +95,12 @@ loop-member-preserved g c =
             (taken_hard (disk_in_order order disk) c.args.places.now c.args.map.now c.args.members.now (directory_graph_view order c.loop-member.directories.items) (directory_scan_view order c.loop-member.known) c.loop-member.map
             c.loop-member.member-index none c.loop-member-test.true (c.loop-member.invariant.way order) (directory_scan_view order c.scan_pair_and_mark_lists.new.known) c.scan_pair_and_mark_lists.new.map (takes order) w.if-not-member.false)
       ];
-      device = read_on g.D.BlockDevice c.loop-member.invariant.device c.in_ok-scan_pair_and_mark_lists.ensures.device;
-      quiet = quiet g.D.BlockDevice c.in_ok-scan_pair_and_mark_lists.ensures.errors.faults ∙ c.loop-member.invariant.quiet;
+      marks = λ order sync chain p rest t.
+          marked_next (disk_in_order order disk) c.args.map.now c.args.places.now c.args.members.now sync chain p rest t c.loop-member.member-index (get_or c.args.members.now c.loop-member.member-index none)
+          (slice_get-get_or c.args.members.now c.loop-member.member-index none c.loop-member-test.true) c.loop-member.map (c.loop-member.invariant.marks order sync chain p rest t)
+          (directory_scan_view order c.loop-member.known) (directory_scan_view order c.scan_pair_and_mark_lists.new.known) c.scan_pair_and_mark_lists.new.map (takes order);
+      device = read_on g.D.BlockDevice c.loop-member.invariant.device c.in_ok-scan_pair_and_mark_lists.ensures.reading.device;
+      quiet = quiet g.D.BlockDevice c.in_ok-scan_pair_and_mark_lists.ensures.reading ∙ c.loop-member.invariant.quiet;
       few =
           let before = c.loop-member.invariant.few in
           let this = subst (λ (d : Disk). read_count_of_history (g.D.BlockDevice.history c.scan_pair_and_mark_lists.new.device) ≤ read_count_of_history (g.D.BlockDevice.history c.loop-member.device) + pair_read_count d (get_or c.args.members.now c.loop-member.member-index none))

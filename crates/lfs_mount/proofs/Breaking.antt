@@ -25,13 +25,13 @@ use Rattle.lfs_model.proofs.Completed.{complete_parts, complete_take}
 use Rattle.lfs_model.proofs.Counts.{Each, count_append, each_counted, occurrence_count_of_number}
 use Rattle.lfs_model.proofs.Logged.{logged}
 use Rattle.lfs_device.specs.Bytes.{AreAllBlockElementsBelow256}
-use Rattle.lfs_mount.specs.Broken.{BreaksDescribedPair, BreaksKeptEntry, BreaksKeptList, BreaksList, BreaksMovedSlot, BreaksSlotsInBlock, HasTakenBlock, IsListOfKeptSlot, IsNoneOrSuperblock, LacksSuperblockSlot, list_blocks_before_index, raw_slots_in_block}
+use Rattle.lfs_mount.specs.Broken.{BreaksDescribedPair, BreaksKeptEntry, BreaksKeptList, BreaksList, BreaksMovedSlot, BreaksSlotsInBlock, HasTakenBlock, IsListOfSlot, IsNoneOrSuperblock, LacksSuperblockSlot, list_blocks_before_index, raw_slots_in_block}
 use Rattle.lfs_mount.specs.Checked.{IsThreadMatchingMapAndPairDescriptions}
 use Rattle.lfs_mount.specs.Described.{AreDescriptionsOfPairsOnDisk, IsDescriptionOfPairOnDisk}
 use Rattle.lfs_mount.specs.Entries.{directory_entry_of_raw_slot, entry_reference_of_struct, name_and_reference_of_slot}
 use Rattle.lfs_mount.specs.Marking.{HasExactlyTheseUsedBlocks, file_lists_of_raw_slots, skip_list_blocks_from_last_to_first, skip_list_of_entry}
 use Rattle.lfs_mount.specs.Reaching.{DirectoryVertexWithSoundnessAndBranches}
-use Rattle.lfs_mount.specs.Taken.{AddsPairToDirectoryScan, number_of_kept_slot, raw_slots_not_moved, slots_after_superblock, slots_of_pair_without_superblock_and_moved}
+use Rattle.lfs_mount.specs.Taken.{AddsPairToDirectoryScan, kept_slot_number, raw_slots_not_moved, slots_after_superblock, slots_of_pair_without_superblock_and_moved}
 use Rattle.lfs_mount.specs.declared.pass.PairBeforeSlotsAreRead.{PairBeforeSlotsAreRead}
 use Rattle.lfs_mount.proofs.Accepts.{occurrence_count_of_number-flat_map, occurrence_count_of_number-reverse}
 use Rattle.lfs_mount.proofs.FirstSlots.{made_of, slot_named}
@@ -314,12 +314,12 @@ module _ (disk : Disk) (chain dirs : List Pair) (k : ℕ) (first : Bool) (p : Pa
 
   -- ---- slots that are kept
 
-  first_low : (index : ℕ) → first ≡ true → 0 < number_of_kept_slot m index
+  first_low : (index : ℕ) → first ≡ true → 0 < kept_slot_number m index
   first_low index f = number_behind m index (h.describes.first ∙ f)
 
   kept_entry_breaks : (v : Violation) (raws kept : List RawSlot) → AreSlotsOfPair raws → slots_of_pair_without_superblock_and_moved m raws ≡ Some kept → BreaksKeptEntry m kept v → BreaksPairs disk ps v
   kept_entry_breaks v raws kept are e (index, (is, (s, (there, none)))) =
-      subst (BreaksPairs disk ps) (sym is) (entry_breaks raws (number_of_kept_slot m index) s are (kept_number m raws kept index s e there).there none (first_low index))
+      subst (BreaksPairs disk ps) (sym is) (entry_breaks raws (kept_slot_number m index) s are (kept_number m raws kept index s e there).there none (first_low index))
 
   kept_complete : (raws kept : List RawSlot) → AreSlotsOfPair raws → slots_of_pair_without_superblock_and_moved m raws ≡ Some kept → slots_if_names_and_structs_present kept ≡ Some (behind first (slots_not_moved g p))
   kept_complete raws kept are e =
@@ -332,7 +332,7 @@ module _ (disk : Disk) (chain dirs : List Pair) (k : ℕ) (first : Bool) (p : Pa
   abbrev up_to : List RawSlot → ℕ → ℕ × ℕ → List ℕ
   up_to kept index l = list_blocks_before_index disk kept index ++ skip_list_blocks_from_last_to_first disk l
 
-  few_up_to : (b : ℕ) (raws kept : List RawSlot) (index : ℕ) (l : ℕ × ℕ) → AreSlotsOfPair raws → slots_of_pair_without_superblock_and_moved m raws ≡ Some kept → IsListOfKeptSlot kept index l
+  few_up_to : (b : ℕ) (raws kept : List RawSlot) (index : ℕ) (l : ℕ × ℕ) → AreSlotsOfPair raws → slots_of_pair_without_superblock_and_moved m raws ≡ Some kept → IsListOfSlot kept index l
       → occurrence_count_of_number b (up_to kept index l) ≤ occurrence_count_of_number b (blocks_in disk (slots_not_moved g p))
   few_up_to b raws kept index l are e is =
       let all : List Slot = behind first (slots_not_moved g p) in
@@ -373,7 +373,7 @@ module _ (disk : Disk) (chain dirs : List Pair) (k : ℕ) (first : Bool) (p : Pa
   kept_list_breaks v raws kept sets a are e broken = go broken.breaks
     where
       number : ℕ
-      number = number_of_kept_slot m broken.index
+      number = kept_slot_number m broken.index
 
       n : IsNumberOf raws m.moved number broken.is.slot
       n = kept_number m raws kept broken.index broken.is.slot e broken.is.there

@@ -18,10 +18,6 @@ use Rattle.lfs_mount.specs.ListsView.{file_lists_view}
 
 -- ---- marks over joined lists
 
-pub marks_same : (bs : List ℕ) (old a b : BlockStateList) → MarksFreeBlocksUsed old bs a → MarksFreeBlocksUsed old bs b → a ≡ b
-marks_same [] old a b e f = sym e ∙ f
-marks_same (x ∷ bs) old a b (free, m) (again, n) = marks_same bs _ a b m n
-
 marks_append : (xs ys : List ℕ) (old mid new : BlockStateList) → MarksFreeBlocksUsed old xs mid → MarksFreeBlocksUsed mid ys new → MarksFreeBlocksUsed old (xs ++ ys) new
 marks_append [] ys old mid new e n = subst (λ (s : BlockStateList). MarksFreeBlocksUsed s ys new) (sym e) n
 marks_append (x ∷ xs) ys old mid new (free, m) n = (free, marks_append xs ys _ mid new m n)

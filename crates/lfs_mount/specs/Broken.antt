@@ -12,7 +12,7 @@ use Rattle.lfs_model.specs.declared.violations.Violation.TheVariants as violatio
 use Rattle.lfs_tag.specs.KindView.{is_superblock_name}
 use Rattle.lfs_mount.specs.Entries.{HoldsNoEntryAt, directory_entry_of_raw_slot}
 use Rattle.lfs_mount.specs.Marking.{MarksFreeBlocksUsed, MeetsTakenBlock, file_lists_of_raw_slots, skip_list_blocks_from_last_to_first, skip_list_of_entry}
-use Rattle.lfs_mount.specs.Taken.{number_of_kept_slot, raw_slots_not_moved, slots_after_superblock, slots_of_pair_without_superblock_and_moved}
+use Rattle.lfs_mount.specs.Taken.{kept_slot_number, raw_slots_not_moved, slots_after_superblock, slots_of_pair_without_superblock_and_moved}
 use Rattle.lfs_mount.specs.declared.pass.PairBeforeSlotsAreRead.{PairBeforeSlotsAreRead}
 
 -- ---- slots before some are removed
@@ -51,10 +51,10 @@ BreaksSlotsInBlock m block v = (raw_slots_in_block block ≡ None)
 
 -- the kept slot at an index is no entry
 abbrev pub BreaksKeptEntry : PairBeforeSlotsAreRead → List RawSlot → Violation → Type 0
-BreaksKeptEntry m kept v = (index : ℕ) × ((v ≡ violation.Entry m.at (number_of_kept_slot m index)) × HoldsNoEntryAt kept index)
+BreaksKeptEntry m kept v = (index : ℕ) × ((v ≡ violation.Entry m.at (kept_slot_number m index)) × HoldsNoEntryAt kept index)
 
 -- the kept slot at an index has that list
-pub record IsListOfKeptSlot (kept : List RawSlot) (index : ℕ) (l : ℕ × ℕ) : Type 0 where
+pub record IsListOfSlot (kept : List RawSlot) (index : ℕ) (l : ℕ × ℕ) : Type 0 where
   pub slot : RawSlot
   pub there : slice_get kept index ≡ Some slot
   pub list : option_and_then skip_list_of_entry (directory_entry_of_raw_slot slot) ≡ Some l
@@ -76,10 +76,10 @@ BreaksList disk old l at slot v = ((v ≡ violation.List at slot) × ¬ IsSkipLi
 pub record BreaksKeptList (disk : Disk) (m : PairBeforeSlotsAreRead) (old : BlockStateList) (kept : List RawSlot) (v : Violation) : Type 0 where
   pub index : ℕ
   pub l : ℕ × ℕ
-  pub is : IsListOfKeptSlot kept index l
+  pub is : IsListOfSlot kept index l
   pub mid : BlockStateList
   pub before : MarksFreeBlocksUsed old (list_blocks_before_index disk kept index) mid
-  pub breaks : BreaksList disk mid l m.at (number_of_kept_slot m index) v
+  pub breaks : BreaksList disk mid l m.at (kept_slot_number m index) v
 
 -- ---- a pair
 

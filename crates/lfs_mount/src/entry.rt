@@ -62,7 +62,7 @@ pub(crate) fn is_file_or_directory_entry(slot: &Slot<'_>) -> bool
 }
 
 // Returns the index of the first slot that holds no entry, where there is one, else the slots' count.
-pub(crate) fn index_of_first_non_entry(slots: &[Slot<'_>]) -> usize
+pub(crate) fn first_non_entry(slots: &[Slot<'_>]) -> usize
     ensures holds { (other : ℕ) → HoldsNoEntryAt (map slot_view slots.now) other → HoldsNoEntryAt (map slot_view slots.now) result }
     ensures within { result ≤ length slots.now }
 {

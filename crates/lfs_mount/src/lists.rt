@@ -41,7 +41,7 @@ fn mark_block_if_free(map: &mut BlockMap, block: u32) -> bool
 //
 // Errors: `Corrupt` where the list isn't well formed, or where one of its blocks was marked before:
 // then it names the first one. Some of its blocks may be marked then. `Io` where a read failed.
-fn mark_list_of_slot_used<D: BlockDevice>(
+fn mark_slot_list<D: BlockDevice>(
     device: &mut D,
     map: &mut BlockMap,
     pair: [u32; 2],
@@ -106,8 +106,8 @@ pub(crate) fn mark_lists_of_slots_used<D: BlockDevice>(
 {
     for index in 0..slots.len() {
         if let Some(list) = skip_list_of_slot(&slots[index]) {
-            let number = member.number_of_kept_slot(index);
-            mark_list_of_slot_used(device, map, member.at, number, list)?;
+            let number = member.kept_slot_number(index);
+            mark_slot_list(device, map, member.at, number, list)?;
         }
     }
     Ok(())

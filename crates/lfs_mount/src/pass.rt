@@ -23,7 +23,7 @@ ghost use Rattle.lfs_thread.specs.MountErrors.{OnlyReadsUnlessFault};
 ghost use Rattle.lfs_thread.specs.declared.mount_error.MountError.TheVariants.{Corrupt, Io};
 
 use crate::directory_scan::ScannedDirectory;
-use crate::entry::{index_of_first_non_entry, is_file_or_directory_entry};
+use crate::entry::{first_non_entry, is_file_or_directory_entry};
 use crate::lists::mark_lists_of_slots_used;
 use crate::reachability::Directory;
 use lfs_alloc::BlockMap;
@@ -50,12 +50,12 @@ pub(crate) struct PairBeforeSlotsAreRead {
 
 impl PairBeforeSlotsAreRead {
     ghost use Rattle.std.specs.Prelude.{◌≡◌, ◌<◌, ◌^◌};
-    ghost use Rattle.lfs_mount.specs.Taken.{number_of_kept_slot};
+    ghost use Rattle.lfs_mount.specs.Taken.{kept_slot_number};
 
     // Returns the number in the pair of a slot that is kept, by its index among those.
-    pub fn number_of_kept_slot(&self, index: usize) -> u32
+    pub fn kept_slot_number(&self, index: usize) -> u32
         requires { index < 2 ^ 31 }
-        ensures { result ≡ number_of_kept_slot self.now index }
+        ensures { result ≡ kept_slot_number self.now index }
     {
         let behind = u32::from(self.has_superblock);
         let number = index as u32 + behind;
@@ -178,7 +178,7 @@ fn scan_pair_and_mark_lists<D: BlockDevice>(
     let bytes = read_active_block(alloc, device, member)?;
     let slots = read_kept_slots(alloc, &Log::read(&bytes), member)?;
     if let Err(error) = known.scan_directory_slots(places, &slots) {
-        let slot = member.number_of_kept_slot(index_of_first_non_entry(&slots));
+        let slot = member.kept_slot_number(first_non_entry(&slots));
         return Err(MountError::of(
             error,
             Violation::Entry {

@@ -20,14 +20,14 @@ use Rattle.lfs_mount.proofs.Called.{passed_on, quiet, read_on, same_error}
 use Rattle.lfs_mount.proofs.MarkedLists.{lists_more, lists_stay}
 use Rattle.lfs_mount.proofs.ReadCounts.{reads_more, reads_stay}
 use Rattle.lfs_mount.proofs.lists.mark_lists_of_slots_used.Goals as goal
-use Rattle.lfs_mount.proofs.lists.mark_lists_of_slots_used.Goals.{in-Some+in_ok-mark_list_of_slot_used, in_default}
+use Rattle.lfs_mount.proofs.lists.mark_lists_of_slots_used.Goals.{in-Some+in_ok-mark_slot_list, in_default}
 
 -- on the device as it was before
 first_on : {D : Type 0} (g : Ghosts D) (old mid : D) → ReadsOnly g old mid → (sets : BlockStateList) (l : ℕ × ℕ) (at : List ℕ) (slot : ℕ) (v : Violation) → BreaksList (disk_of_device g mid) sets l at slot v → BreaksList (disk_of_device g old) sets l at slot v
 first_on g old mid reads sets l at slot v broken = subst (λ (d : Disk). BreaksList d sets l at slot v) (ap₂ disk_of_geometry_and_blocks reads.geometry reads.same) broken
 
-pub returns-in_err-mark_list_of_slot_used-clause-broken : goal.returns-in_err-mark_list_of_slot_used-clause-broken
-returns-in_err-mark_list_of_slot_used-clause-broken g c = λ v is.
+pub returns-in_err-mark_slot_list-clause-broken : goal.returns-in_err-mark_slot_list-clause-broken
+returns-in_err-mark_slot_list-clause-broken g c = λ v is.
     let p = err_from_is_err_and c.from_residual.result c.from_residual.ensures.1 in
     let at = slice_get_read c.args.slots.now _ c.loop-index.index c.index-slots-index.result refl c.loop-index-test.true c.index-slots-index.is in
     let disk = disk_of_device g.D.BlockDevice c.args.device.now in
@@ -42,14 +42,14 @@ returns-in_err-mark_list_of_slot_used-clause-broken g c = λ v is.
       mid = c.loop-index.map;
       before = subst (λ ss. MarksFreeBlocksUsed c.args.map.now (flat_map (skip_list_blocks_from_last_to_first disk) (file_lists_of_raw_slots ss)) c.loop-index.map) (sym (take-map slot_view c.loop-index.index c.args.slots.now)) c.loop-index.invariant.marked.marked;
       breaks = first_on g.D.BlockDevice c.args.device.now c.loop-index.device c.loop-index.invariant.device c.loop-index.map c.in-Some.list c.args.member.now.at _ v
-          (subst (λ n. BreaksList (disk_of_device g.D.BlockDevice c.loop-index.device) c.loop-index.map c.in-Some.list c.args.member.now.at n v) c.number_of_kept_slot-number.ensures
-          (c.in_err-mark_list_of_slot_used.ensures.broken v (ap Err (same_error p.1 p.2 is))));
+          (subst (λ n. BreaksList (disk_of_device g.D.BlockDevice c.loop-index.device) c.loop-index.map c.in-Some.list c.args.member.now.at n v) c.kept_slot_number-number.ensures
+          (c.in_err-mark_slot_list.ensures.broken v (ap Err (same_error p.1 p.2 is))));
     }
 
-pub returns-in_err-mark_list_of_slot_used-clause-reading : goal.returns-in_err-mark_list_of_slot_used-clause-reading
-returns-in_err-mark_list_of_slot_used-clause-reading g c =
+pub returns-in_err-mark_slot_list-clause-reading : goal.returns-in_err-mark_slot_list-clause-reading
+returns-in_err-mark_slot_list-clause-reading g c =
     let p = err_from_is_err_and c.from_residual.result c.from_residual.ensures.1 in
-    passed_on g.D.BlockDevice p.1 p.2 c.loop-index.invariant.device c.loop-index.invariant.quiet c.in_err-mark_list_of_slot_used.ensures.reading
+    passed_on g.D.BlockDevice p.1 p.2 c.loop-index.invariant.device c.loop-index.invariant.quiet c.in_err-mark_slot_list.ensures.reading
 
 pub loop-index-preserved : goal.loop-index-preserved
 loop-index-preserved g c =
@@ -57,19 +57,19 @@ loop-index-preserved g c =
     let disk = disk_of_device g.D.BlockDevice c.args.device.now in
     let lists = file_lists_view (take (c.loop-index.index + 1) c.args.slots.now) in
     elim c.match-skip_list_of_slot.branch [
-      | in-Some+in_ok-mark_list_of_slot_used w ↦
+      | in-Some+in_ok-mark_slot_list w ↦
           let same = ap₂ disk_of_geometry_and_blocks c.loop-index.invariant.device.geometry c.loop-index.invariant.device.same in
           record {
             marked = subst (λ m. MarksFreeBlocksOfLists disk c.args.map.now lists m) (sym w.map-is)
-                (lists_more disk c.args.slots.now c.loop-index.index c.index-slots-index.result w.in-Some.list c.args.map.now c.loop-index.map w.mark_list_of_slot_used.new.map at
+                (lists_more disk c.args.slots.now c.loop-index.index c.index-slots-index.result w.in-Some.list c.args.map.now c.loop-index.map w.mark_slot_list.new.map at
                 (sym c.skip_list_of_slot.ensures ∙ w.in-Some.is) c.loop-index.invariant.marked
-                (subst (λ (d : Disk). MarksFreeBlocksOfList d c.loop-index.map w.in-Some.list w.mark_list_of_slot_used.new.map) same w.in_ok-mark_list_of_slot_used.ensures.marked));
-            device = subst (ReadsOnly g.D.BlockDevice c.args.device.now) (sym w.device-is) (read_on g.D.BlockDevice c.loop-index.invariant.device w.in_ok-mark_list_of_slot_used.ensures.reading.device);
-            quiet = ap (λ d. fault_count_of_history (g.D.BlockDevice.history d)) w.device-is ∙ quiet g.D.BlockDevice w.in_ok-mark_list_of_slot_used.ensures.reading ∙ c.loop-index.invariant.quiet;
+                (subst (λ (d : Disk). MarksFreeBlocksOfList d c.loop-index.map w.in-Some.list w.mark_slot_list.new.map) same w.in_ok-mark_slot_list.ensures.marked));
+            device = subst (ReadsOnly g.D.BlockDevice c.args.device.now) (sym w.device-is) (read_on g.D.BlockDevice c.loop-index.invariant.device w.in_ok-mark_slot_list.ensures.reading.device);
+            quiet = ap (λ d. fault_count_of_history (g.D.BlockDevice.history d)) w.device-is ∙ quiet g.D.BlockDevice w.in_ok-mark_slot_list.ensures.reading ∙ c.loop-index.invariant.quiet;
             few =
                 let geometry = ap (λ (k : Geometry). k.block_size) c.loop-index.invariant.device.geometry in
-                let this = subst (λ size. read_count_of_history (g.D.BlockDevice.history w.mark_list_of_slot_used.new.device) ≤ read_count_of_history (g.D.BlockDevice.history c.loop-index.device) + list_read_count size w.in-Some.list) geometry
-                w.in_ok-mark_list_of_slot_used.ensures.few in
+                let this = subst (λ size. read_count_of_history (g.D.BlockDevice.history w.mark_slot_list.new.device) ≤ read_count_of_history (g.D.BlockDevice.history c.loop-index.device) + list_read_count size w.in-Some.list) geometry
+                w.in_ok-mark_slot_list.ensures.few in
                 let before = c.loop-index.invariant.few in
                 let more = reads_more (g.D.BlockDevice.geometry c.args.device.now).block_size c.args.slots.now c.loop-index.index c.index-slots-index.result w.in-Some.list at
                 (sym c.skip_list_of_slot.ensures ∙ w.in-Some.is) in

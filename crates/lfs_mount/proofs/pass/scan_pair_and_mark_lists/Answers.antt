@@ -45,16 +45,16 @@ returns-in-Err-clause-broken g c = λ v is order.
     let none = c.in-Err.ensures.corrupt (ap Err from.0) order in
     let at = scan_none_at order c.args.places.now (directory_scan_view order c.args.known.now) (map slot_view c.deref-2.result.now) none in
     let same = ap (map slot_view) (c.deref-2.ensures.value ∙ sym c.deref-in-Err.ensures.value) in
-    let first = c.index_of_first_non_entry.ensures.holds at.0 (subst (λ ss. HoldsNoEntryAt ss at.0) same at.1) in
+    let first = c.first_non_entry.ensures.holds at.0 (subst (λ ss. HoldsNoEntryAt ss at.0) same at.1) in
     inr (
       map slot_view c.in_ok-slots.slots.items,
       (
         ap (kept_slots_in_block c.args.member.now) (sym log) ∙ c.in_ok-slots.ensures.kept,
         inl (
-          c.index_of_first_non_entry.result,
+          c.first_non_entry.result,
           (
-            sym from.1 ∙ ap (violation.Entry c.args.member.now.at) c.number_of_kept_slot-slot.ensures,
-            subst (λ ss. HoldsNoEntryAt ss c.index_of_first_non_entry.result) (ap (map slot_view) c.deref-in-Err.ensures.value) first,
+            sym from.1 ∙ ap (violation.Entry c.args.member.now.at) c.kept_slot_number-slot.ensures,
+            subst (λ ss. HoldsNoEntryAt ss c.first_non_entry.result) (ap (map slot_view) c.deref-in-Err.ensures.value) first,
           ),
         ),
       ),

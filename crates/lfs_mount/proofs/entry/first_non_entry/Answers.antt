@@ -5,7 +5,7 @@ use Rattle.std.proofs.lemmas.Option.{same_Some, slice_get-map, slice_get_read, s
 use Rattle.lfs_tag.specs.ContentView.{slot_view}
 use Rattle.lfs_mount.specs.Entries.{directory_entry_of_raw_slot}
 use Rattle.lfs_mount.proofs.Kept.{no_entry}
-use Rattle.lfs_mount.proofs.entry.index_of_first_non_entry.Goals as goal
+use Rattle.lfs_mount.proofs.entry.first_non_entry.Goals as goal
 
 pub returns-then-not-is_file_or_directory_entry-clause-holds : goal.returns-then-not-is_file_or_directory_entry-clause-holds
 returns-then-not-is_file_or_directory_entry-clause-holds c = λ other h.

@@ -2,7 +2,7 @@ use Rattle.std.proofs.Common.{rules, inr, refl, subst, ◌≡◌, Some, None}
 use Rattle.lfs_thread.specs.Kept.{disk_of_device}
 use Rattle.lfs_mount.specs.Marking.{MarksFreeBlocksUsed, skip_list_blocks_from_last_to_first}
 use Rattle.lfs_mount.proofs.Markings.{all_free, all_keep, some_taken}
-use Rattle.lfs_mount.proofs.lists.mark_list_of_slot_used.Goals as goal
+use Rattle.lfs_mount.proofs.lists.mark_slot_list.Goals as goal
 
 pub returns-in-Some-clause-broken : goal.returns-in-Some-clause-broken
 returns-in-Some-clause-broken g c = λ v is.

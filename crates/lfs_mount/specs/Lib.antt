@@ -22,3 +22,4 @@ pub mod Moves
 pub mod Accepted
 pub mod ReadImage
 pub mod Start
+pub mod Device

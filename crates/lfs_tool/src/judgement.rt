@@ -5,6 +5,8 @@ ghost use Rattle.lfs_device.specs.RamDevice.{ram_blocks, geometry_of_ram_device}
 ghost use Rattle.lfs_device.specs.Shown.{disk_of_geometry_and_blocks};
 ghost use Rattle.lfs_model.specs.Disk.{disk_in_order};
 ghost use Rattle.lfs_model.specs.Violations.{Breaks};
+ghost use Rattle.lfs_mount.specs.TrueViolation.{HasTrueViolation};
+ghost use Rattle.lfs_thread.specs.MountErrors.{error_of_mount};
 ghost use Rattle.lfs_tool.specs.ImageSummaries.{HasAcceptedNameOrders, IsAcceptedInNameOrder};
 ghost use Rattle.lfs_tool.specs.Verdict.{BreaksInSomeOrder, IsAcceptedInNoNameOrder, IsVerdictOnDisk};
 ghost use Rattle.lfs_model.specs.BlockSets.{AreExactlyTheUsedBlocks};
@@ -90,7 +92,7 @@ fn rule_by_both_orders(
     error: MountError,
 ) -> Result<BrokenRule, Error>
     requires longer { Breaks (disk_in_order LongerFirst (disk_of_geometry_and_blocks (geometry_of_ram_device device) (ram_blocks device))) longer }
-    requires shorter { (violation : Violation) → error ≡ MountError.Corrupt violation → Breaks (disk_in_order ShorterFirst (disk_of_geometry_and_blocks (geometry_of_ram_device device) (ram_blocks device))) violation }
+    requires shorter { HasTrueViolation (disk_in_order ShorterFirst (disk_of_geometry_and_blocks (geometry_of_ram_device device) (ram_blocks device))) error }
     requires no_fault { error ≢ MountError.Io }
     ensures broken { IfOk result (λ rule. BreaksInSomeOrder (disk_of_geometry_and_blocks (geometry_of_ram_device device) (ram_blocks device)) rule.violation) }
     ensures err { IfErr result (λ e. e ≡ Error.NoMemory) }
@@ -129,8 +131,8 @@ fn judge_refused_image(
     device: RamDevice,
     error: MountError,
 ) -> Result<ImageVerdict, Error>
-    requires refused { (violation : Violation) → error ≡ MountError.Corrupt violation → IsAcceptedInNoNameOrder (disk_of_geometry_and_blocks (geometry_of_ram_device device) (ram_blocks device)) }
-    requires longer { (violation : Violation) → error ≡ MountError.Corrupt violation → Breaks (disk_in_order LongerFirst (disk_of_geometry_and_blocks (geometry_of_ram_device device) (ram_blocks device))) violation }
+    requires refused { error_of_mount error ≡ Error.Corrupt → IsAcceptedInNoNameOrder (disk_of_geometry_and_blocks (geometry_of_ram_device device) (ram_blocks device)) }
+    requires longer { HasTrueViolation (disk_in_order LongerFirst (disk_of_geometry_and_blocks (geometry_of_ram_device device) (ram_blocks device))) error }
     requires no_fault { error ≢ MountError.Io }
     ensures verdict { IfOk result (IsVerdictOnDisk (disk_of_geometry_and_blocks (geometry_of_ram_device device) (ram_blocks device))) }
     ensures err { IfErr result (λ e. e ≡ Error.NoMemory) }

@@ -282,6 +282,29 @@ pub(crate) fn push_slot_text(
     Ok(())
 }
 
+// Adds the words for a pair.
+fn push_pair_message(text: &mut Vec<u8>, pair: [u32; 2], says: &str) -> Result<(), AllocError>
+    ensures { OnOk result (text.new.items ≡ text.old.items ++ (pair_text (pair_address_of_array pair) ++ says.now)) }
+{
+    push_pair_text(text, pair)?;
+    push_text(text, says)?;
+    Ok(())
+}
+
+// Adds the words for a slot.
+fn push_slot_message(
+    text: &mut Vec<u8>,
+    pair: [u32; 2],
+    slot: usize,
+    says: &str,
+) -> Result<(), AllocError>
+    ensures { OnOk result (text.new.items ≡ text.old.items ++ (slot_text (pair_address_of_array pair) slot ++ says.now)) }
+{
+    push_slot_text(text, pair, slot)?;
+    push_text(text, says)?;
+    Ok(())
+}
+
 // Adds a name between quotes.
 pub(crate) fn push_quoted_name(text: &mut Vec<u8>, name: &[u8]) -> Result<(), AllocError> {
     text.push(b'"')?;
@@ -336,11 +359,8 @@ fn push_unaccepted_lines(
     Ok(())
 }
 
-// Adds the lines of a check's result.
-pub(crate) fn lines_of_check_result(
-    alloc: Global,
-    checked: &CheckResult,
-) -> Result<Vec<u8>, AllocError>
+/// Returns the lines of a check's result, as `check` writes them.
+pub fn lines_of_check_result(alloc: Global, checked: &CheckResult) -> Result<Vec<u8>, AllocError>
     ensures { IfOk result (λ text. text.items ≡ check_result_text checked.now) }
 {
     let mut text = Vec::new(alloc);

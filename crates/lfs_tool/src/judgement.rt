@@ -87,7 +87,7 @@ fn broken_rule_of_device(
     device: RamDevice,
     longer: Violation,
 ) -> Result<BrokenRule, Error>
-    requires { IsAcceptedInNoNameOrder (disk_of_geometry_and_blocks (geometry_of_ram_device device) (ram_blocks device)) }
+    requires refused { IsAcceptedInNoNameOrder (disk_of_geometry_and_blocks (geometry_of_ram_device device) (ram_blocks device)) }
     requires broken { Breaks (disk_in_order LongerFirst (disk_of_geometry_and_blocks (geometry_of_ram_device device) (ram_blocks device))) longer }
     ensures broken { IfOk result (λ rule. BreaksInSomeOrder (disk_of_geometry_and_blocks (geometry_of_ram_device device) (ram_blocks device)) rule.violation) }
     ensures err { IfErr result (λ e. e ≡ Error.NoMemory) }

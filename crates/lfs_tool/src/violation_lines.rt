@@ -101,7 +101,7 @@ fn push_superblock_line(
     if !slot.kind.is_superblock() {
         return push_text(&mut rule.line, NO_SUPERBLOCK);
     }
-    if slot.name.as_slice() != b"littlefs" {
+    if slot.name.as_slice() != b"littlefs".as_slice() {
         return push_place_line(
             &mut rule.line,
             pairs,
@@ -170,7 +170,10 @@ fn push_slot_line(
 fn push_move_line(rule: &mut BrokenRule, state: &MoveState) -> Result<(), AllocError> {
     match rule.violation {
         Violation::Move if state.kind == 0 => {
-            push_text(&mut rule.line, "global state: no move is set, but it names a slot")
+            push_text(
+                &mut rule.line,
+                "global state: no move is set, but it names a slot",
+            )
         }
         Violation::Move => push_text(&mut rule.line, "global state: its move names no entry"),
         _ => Ok(()),

@@ -33,7 +33,7 @@ back_grown d e (suc n) head block same first =
     ∙ ap (λ b. list_blocks_from_head e (suc n) b ++ block ∷ []) to
     ∙ ap (λ bs. bs ++ block ∷ []) (back_same d e (suc n) head same)
 
-module _ (d e : Blocks) (n head block : ℕ) (chain : AreListBlocks d n head) (few : n < 2 ^ 32) (same : AreBlocksEqualExceptOne block d e) (lt : block < length d) (apart : All (λ c. c ≢ block) (list_blocks_from_head d n head))
+module _ (d e : Blocks) (n head block : ℕ) (chain : AreListBlocks d n head) (same : AreBlocksEqualExceptOne block d e) (lt : block < length d) (apart : All (λ c. c ≢ block) (list_blocks_from_head d n head))
     (points : (k : ℕ) → k < pointer_count_of_list_block n → word_at_offset (block_bytes_by_number e block) (4 * k) ≡ slice_index (list_blocks_from_head d n head) (n - 2 ^ k)) where
   abbrev bs : List ℕ
   bs = list_blocks_from_head d n head

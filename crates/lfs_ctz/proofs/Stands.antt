@@ -1,5 +1,5 @@
 -- What a list that grows shows on a disk, and on one where the same bytes are in its blocks.
-use Rattle.std.proofs.Common.{ℕ, true, ◌≡◌, ◌≢◌, ◌+◌, ◌*◌, ◌-◌, ◌^◌, ◌<◌, List, [], ◌∷◌, ◌++◌, length, take, drop, refl, sym, ap, ap₂, subst, ◌∙◌, arith, length-append}
+use Rattle.std.proofs.Common.{ℕ, true, ◌≡◌, ◌≢◌, ◌+◌, ◌*◌, ◌-◌, ◌<◌, List, [], ◌∷◌, ◌++◌, length, take, drop, refl, sym, ap, ap₂, subst, ◌∙◌, arith, length-append}
 use Rattle.std.specs.Prelude.{All}
 use Rattle.std.proofs.lemmas.List.Elements.{recursion_from_All}
 use Rattle.lfs_device.specs.declared.geometry.Geometry.{Geometry}
@@ -12,6 +12,7 @@ use Rattle.lfs_ctz.specs.declared.rest.RestLocation.TheVariants.{Closed, Shared,
 use Rattle.lfs_ctz.specs.Extended.{GrowingListHasBytesAndBlocks}
 use Rattle.lfs_ctz.specs.Extending.{HasTheseBytesOnlyInBuffer}
 use Rattle.lfs_ctz.specs.Growing.{GrowingList, HasGrowingListOnDisk, HasAllBytesInBuffer, AreLastBytesAtLocation, AreLastBytesShorterThanBlock, IsSameListOnLaterDisk, blocks_of_growing_list, bytes_of_growing_list, have_last_bytes_no_block, data_of_list_blocks, blocks_kept_when_growing, block_after_full_blocks, unwritten_block_after_full_blocks, growing_list_size_with_block_size}
+use Rattle.lfs_ctz.specs.Known.{AreKnownListBlocks}
 use Rattle.lfs_ctz.proofs.Filling.{length-full, none_chain}
 
 module _ (d later : Blocks) (count : length later ≡ length d) where
@@ -44,7 +45,7 @@ module _ (d later : Blocks) (count : length later ≡ length d) where
       let front = each_left IsSame (list_blocks_from_head d g.full g.head) (block_after_full_blocks g.stand) each in
       let back = back_same d later g.full g.head front in
       record {
-        growing = record { chain = chain_same d later g.full g.head count front is.chain; stand = rest_same g.full g.head g.rest g.stand each is.stand };
+        growing = record { chain = chain_same d later g.full g.head count front is.chain; known = subst (λ (l : List ℕ). AreKnownListBlocks l g.known) (sym back) is.known; stand = rest_same g.full g.head g.rest g.stand each is.stand };
         content = ap (λ (l : List ℕ). l ++ g.rest) (ap (data_of_list_blocks later) back ∙ data_same d later 0 (list_blocks_from_head d g.full g.head) front);
         kept = ap (λ (l : List ℕ). l ++ unwritten_block_after_full_blocks g.stand) back;
         blocks = ap (λ (l : List ℕ). l ++ block_after_full_blocks g.stand) back;
@@ -95,17 +96,20 @@ module _ (divided : Geometry) (e : GrowingList) (bytes : List ℕ) (size : ℕ) 
   chained : (d : Blocks) → AreListBlocks d e.full e.head
   chained d = subst (λ k. AreListBlocks d k e.head) (sym none) (none_chain d e.head)
 
+  none_known : (d : Blocks) → AreKnownListBlocks (list_blocks_from_head d e.full e.head) e.known
+  none_known d row lt small within = absurd (omega (arith, within, ap length (nothing d)))
+
   pub grown_held : e.stand ≡ Held → (d : Blocks) → GrowingListHasBytesAndBlocks divided d e bytes size [] []
   grown_held is d =
       alone d
-      (record { chain = chained d; stand = subst (AreLastBytesAtLocation d e.full e.head e.rest) (sym is) none })
+      (record { chain = chained d; known = none_known d; stand = subst (AreLastBytesAtLocation d e.full e.head e.rest) (sym is) none })
       (ap₂ (λ (x y : List ℕ). x ++ y) (nothing d) (ap unwritten_block_after_full_blocks is))
       (ap₂ (λ (x y : List ℕ). x ++ y) (nothing d) (ap block_after_full_blocks is))
 
   pub grown_closed : e.stand ≡ Closed → bytes ≡ [] → (d : Blocks) → GrowingListHasBytesAndBlocks divided d e bytes size [] []
   grown_closed is empty d =
       alone d
-      (record { chain = chained d; stand = subst (AreLastBytesAtLocation d e.full e.head e.rest) (sym is) (rest ∙ empty) })
+      (record { chain = chained d; known = none_known d; stand = subst (AreLastBytesAtLocation d e.full e.head e.rest) (sym is) (rest ∙ empty) })
       (ap₂ (λ (x y : List ℕ). x ++ y) (nothing d) (ap unwritten_block_after_full_blocks is))
       (ap₂ (λ (x y : List ℕ). x ++ y) (nothing d) (ap block_after_full_blocks is))
 

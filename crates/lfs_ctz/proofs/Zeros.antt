@@ -1,5 +1,6 @@
 -- The zeros after a number, by the powers of two that divide it.
-use Rattle.std.proofs.Common.{ℕ, zero, suc, ◌≡◌, ◌+◌, ◌*◌, ◌-◌, ◌/◌, ◌%◌, ◌<◌, ◌≤◌, ◌^◌, refl, sym, ap, ap₂, subst, ◌∙◌, arith}
+use Rattle.std.proofs.Common.{ℕ, zero, suc, ◌≡◌, ◌+◌, ◌*◌, ◌-◌, ◌/◌, ◌%◌, ◌<◌, ◌≤◌, ◌^◌, ⊎_elim, refl, sym, ap, ap₂, subst, ◌∙◌, arith}
+use Rattle.std.proofs.lemmas.Bool.{cases_lt}
 use Rattle.std.proofs.Math.Nat.{mul_assoc, add-mul, pow-suc, one-le-pow}
 use Rattle.std.proofs.lemmas.Nat.{mul-le, pow-add}
 use Rattle.std.specs.Int.{w32, trailing_zeros}
@@ -84,3 +85,31 @@ zeros32_before n k some low less =
     let less_one : n - 2 ^ k ≡ (2 * c - 1) * 2 ^ k = omega (arith, parts, mul_assoc 2 c (2 ^ k)) in
     let there : 0 < n - 2 ^ k = omega arith in
     (there, zeros-le 32 (n - 2 ^ k) (2 * c - 1) k there (omega arith) less_one)
+
+-- a number by a power of two that divides it
+pub multiple_of_power : (n k : ℕ) → 0 < n → n < 2 ^ 32 → k ≤ trailing_zeros w32 n → (c : ℕ) × (n ≡ c * 2 ^ k)
+multiple_of_power n k some low le =
+    let odd = zeros32-multiple n some low in
+    let z : ℕ = trailing_zeros w32 n in (
+      (2 * odd.half + 1) * 2 ^ (z - k),
+      odd.is ∙ ap (λ p. (2 * odd.half + 1) * p) (ap (λ e. 2 ^ e) (let s : z ≡ (z - k) + k = omega arith in s) ∙ pow-add 2 (z - k) k)
+          ∙ sym (mul_assoc (2 * odd.half + 1) (2 ^ (z - k)) (2 ^ k)),
+    )
+
+-- a number between a multiple of a power of two and the one before has fewer zeros
+pub zeros32-between : (n m k : ℕ) → n < 2 ^ 32 → k ≤ trailing_zeros w32 n → m < n → n - 2 ^ k < m → trailing_zeros w32 m < k
+zeros32-between n m k low le less more = ⊎_elim (λ lt. lt) (λ ge.
+    let a = multiple_of_power n k (omega arith) low le in
+    let b = multiple_of_power m k (omega arith) (omega arith) (omega arith) in
+    ⊎_elim
+    (λ lt. let above = mul-le (b.0 + 1) (2 ^ k) a.0 (2 ^ k) (omega arith) (omega arith) in absurd (omega (arith, above, add-mul b.0 1 (2 ^ k), a.1, b.1)))
+    (λ past. let below = mul-le a.0 (2 ^ k) b.0 (2 ^ k) (omega arith) (omega arith) in absurd (omega (arith, below, a.1, b.1)))
+    (cases_lt b.0 a.0)) (cases_lt (trailing_zeros w32 m) k)
+
+-- and the one before has as many as the power at least
+pub zeros32-back : (n k : ℕ) → n < 2 ^ 32 → k ≤ trailing_zeros w32 n → 0 < n - 2 ^ k → k ≤ trailing_zeros w32 (n - 2 ^ k)
+zeros32-back n k low le some =
+    let a = multiple_of_power n k (omega arith) low le in
+    let factor = factor-pos a.0 (2 ^ k) n a.1 (omega arith) in
+    let parts : a.0 * 2 ^ k ≡ (a.0 - 1) * 2 ^ k + 1 * 2 ^ k = ap (λ x. x * 2 ^ k) (let s : a.0 ≡ (a.0 - 1) + 1 = omega arith in s) ∙ add-mul (a.0 - 1) 1 (2 ^ k) in
+    zeros-le 32 (n - 2 ^ k) (a.0 - 1) k some (omega arith) (omega (arith, parts, a.1))

@@ -6,12 +6,14 @@ use Rattle.lfs_device.specs.declared.geometry.Geometry.{Geometry}
 use Rattle.lfs_model.specs.Blocks.{Blocks}
 use Rattle.lfs_model.specs.SkipLists.{AreListBlocks, IsSkipList, list_blocks_from_head, list_block_count_for_size, bytes_of_skip_list}
 use Rattle.lfs_ctz.specs.Extended.{GrowingListHasBytesAndBlocks}
+use Rattle.lfs_ctz.specs.Known.{ArePointedBlocksKnown}
 use Rattle.lfs_ctz.specs.Growing.{GrowingList, HasGrowingListOnDisk, HasAllBytesInBuffer, HasUnwrittenBlockAmongTheseBlocks, bytes_of_growing_list, size_of_growing_list, are_last_bytes_of_list_only_in_buffer, blocks_kept_when_growing, count_of_blocks_to_append, unwritten_block_of_list}
 
 -- an empty list of a device
 pub record IsStartedEmptyList (divided : Geometry) (list : GrowingList) : Type 0 where
   pub grown : (disk : Blocks) → GrowingListHasBytesAndBlocks divided disk list [] 0 [] []
   pub listed : are_last_bytes_of_list_only_in_buffer list ≡ false
+  pub known : ArePointedBlocksKnown list.full list.known
 
 -- a well-formed list has so many bytes, at least one
 pub record CanResumeListAfterFirstBytes (disk : Blocks) (block_size head size keep : ℕ) : Type 0 where

@@ -4,15 +4,18 @@ use Rattle.std.specs.List.{flat_map, enumerate_from}
 use Rattle.lfs_model.specs.Blocks.{Blocks, block_bytes_by_number}
 use Rattle.lfs_model.specs.SkipLists.{pointer_count_of_list_block, byte_count_before_list_block, data_capacity_of_list_block, list_blocks_from_head, list_block_count_for_size, AreListBlocks, data_of_list_block}
 use Rattle.lfs_device.specs.declared.geometry.Geometry.{Geometry}
+use Rattle.lfs_ctz.specs.Known.{AreKnownListBlocks}
+use Rattle.lfs_ctz.specs.declared.known.KnownBlocks.{KnownBlocks}
 use Rattle.lfs_ctz.specs.declared.rest.RestLocation.{RestLocation}
 use Rattle.lfs_ctz.specs.declared.rest.RestLocation.TheVariants.{Closed, Shared, Handed, Held}
 
 pub record GrowingList : Type 0 where
   -- the geometry of the device
   pub geometry : Geometry
-  -- how many blocks are full and on the disk, and the last of them, where there is one
+  -- how many blocks are full and on the disk, the last of them, where there is one, and those that are known by their indices
   pub full : ℕ
   pub head : ℕ
+  pub known : KnownBlocks
   -- the bytes after the full blocks, which do not fill a block, and where they are
   pub rest : List ℕ
   pub stand : RestLocation
@@ -96,6 +99,7 @@ AreLastBytesAtLocation disk full head rest Held = full ≡ 0
 -- the disk holds the list's full blocks as they are
 pub record HasGrowingListOnDisk (disk : Blocks) (g : GrowingList) : Type 0 where
   pub chain : AreListBlocks disk g.full g.head
+  pub known : AreKnownListBlocks (list_blocks_from_head disk g.full g.head) g.known
   pub stand : AreLastBytesAtLocation disk g.full g.head g.rest g.stand
 
 -- the block that takes the next bytes, and how many of the blocks that were handed in are used then

@@ -2,12 +2,16 @@
 use Rattle.std.specs.Prelude.{ℕ, ◌≡◌, ◌+◌, ◌*◌, ◌-◌, ◌<◌, ◌≤◌, ◌^◌, List, length, min, replicate, slice_index}
 use Rattle.std.specs.Int.{w32, trailing_zeros}
 use Rattle.lfs_model.specs.History.{DeviceCallEvent, read_count_of_history}
-use Rattle.lfs_model.specs.SkipLists.{IsPlaceOfByteInList, list_block_count_for_size}
+use Rattle.lfs_model.specs.SkipLists.{IsPlaceOfByteInList, list_block_count_for_size, pointer_count_of_list_block}
 use Rattle.lfs_ctz.specs.declared.known.KnownBlocks.{KnownBlocks}
 
 -- Each known block is the list's block at its index. A row with the index 2^32 - 1 has no block.
 abbrev pub AreKnownListBlocks : List ℕ → KnownBlocks → Type 0
 AreKnownListBlocks all known = (row : ℕ) → row < 32 → slice_index known.indices row < 2 ^ 32 - 1 → slice_index known.indices row < length all → slice_index known.blocks row ≡ slice_index all (slice_index known.indices row)
+
+-- only blocks before an index are known
+abbrev pub AreKnownIndicesBelow : ℕ → KnownBlocks → Type 0
+AreKnownIndicesBelow count known = (row : ℕ) → row < 32 → slice_index known.indices row < 2 ^ 32 - 1 → slice_index known.indices row < count
 
 abbrev pub no_known_blocks : KnownBlocks
 no_known_blocks = record { indices = replicate 32 (2 ^ 32 - 1); blocks = replicate 32 0 }
@@ -19,6 +23,10 @@ row_of_index index = min (trailing_zeros w32 index) 31
 -- the block at this index is known
 abbrev pub IsKnownIndex : KnownBlocks → ℕ → Type 0
 IsKnownIndex known index = slice_index known.indices (row_of_index index) ≡ index
+
+-- Each block before an index to which a block from that index on has a pointer, besides its first one, is known.
+abbrev pub ArePointedBlocksKnown : ℕ → KnownBlocks → Type 0
+ArePointedBlocksKnown count known = (n k : ℕ) → count ≤ n → n < 2 ^ 32 → 1 ≤ k → k < pointer_count_of_list_block n → n - 2 ^ k < count → IsKnownIndex known (n - 2 ^ k)
 
 -- The block at an index was found, by so many reads at most as twice the logarithm of the list's length, and as the index is
 -- before one that was known.

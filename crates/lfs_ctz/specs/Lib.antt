@@ -3,9 +3,11 @@ pub mod Calls
 pub mod Counts
 pub mod Extended
 pub mod Extending
+pub mod FewReads
 pub mod Fields
 pub mod Filled
 pub mod Finished
+pub mod Front
 pub mod Growing
 pub mod Known
 pub mod Right

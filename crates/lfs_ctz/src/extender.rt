@@ -4,14 +4,17 @@ ghost use Rattle.lfs_ctz.specs.Calls.{ReportsNoErrorButIo, ReportsIoOrNoMemory};
 ghost use Rattle.lfs_ctz.specs.Counts.{AddsOneEraseAndProgramPerBlock};
 ghost use Rattle.lfs_ctz.specs.Extended.{GrowingListHasBytesAndBlocks};
 ghost use Rattle.lfs_ctz.specs.Extending.{CanFinishGrowingList, IsDeviceBlockOutsideFullBlocksOfList, CanPushBytesToList, CanResumeListAfterFirstBytes, HasTheseBytesOnlyInBuffer, HasPushedBytesToList, IsResumedList, IsStartedEmptyList};
+ghost use Rattle.lfs_ctz.specs.FewReads.{FillsBlocksByFewReads, WritesLastBlockByFewReads};
+ghost use Rattle.lfs_ctz.specs.Fields.{HasOneBlockBufferAndConsistentNumbers, growing_list_view};
 ghost use Rattle.lfs_ctz.specs.Finished.{IsSkipListWithBytesAndBlocks};
 ghost use Rattle.lfs_ctz.specs.Growing.{HasAllBytesInBuffer, HasUnwrittenBlockAmongTheseBlocks, blocks_of_growing_list, bytes_of_growing_list, size_of_growing_list, count_of_blocks_to_append, block_for_next_bytes_with_used_count, unwritten_block_of_list};
+ghost use Rattle.lfs_ctz.specs.Known.{AreKnownListBlocks};
 ghost use Rattle.lfs_device.specs.Calls.{ChangesOnlyThisBlock, ChangesOnlyTheseBlocks, ReadsOnly};
 ghost use Rattle.lfs_model.specs.Blocks.{block_bytes_by_number, bytes_after_overwrite_at};
 ghost use Rattle.lfs_model.specs.Writers.{contents_after_write as with_bytes};
 ghost use Rattle.lfs_model.specs.SkipLists.{list_blocks_from_head, list_block_count_for_size, pointer_count_of_list_block};
 
-use crate::block::write_block;
+use crate::block::{FullBlocks, write_block};
 use crate::read::{
     find_block_at_index, head_of_list_before_block, pointer_count_at_index,
     read_block_bytes_into_buffer_range,
@@ -31,10 +34,16 @@ use std::marker::Model;
 /// A contract sees the list that grows: its full blocks, and the bytes after them.
 #[derive(Drop)]
 pub struct Extender {
+    // An extender is moved through several layers at each write, so its fields are on the heap.
+    state: Box<ExtenderState>,
+}
+
+// The fields of an extender.
+#[derive(Drop)]
+struct ExtenderState {
     geometry: Geometry,
     buffer: Vec<u8>,
-    full: u32,
-    head: u32,
+    front: FullBlocks,
     filled: u32,
     size: u32,
     stand: RestLocation,
@@ -45,11 +54,12 @@ impl Model for Extender {
 
     ghost Value = { GrowingList };
 
+    ghost use Rattle.lfs_ctz.specs.FewReads.{FillsBlocksByFewReads, WritesLastBlockByFewReads};
     ghost use Rattle.lfs_ctz.specs.Fields.{HasOneBlockBufferAndConsistentNumbers, growing_list_view};
 
-    ghost view = { growing_list_view };
+    ghost view = { λ e. growing_list_view e.state.value };
 
-    ghost invariant = { HasOneBlockBufferAndConsistentNumbers };
+    ghost invariant = { λ e. HasOneBlockBufferAndConsistentNumbers e.state.value };
 }
 
 // Writes bytes over those from a place on.
@@ -70,6 +80,16 @@ fn fill_buffer_range_with_byte(all: &mut Vec<u8>, at: usize, end: usize, byte: u
 }
 
 impl Extender {
+    // Makes an extender whose fields are these.
+    fn of_state(alloc: Global, state: ExtenderState) -> Result<Extender, Error>
+        requires { HasOneBlockBufferAndConsistentNumbers state }
+        ensures list { IfOk result (λ list. list ≡ growing_list_view state) }
+        ensures error { IfErr result (λ e. e ≡ Error.NoMemory) }
+    {
+        let state = Box::new(alloc, state)?;
+        Ok(Extender { state })
+    }
+
     /// Makes an extender of an empty list.
     ///
     /// Errors: `NoMemory` where memory for a block isn't granted.
@@ -78,15 +98,15 @@ impl Extender {
         ensures errors { IfErr result (λ e. e ≡ Error.NoMemory) }
     {
         let buffer = Vec::from_elem(alloc, 0u8, geometry.block_size as usize)?;
-        Ok(Extender {
+        let state = ExtenderState {
             geometry,
             buffer,
-            full: 0,
-            head: 0,
+            front: FullBlocks::new(0, 0),
             filled: 0,
             size: 0,
             stand: RestLocation::Closed,
-        })
+        };
+        Extender::of_state(alloc, state)
     }
 
     /// Makes an extender of the first `keep` bytes of a well-formed list, whose last block is
@@ -111,27 +131,27 @@ impl Extender {
         let (index, off) = place(block_size, keep - 1);
         let block = find_block_at_index(dev, head, blocks_for(block_size, size) - 1, index)?;
         if off + 1 == block_size {
-            return Ok(Extender {
+            let state = ExtenderState {
                 geometry,
                 buffer,
-                full: index + 1,
-                head: block,
+                front: FullBlocks::new(index + 1, block),
                 filled: 4 * pointer_count_at_index(index + 1),
                 size: keep,
                 stand: RestLocation::Closed,
-            });
+            };
+            return Extender::of_state(alloc, state);
         }
         let head = head_of_list_before_block(dev, block, index)?;
         read_block_bytes_into_buffer_range(dev, block, 0, buffer.as_mut_slice(), 0, off + 1)?;
-        Ok(Extender {
+        let state = ExtenderState {
             geometry,
             buffer,
-            full: index,
-            head,
+            front: FullBlocks::new(index, head),
             filled: off + 1,
             size: keep,
             stand: RestLocation::Shared(block),
-        })
+        };
+        Extender::of_state(alloc, state)
     }
 
     /// Replaces the contents by these bytes, in memory and in no block. What the extender had
@@ -142,12 +162,12 @@ impl Extender {
         requires { length bytes.now < self.old.geometry.block_size }
         ensures { HasTheseBytesOnlyInBuffer self.old.geometry self.new bytes.now }
     {
-        overwrite_buffer_bytes(&mut self.buffer, 0, bytes);
-        self.full = 0;
-        self.head = 0;
-        self.filled = bytes.len() as u32;
-        self.size = self.filled;
-        self.stand = RestLocation::Held;
+        let state = &mut *self.state;
+        overwrite_buffer_bytes(&mut state.buffer, 0, bytes);
+        state.front = FullBlocks::new(0, 0);
+        state.filled = bytes.len() as u32;
+        state.size = state.filled;
+        state.stand = RestLocation::Held;
     }
 
     /// Returns the contents, which are all in memory and none in a block.
@@ -155,7 +175,8 @@ impl Extender {
         requires { HasAllBytesInBuffer self.now }
         ensures { result.now ≡ self.now.rest }
     {
-        &self.buffer[..self.filled as usize]
+        let state = &*self.state;
+        &state.buffer[..state.filled as usize]
     }
 
     /// Writes bytes over those from the place `at` on, or after them. The contents are all in
@@ -167,11 +188,12 @@ impl Extender {
         requires room { at + length bytes.now < self.old.geometry.block_size }
         ensures { HasTheseBytesOnlyInBuffer self.old.geometry self.new (with_bytes self.old.rest at bytes.now) }
     {
-        let from = self.filled.max(at);
-        fill_buffer_range_with_byte(&mut self.buffer, self.filled as usize, from as usize, 0);
-        overwrite_buffer_bytes(&mut self.buffer, at as usize, bytes);
-        self.filled = self.filled.max(at + bytes.len() as u32);
-        self.size = self.filled;
+        let state = &mut *self.state;
+        let from = state.filled.max(at);
+        fill_buffer_range_with_byte(&mut state.buffer, state.filled as usize, from as usize, 0);
+        overwrite_buffer_bytes(&mut state.buffer, at as usize, bytes);
+        state.filled = state.filled.max(at + bytes.len() as u32);
+        state.size = state.filled;
     }
 
     /// Keeps the first `len` bytes of contents that are all in memory and none in a block.
@@ -182,22 +204,23 @@ impl Extender {
         requires within { len ≤ length self.old.rest }
         ensures { HasTheseBytesOnlyInBuffer self.old.geometry self.new (take len self.old.rest) }
     {
-        self.filled = len;
-        self.size = len;
+        let state = &mut *self.state;
+        state.filled = len;
+        state.size = len;
     }
 
     /// Returns how many bytes the list has.
     pub fn size(&self) -> u32
         ensures { result ≡ size_of_growing_list self.now }
     {
-        self.size
+        self.state.size
     }
 
     /// Returns how many blocks are full and on the device.
     pub fn full_block_count(&self) -> u32
         ensures { result ≡ self.now.full }
     {
-        self.full
+        self.state.front.count
     }
 
     /// Returns how many blocks a push of `n` bytes takes. The full blocks of a resumed list are
@@ -211,15 +234,16 @@ impl Extender {
         ensures count { result ≡ count_of_blocks_to_append self.now n }
         ensures within { self.now.full + length (unwritten_block_of_list self.now) ≤ list_block_count_for_size self.now.geometry.block_size (size_of_growing_list self.now + n) }
     {
-        let begun = match self.stand {
+        let state = &*self.state;
+        let begun = match state.stand {
             RestLocation::Handed(_) => 1,
             _ => 0,
         };
         // Bytes that fit in the block of the last ones take no further block.
-        if begun == 1 && n <= self.geometry.block_size - self.filled {
+        if begun == 1 && n <= state.geometry.block_size - state.filled {
             return 0;
         }
-        blocks_for(self.geometry.block_size, self.size + n) - (self.full + begun)
+        blocks_for(state.geometry.block_size, state.size + n) - (state.front.count + begun)
     }
 
     // Returns the block that takes the next bytes, and how many of the blocks that were handed in
@@ -228,7 +252,7 @@ impl Extender {
         requires { unwritten_block_of_list self.now ≡ [] → used < length blocks.now }
         ensures { result ≡ block_for_next_bytes_with_used_count self.now.stand blocks.now used }
     {
-        match self.stand {
+        match self.state.stand {
             RestLocation::Handed(block) => (block, used),
             _ => (blocks[used], used + 1),
         }
@@ -243,10 +267,12 @@ impl Extender {
         block: u32,
     ) -> Result<usize, Error>
         requires follows { IsDeviceBlockOutsideFullBlocksOfList D.BlockDevice dev.old self.old.full self.old.head block }
+        requires known { AreKnownListBlocks (list_blocks_from_head (D.blocks dev.old) self.old.full self.old.head) self.old.known }
         requires geometry { D.geometry dev.old ≡ self.old.geometry }
         requires some { 1 ≤ length bytes.now }
         requires room { size_of_growing_list self.old + length bytes.now < 2 ^ 31 }
         ensures count { IfOk result (λ n. (1 ≤ n) × (n ≤ length bytes.now)) }
+        ensures few { OnOk result (FillsBlocksByFewReads self.old self.new (D.history dev.old) (D.history dev.new)) }
         ensures filled { IfOk result (λ n. GrowingListHasBytesAndBlocks self.old.geometry (D.blocks dev.new) self.new
             (bytes_of_growing_list (D.blocks dev.old) self.old ++ take n bytes.now) (size_of_growing_list self.old + n)
             (list_blocks_from_head (D.blocks dev.old) self.old.full self.old.head ++ block ∷ [])
@@ -256,23 +282,23 @@ impl Extender {
         ensures device { ChangesOnlyThisBlock D.BlockDevice block dev.old dev.new }
         ensures io { ReportsNoErrorButIo D.BlockDevice dev.old dev.new result }
     {
-        let block_size = self.geometry.block_size;
-        let start = self.filled as usize;
+        let state = &mut *self.state;
+        let block_size = state.geometry.block_size;
+        let start = state.filled as usize;
         let n = bytes.len().min(block_size as usize - start);
-        overwrite_buffer_bytes(&mut self.buffer, start, &bytes[..n]);
+        overwrite_buffer_bytes(&mut state.buffer, start, &bytes[..n]);
         if start + n < block_size as usize {
-            self.filled += n as u32;
-            self.size += n as u32;
-            self.stand = RestLocation::Handed(block);
+            state.filled += n as u32;
+            state.size += n as u32;
+            state.stand = RestLocation::Handed(block);
             return Ok(n);
         }
-        let buffer = self.buffer.as_mut_slice();
-        write_block(dev, self.head, self.full, block, buffer, block_size)?;
-        self.full += 1;
-        self.head = block;
-        self.filled = 4 * pointer_count_at_index(self.full);
-        self.size += n as u32;
-        self.stand = RestLocation::Closed;
+        let buffer = state.buffer.as_mut_slice();
+        write_block(dev, &mut state.front, block, buffer, block_size)?;
+        state.front.add(block);
+        state.filled = 4 * pointer_count_at_index(state.front.count);
+        state.size += n as u32;
+        state.stand = RestLocation::Closed;
         Ok(n)
     }
 
@@ -295,6 +321,7 @@ impl Extender {
         ensures pushed { OnOk result (HasPushedBytesToList (D.blocks dev.old) self.old bytes.now blocks.now (D.blocks dev.new) self.new) }
         // A block that fills is erased once and programmed once.
         ensures writes { OnOk result (AddsOneEraseAndProgramPerBlock self.old.full self.new.full (D.history dev.old) (D.history dev.new)) }
+        ensures few { OnOk result (FillsBlocksByFewReads self.old self.new (D.history dev.old) (D.history dev.new)) }
         ensures device { ChangesOnlyTheseBlocks D.BlockDevice (unwritten_block_of_list self.old ++ blocks.now) dev.old dev.new }
         ensures io { ReportsNoErrorButIo D.BlockDevice dev.old dev.new result }
     {
@@ -311,17 +338,20 @@ impl Extender {
     // Pads the current block to whole pages, and writes it.
     fn write_last_block<D: BlockDevice>(&mut self, dev: &mut D, block: u32) -> Result<(), Error>
         requires follows { IsDeviceBlockOutsideFullBlocksOfList D.BlockDevice dev.old self.old.full self.old.head block }
+        requires known { AreKnownListBlocks (list_blocks_from_head (D.blocks dev.old) self.old.full self.old.head) self.old.known }
         requires geometry { D.geometry dev.old ≡ self.old.geometry }
         ensures appended { OnOk result (IsBlockAppendedToList (D.blocks dev.old) (D.blocks dev.new) self.old.full self.old.head block) }
         ensures bytes { OnOk result (take (length self.old.rest) (drop (4 * pointer_count_of_list_block self.old.full) (block_bytes_by_number (D.blocks dev.new) block)) ≡ self.old.rest) }
         ensures writes { OnOk result (AddsOneEraseAndProgramPerBlock 0 1 (D.history dev.old) (D.history dev.new)) }
+        ensures few { OnOk result (WritesLastBlockByFewReads self.old (D.history dev.old) (D.history dev.new)) }
         ensures device { ChangesOnlyThisBlock D.BlockDevice block dev.old dev.new }
         ensures io { ReportsNoErrorButIo D.BlockDevice dev.old dev.new result }
     {
-        let end = self.filled.next_multiple_of(self.geometry.page);
-        fill_buffer_range_with_byte(&mut self.buffer, self.filled as usize, end as usize, 0xff);
-        let buffer = self.buffer.as_mut_slice();
-        write_block(dev, self.head, self.full, block, buffer, end)?;
+        let state = &mut *self.state;
+        let end = state.filled.next_multiple_of(state.geometry.page);
+        fill_buffer_range_with_byte(&mut state.buffer, state.filled as usize, end as usize, 0xff);
+        let buffer = state.buffer.as_mut_slice();
+        write_block(dev, &mut state.front, block, buffer, end)?;
         Ok(())
     }
 
@@ -339,13 +369,16 @@ impl Extender {
         ensures size { IfOk result (λ r. r.1 ≡ size_of_growing_list self) }
         ensures no_call { unwritten_block_of_list self ≡ [] → (D.history dev.new ≡ D.history dev.old) × (D.blocks dev.new ≡ D.blocks dev.old) }
         ensures writes { OnOk result (AddsOneEraseAndProgramPerBlock 0 (length (unwritten_block_of_list self)) (D.history dev.old) (D.history dev.new)) }
+        ensures few { OnOk result (WritesLastBlockByFewReads self (D.history dev.old) (D.history dev.new)) }
         ensures device { ChangesOnlyTheseBlocks D.BlockDevice (unwritten_block_of_list self) dev.old dev.new }
         ensures io { ReportsNoErrorButIo D.BlockDevice dev.old dev.new result }
     {
-        let size = self.size;
-        match self.stand {
-            RestLocation::Closed => Ok((self.head, size)),
-            RestLocation::Held => Ok((self.head, size)),
+        let state = &*self.state;
+        let head = state.front.head;
+        let size = state.size;
+        match state.stand {
+            RestLocation::Closed => Ok((head, size)),
+            RestLocation::Held => Ok((head, size)),
             RestLocation::Shared(block) => Ok((block, size)),
             RestLocation::Handed(block) => {
                 self.write_last_block(dev, block)?;

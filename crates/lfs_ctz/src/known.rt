@@ -1,11 +1,11 @@
 // The blocks of a list that a reader knows.
 
-ghost use Rattle.std.specs.Prelude.{◌≡◌, ◌≤◌, ◌<◌, ◌+◌, ◌-◌, ◌*◌, ◌^◌, ℕ, List, length, min, take, drop, OnOk, IfOk, IsErrOf, slice_index, slice_range};
+ghost use Rattle.std.specs.Prelude.{◌≡◌, ◌≢◌, ◌≤◌, ◌<◌, ◌+◌, ◌-◌, ◌*◌, ◌^◌, ℕ, List, length, min, take, drop, OnOk, IfOk, IsErrOf, slice_index, slice_range};
 ghost use Rattle.lfs_model.specs.Blocks.{block_bytes_by_number};
 ghost use Rattle.lfs_model.specs.History.{read_count_of_history};
 ghost use Rattle.lfs_model.specs.SkipLists.{AreListBlocks, IsSkipList, list_blocks_from_head, list_block_count_for_size, bytes_of_skip_list, word_at_offset};
 ghost use Rattle.lfs_ctz.specs.Calls.{OnlyReadsAndReportsIoOrCorrupt};
-ghost use Rattle.lfs_ctz.specs.Known.{AreKnownListBlocks, FindsByFewReads, IsKnownIndex, ReadsKnownList, no_known_blocks, row_of_index as row_seen};
+ghost use Rattle.lfs_ctz.specs.Known.{AreKnownIndicesBelow, AreKnownListBlocks, FindsByFewReads, IsKnownIndex, ReadsKnownList, no_known_blocks, row_of_index as row_seen};
 
 use crate::read::{
     pointer_count_at_index, read_block_before, read_block_bytes_into_buffer_range,
@@ -45,9 +45,11 @@ impl KnownBlocks {
     }
 
     // Notes the block at an index.
-    fn note(&mut self, index: u32, block: u32)
+    pub(crate) fn note(&mut self, index: u32, block: u32)
         ensures blocks { (all : List ℕ) → AreKnownListBlocks all self.old → block ≡ slice_index all index → AreKnownListBlocks all self.new }
         ensures known { IsKnownIndex self.new index }
+        ensures others { (i : ℕ) → row_seen i ≢ row_seen index → IsKnownIndex self.old i → IsKnownIndex self.new i }
+        ensures below { (count : ℕ) → index < count → AreKnownIndicesBelow count self.old → AreKnownIndicesBelow count self.new }
     {
         let row = row_of_index(index);
         self.indices[row] = index;
@@ -77,7 +79,7 @@ impl KnownBlocks {
 
     // Returns the block at an index of a list whose head is at another, and notes the blocks on the
     // way. Each step uses the highest pointer that does not overshoot.
-    fn find_block<D: BlockDevice>(
+    pub(crate) fn find_block<D: BlockDevice>(
         &mut self,
         dev: &mut D,
         head: u32,
@@ -104,6 +106,33 @@ impl KnownBlocks {
         }
         self.note(index, block);
         Ok(block)
+    }
+
+    // Returns the block at an index, to which pointer k of another block leads. It is read from there
+    // where it isn't known, and noted.
+    pub(crate) fn block_at_pointer<D: BlockDevice>(
+        &mut self,
+        dev: &mut D,
+        block: u32,
+        k: u32,
+        index: u32,
+    ) -> Result<u32, Error>
+        requires pointer { k ≤ 32 }
+        requires index { index < 2 ^ 32 - 1 }
+        ensures found { (all : List ℕ) → AreKnownListBlocks all self.old → index < length all → word_at_offset (block_bytes_by_number (D.blocks dev.old) block) (4 * k) ≡ slice_index all index → IfOk result (λ b. b ≡ slice_index all index) × AreKnownListBlocks all self.new }
+        ensures below { (count : ℕ) → index < count → AreKnownIndicesBelow count self.old → AreKnownIndicesBelow count self.new }
+        ensures corrupt { IsErrOf result Error.Corrupt → (D.geometry dev.old).block_count ≤ block }
+        ensures reading { OnlyReadsAndReportsIoOrCorrupt D.BlockDevice dev.old dev.new result }
+        ensures few { read_count_of_history (D.history dev.new) ≤ read_count_of_history (D.history dev.old) + 1 }
+        ensures known { IsKnownIndex self.old index → (self.new ≡ self.old) × (read_count_of_history (D.history dev.new) ≡ read_count_of_history (D.history dev.old)) }
+    {
+        let row = row_of_index(index);
+        if self.indices[row] == index {
+            return Ok(self.blocks[row]);
+        }
+        let found = read_block_pointer(dev, block, k)?;
+        self.note(index, found);
+        Ok(found)
     }
 
     // Returns the block before the one at an index, which is at least 1. It is read from that block

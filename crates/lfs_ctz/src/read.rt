@@ -30,8 +30,7 @@ pub(crate) fn read_block_pointer<D: BlockDevice>(
     Ok(LittleEndian::read_u32(&word))
 }
 
-// Returns the block at an index of a list, from the head at another. Each step uses the highest
-// pointer that does not overshoot.
+// Returns the block at an index of a list, from the head at another.
 pub(crate) fn find_block_at_index<D: BlockDevice>(
     dev: &mut D,
     head: u32,
@@ -45,17 +44,7 @@ pub(crate) fn find_block_at_index<D: BlockDevice>(
     ensures reading { OnlyReadsAndReportsIoOrCorrupt D.BlockDevice dev.old dev.new result }
     ensures few { (m : ℕ) → last < 2 ^ m → OnOk result (read_count_of_history (D.history dev.new) ≤ read_count_of_history (D.history dev.old) + 2 * m) }
 {
-    let mut block = head;
-    let mut at = last;
-    while at > index {
-        let skip = at.trailing_zeros().min((at - index).ilog2());
-        block = read_block_pointer(dev, block, skip)?;
-        at -= 1 << skip;
-    }
-    if block >= dev.geometry().block_count {
-        return Err(Error::Corrupt);
-    }
-    Ok(block)
+    KnownBlocks::new().find_block(dev, head, last, index)
 }
 
 // Returns the block that pointer 0 of a block names. Returns `Corrupt` where there is no such

@@ -1,5 +1,5 @@
 -- The thread of an accepted image, from what a pass and a search have found.
-use Rattle.std.proofs.Common.{ℕ, zero, suc, ◌≡◌, inl, inr, Bool, true, false, List, [], ◌∷◌, ◌++◌, Option, Some, None, refl, sym, ap, subst, ◌∙◌, arith, nat_eq, flat_map}
+use Rattle.std.proofs.Common.{ℕ, zero, suc, ◌≡◌, inl, inr, Bool, true, false, List, [], ◌∷◌, ◌++◌, Option, Some, None, refl, sym, ap, subst, subst₂, ◌∙◌, arith, nat_eq, flat_map}
 use Rattle.std.specs.Prelude.{All}
 use Rattle.std.specs.List.{IsDistinct}
 use Rattle.std.proofs.lemmas.List.Concat.{flat_map-append}
@@ -161,10 +161,10 @@ module _ (disk : Disk) (chain : List Pair) (p : Pair) (rest : List Pair) (bytes 
 -- ---- the whole check
 
 pub known_drawn : (disk : Disk) (sets : BlockStateList) (firsts : List (ℕ × ℕ)) (ms : List PairBeforeSlotsAreRead) (sync : Bool) (chain : List Pair) (p : Pair) (rest : List Pair) (graph : DirectoryGraph) (end : BlockStateList)
-    → IsThreadMatchingMapAndPairDescriptions disk sets firsts ms sync chain p rest → ScansPairsIntoDirectoryGraph disk firsts empty_directory_scan sets ms graph end → IsGraphOfThreadDirectories disk.order graph sync (chain ++ p ∷ rest)
+    → IsThreadMatchingMapAndPairDescriptions disk sets firsts ms sync chain p rest → ScansPairsIntoDirectoryGraph disk firsts empty_directory_scan sets ms graph end → IsGraphOfThreadDirectories disk.order graph firsts sync (chain ++ p ∷ rest)
 known_drawn disk sets firsts ms sync chain p rest graph end known passes =
     let ps : List Pair = chain ++ p ∷ rest in
-    subst (λ s. IsGraphOfThreadDirectories disk.order graph s ps) known.sync_is
+    subst₂ (λ f s. IsGraphOfThreadDirectories disk.order graph f s ps) (sym known.places) known.sync_is
     (thread_shows disk ps ms sets graph end known.thread (subst (λ qs. AreDescriptionsOfPairsOnDisk disk (gstate_of_pairs ps) true qs ms) (sym (pairs_behind chain (p ∷ rest) known.chain_is)) known.described)
     (subst (λ f. ScansPairsIntoDirectoryGraph disk f empty_directory_scan sets ms graph end) known.places passes))
 

@@ -5,6 +5,7 @@ pub mod Searches
 pub mod Finished
 pub mod Marks
 pub mod Rooted
+pub mod BrokenTrees
 pub mod Drawn
 pub mod Begins
 pub mod Markings

@@ -257,9 +257,11 @@ ends_behind (suc n) (p ∷ []) h = subst Ends (sym (drop-nil n)) tt
 ends_behind (suc n) (p ∷ q ∷ ps) h = ends_behind n (q ∷ ps) h
 
 pub thread_shows : (disk : Disk) (ps : List Pair) (ms : List PairBeforeSlotsAreRead) (sets : BlockStateList) (graph : DirectoryGraph) (end : BlockStateList) → IsThreadOfMetadataPairs (content_of_pair_at disk) (block_count disk) ps
-    → AreDescriptionsOfPairsOnDisk disk (gstate_of_pairs ps) true (pairs_from_root_directory_on ps) ms → ScansPairsIntoDirectoryGraph disk (addresses_of_first_pairs_of_directories (directories_in_thread ps)) empty_directory_scan sets ms graph end → IsGraphOfThreadDirectories disk.order graph (gstate_of_pairs ps).sync ps
+    → AreDescriptionsOfPairsOnDisk disk (gstate_of_pairs ps) true (pairs_from_root_directory_on ps) ms → ScansPairsIntoDirectoryGraph disk (addresses_of_first_pairs_of_directories (directories_in_thread ps)) empty_directory_scan sets ms graph end
+    → IsGraphOfThreadDirectories disk.order graph (addresses_of_first_pairs_of_directories (directories_in_thread ps)) (gstate_of_pairs ps).sync ps
 thread_shows disk ps ms sets graph end thread members passes = record {
   distinct = thread.distinct;
   draws = passed_draws disk (gstate_of_pairs ps) (pairs_from_root_directory_on ps) ms sets graph end (ends_behind (pair_count_before_root ps) ps (links_end (Some anchor_pair_address) ps thread.links)) members passes;
+  places = refl;
   same = refl;
 }

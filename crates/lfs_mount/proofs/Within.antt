@@ -48,7 +48,7 @@ branch_within firsts v to h = go (index_of_pair_address firsts to) refl
 entry_within : (by : NameOrder) (firsts : List (ℕ × ℕ)) (known : Name × DirectoryVertexWithSoundnessAndBranches) (e : EntryNameAndReference) → Below_all (length firsts) known.1 → Below_all (length firsts) (directory_scan_with_entry by firsts known e).1
 entry_within by firsts (last, v) (name, InSlot) h = h
 entry_within by firsts (last, v) (name, InList head size) h = h
-entry_within by firsts (last, v) (name, Below to) h = branch_within firsts (record v { is_sound = v.is_sound && comes_after_name by last name }) to h
+entry_within by firsts (last, v) (name, Below to) h = branch_within firsts (record v { rises = v.rises && comes_after_name by last name }) to h
 
 parts_of : {X : Type 0} (f : EntryNameAndReference → Option X) (y : X) (o : Option EntryNameAndReference) → option_and_then f o ≡ Some y → (x : EntryNameAndReference) × (f x ≡ Some y)
 parts_of f y None e = absurd (cc)
@@ -98,6 +98,9 @@ module _ (disk : Disk) (sets : BlockStateList) (firsts : List (ℕ × ℕ)) (ms 
     ap length known.3.places ∙ length-map (directories_in_thread ps) (λ (d : ThreadDirectory). d.at),
   )
 
+  pub place_of_each : length firsts ≡ length ds
+  place_of_each = same_length.1 ∙ sym same_length.0
+
   pub some_directory : 0 < length ds
   some_directory =
       let e : pairs_from_root_directory_on ps ≡ known.1 ∷ known.2 = pairs_behind known.0 (known.1 ∷ known.2) known.3.chain_is in
@@ -110,7 +113,7 @@ module _ (disk : Disk) (sets : BlockStateList) (firsts : List (ℕ × ℕ)) (ms 
   pub within_directories : All (λ (d : Directory). All (λ b. b < length ds) d.branches.items) ds
   within_directories =
       All-from_recursion (λ (d : Directory). All (λ b. b < length ds) d.branches.items) ds
-      (each_within by (length ds) ds (subst (λ n. Each (Below_all n) (directory_graph_view by ds)) (same_length.1 ∙ sym same_length.0) (passes_within disk firsts empty_directory_scan sets ms (directory_graph_view by ds) end passes tt)))
+      (each_within by (length ds) ds (subst (λ n. Each (Below_all n) (directory_graph_view by ds)) place_of_each (passes_within disk firsts empty_directory_scan sets ms (directory_graph_view by ds) end passes tt)))
 
 -- ---- the blocks that hold are on the device
 

@@ -40,12 +40,10 @@ abbrev pub directory_entry_of_raw_slot : RawSlot → Option EntryNameAndReferenc
 directory_entry_of_raw_slot s = option_and_then (λ name. option_and_then (λ struct.
     if is_valid_name name.1 then option_map (λ stand. (name.1, stand)) (entry_reference_of_raw_struct name.0 struct) else None) s.struct) s.name
 
--- ---- directories by their addresses
-
 -- ---- one entry more
 
 abbrev pub directory_vertex_with_branch : DirectoryVertexWithSoundnessAndBranches → Option ℕ → DirectoryVertexWithSoundnessAndBranches
-directory_vertex_with_branch v None = record v { is_sound = false }
+directory_vertex_with_branch v None = record v { leads = false }
 directory_vertex_with_branch v (Some i) = record v { branches = v.branches ++ i ∷ [] }
 
 abbrev pub directory_vertex_with_entry_branch : List (ℕ × ℕ) → DirectoryVertexWithSoundnessAndBranches → EntryReference → DirectoryVertexWithSoundnessAndBranches
@@ -60,7 +58,7 @@ comes_after_name order (b ∷ last) name = is_less_ordering (name_cmp order (b �
 
 -- what is known with one entry more
 abbrev pub directory_scan_with_entry : NameOrder → List (ℕ × ℕ) → Name × DirectoryVertexWithSoundnessAndBranches → EntryNameAndReference → Name × DirectoryVertexWithSoundnessAndBranches
-directory_scan_with_entry order firsts (last, v) (name, stand) = (name, directory_vertex_with_entry_branch firsts (record v { is_sound = v.is_sound && comes_after_name order last name }) stand)
+directory_scan_with_entry order firsts (last, v) (name, stand) = (name, directory_vertex_with_entry_branch firsts (record v { rises = v.rises && comes_after_name order last name }) stand)
 
 abbrev pub directory_scan_with_entries : NameOrder → List (ℕ × ℕ) → Name × DirectoryVertexWithSoundnessAndBranches → List EntryNameAndReference → Name × DirectoryVertexWithSoundnessAndBranches
 directory_scan_with_entries order firsts known [] = known
@@ -68,4 +66,4 @@ directory_scan_with_entries order firsts known (e ∷ es) = directory_scan_with_
 
 -- what is known before the first entry
 abbrev pub empty_directory_scan : Name × DirectoryVertexWithSoundnessAndBranches
-empty_directory_scan = ([], record { is_sound = true; branches = [] })
+empty_directory_scan = ([], record { rises = true; leads = true; branches = [] })

@@ -1,12 +1,13 @@
 -- The search for directories from the root, where a directory is a number.
-use Rattle.std.specs.Prelude.{ℕ, zero, suc, ◌≡◌, ◌⊎◌, Bool, true, false, List, [], ◌∷◌, ◌++◌, length, All, Option, Some, None, slice_get, nat_eq}
+use Rattle.std.specs.Prelude.{ℕ, zero, suc, ◌≡◌, ◌<◌, ◌&&◌, Bool, true, false, List, [], ◌∷◌, ◌++◌, length, All, Option, Some, None, slice_get, nat_eq}
 use Rattle.std.specs.List.{IsDistinct}
 use Rattle.std.specs.Option.{option_map_or}
 
--- What is known of a directory by itself: whether its names rise and each directory in it is one of the graph's, and the numbers
--- of these.
+-- What is known of a directory by itself: whether its names rise, whether each directory in it is one of the graph's, and the
+-- numbers of these. It is sound where both are so.
 pub record DirectoryVertexWithSoundnessAndBranches : Type 0 where
-  pub is_sound : Bool
+  pub rises : Bool
+  pub leads : Bool
   pub branches : List ℕ
 
 -- the root is the first vertex
@@ -17,7 +18,7 @@ abbrev pub branches_of_vertex_at : DirectoryGraph → ℕ → List ℕ
 branches_of_vertex_at graph v = option_map_or (λ x. x.branches) (slice_get graph v) []
 
 abbrev pub has_vertex_at_sorted_names_and_known_branches : DirectoryGraph → ℕ → Bool
-has_vertex_at_sorted_names_and_known_branches graph v = option_map_or (λ x. x.is_sound) (slice_get graph v) false
+has_vertex_at_sorted_names_and_known_branches graph v = option_map_or (λ x. x.rises && x.leads) (slice_get graph v) false
 
 abbrev pub branches_of_optional_vertex : DirectoryGraph → Option ℕ → List ℕ
 branches_of_optional_vertex graph None = []
@@ -38,15 +39,19 @@ pub record EndsSearchWithoutUnsoundOrRepeatedVertex (graph : DirectoryGraph) (k 
   pub distinct : IsDistinct nat_eq (directories_found_after_steps graph k)
   pub sound : All (λ v. has_vertex_at_sorted_names_and_known_branches graph v ≡ true) (directories_found_after_steps graph k)
 
--- one directory was found twice, or the next one isn't sound
-abbrev pub MeetsUnsoundOrRepeatedVertex : DirectoryGraph → ℕ → Type 0
-MeetsUnsoundOrRepeatedVertex graph k = (IsDistinct nat_eq (directories_found_after_steps graph k) → ⊥) ⊎ ((v : ℕ) × (slice_get (directories_found_after_steps graph k) k ≡ Some v) × (has_vertex_at_sorted_names_and_known_branches graph v ≡ false))
-
 -- the marks are those of the directories that were found, each once
 pub record AreMarksOfFoundDirectories (marks : List Bool) (found : List ℕ) : Type 0 where
   pub distinct : IsDistinct nat_eq found
   pub all : (i v : ℕ) → slice_get found i ≡ Some v → slice_get marks v ≡ Some true
   pub only : (v : ℕ) → slice_get marks v ≡ Some true → (i : ℕ) × (slice_get found i ≡ Some v)
+
+-- the number stands at two places of the list
+pub record IsRepeatedNumber (xs : List ℕ) (x : ℕ) : Type 0 where
+  pub i : ℕ
+  pub j : ℕ
+  pub apart : i < j
+  pub one : slice_get xs i ≡ Some x
+  pub other : slice_get xs j ≡ Some x
 
 -- these directories are found, too, each for the first time
 pub record FindsNewDirectories (marks : List Bool) (found branches : List ℕ) (new_marks : List Bool) (new_found : List ℕ) : Type 0 where

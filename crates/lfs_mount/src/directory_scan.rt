@@ -54,7 +54,8 @@ impl ScannedDirectory {
         ScannedDirectory {
             last: Vec::new(alloc),
             directory: Directory {
-                sound_in: NameOrderSet::both_or_none(true),
+                rises_in: NameOrderSet::both(),
+                leads: true,
                 branches: Vec::new(alloc),
             },
         }
@@ -80,12 +81,12 @@ impl ScannedDirectory {
         ensures error { IfErr result (λ e. e ≡ Error.NoMemory) }
     {
         let rises = orders_in_which_name_follows(&self.last, entry.name);
-        self.directory.sound_in = self.directory.sound_in.intersect(rises);
+        self.directory.rises_in = self.directory.rises_in.intersect(rises);
         self.set_last_name(entry.name)?;
         if let Struct::Branch(pair) = entry.target {
             match places.find(pair) {
                 Some(place) => self.directory.branches.push(place)?,
-                None => self.directory.sound_in = NameOrderSet::both_or_none(false),
+                None => self.directory.leads = false,
             }
         }
         Ok(())

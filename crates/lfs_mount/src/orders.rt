@@ -1,11 +1,11 @@
-// Sets of orders of names.
+// Orders of names, and what is so in each.
 
-ghost use Rattle.std.specs.Prelude.{◌≡◌, ◌&&◌, false, IfSome, None, Some, true};
+ghost use Rattle.std.specs.Prelude.{◌≡◌, ◌&&◌, IfErr, IfOk, None, Ok, Some, is_some, true};
 ghost use Rattle.lfs_model.specs.declared.order.NameOrder.{NameOrder};
 ghost use Rattle.lfs_model.specs.declared.order.NameOrder.TheVariants.{LongerFirst, ShorterFirst};
-ghost use Rattle.lfs_mount.specs.Orders.{includes_name_order};
+ghost use Rattle.lfs_mount.specs.Orders.{includes_name_order, violation_in_order};
 
-use lfs_model::NameOrder;
+use lfs_model::{NameOrder, Violation};
 
 // The orders of names in which something holds.
 #[derive(Clone, Copy, Drop)]
@@ -15,13 +15,13 @@ pub(crate) struct NameOrderSet {
 }
 
 impl NameOrderSet {
-    // Returns both orders, or none.
-    pub fn both_or_none(both: bool) -> NameOrderSet
-        ensures { (order : NameOrder) → includes_name_order order result ≡ both }
+    // Returns both orders.
+    pub fn both() -> NameOrderSet
+        ensures { (order : NameOrder) → includes_name_order order result ≡ true }
     {
         NameOrderSet {
-            longer_first: both,
-            shorter_first: both,
+            longer_first: true,
+            shorter_first: true,
         }
     }
 
@@ -43,20 +43,39 @@ impl NameOrderSet {
             shorter_first: self.shorter_first && other.shorter_first,
         }
     }
+}
 
-    // Returns the order to take: the longer names first where both orders hold, as in littlefs's
-    // own code.
-    pub fn preferred(self) -> Option<NameOrder>
-        ensures holds { IfSome result (λ order. includes_name_order order self ≡ true) }
-        ensures longer { result ≡ Some ShorterFirst → includes_name_order LongerFirst self ≡ false }
-        ensures none { result ≡ None → (order : NameOrder) → includes_name_order order self ≡ false }
+// For each order of names a rule that is broken in it. None where all are kept.
+#[derive(Clone, Copy, Drop)]
+pub(crate) struct OrderViolations {
+    pub longer_first: Option<Violation>,
+    pub shorter_first: Option<Violation>,
+}
+
+impl OrderViolations {
+    // Returns the rule that is broken in an order, if one is.
+    pub fn get(self, order: NameOrder) -> Option<Violation>
+        ensures { result ≡ violation_in_order order self }
     {
-        if self.longer_first {
-            Some(NameOrder::LongerFirst)
-        } else if self.shorter_first {
-            Some(NameOrder::ShorterFirst)
-        } else {
-            None
+        match order {
+            NameOrder::LongerFirst => self.longer_first,
+            NameOrder::ShorterFirst => self.shorter_first,
+        }
+    }
+
+    // Returns the order to take: the longer names first where all rules are kept in both orders, as
+    // in littlefs's own code. Where they are kept in none, the error is the rule that is broken with
+    // the longer names first.
+    pub fn preferred(self) -> Result<NameOrder, Violation>
+        ensures kept { IfOk result (λ order. violation_in_order order self ≡ None) }
+        ensures longer { result ≡ Ok ShorterFirst → is_some (violation_in_order LongerFirst self) ≡ true }
+        ensures broken { IfErr result (λ violation. violation_in_order LongerFirst self ≡ Some violation) }
+        ensures neither { IfErr result (λ _. (order : NameOrder) → is_some (violation_in_order order self) ≡ true) }
+    {
+        match (self.longer_first, self.shorter_first) {
+            (None, _) => Ok(NameOrder::LongerFirst),
+            (Some(_), None) => Ok(NameOrder::ShorterFirst),
+            (Some(violation), Some(_)) => Err(violation),
         }
     }
 }

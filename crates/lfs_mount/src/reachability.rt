@@ -1,65 +1,72 @@
 // The search for the directories that a path from the root leads to.
 
-ghost use Rattle.std.specs.Prelude.{List, ◌≡◌, ◌↔◌, ◌≤◌, ◌<◌, ◌^◌, ◌++◌, ◌⊎◌, ℕ, true, All, OnOk, IfOk, IfErr, IsErrOf, length, nat_eq};
-ghost use Rattle.std.specs.List.{IsDistinct};
-ghost use Rattle.lfs_model.specs.Thread.{Pair};
+ghost use Rattle.std.specs.Prelude.{◌≡◌, ◌++◌, ◌<◌, All, Bool, Err, IfErr, IfOk, IfSome, IsErrOf, None, Ok, Some, false, length, map, slice_get, true};
+ghost use Rattle.lfs_model.specs.Slots.{pair_address_of_array};
 ghost use Rattle.lfs_model.specs.declared.order.NameOrder.{NameOrder};
-ghost use Rattle.lfs_mount.specs.Directories.{IsTreeOfDirectories, IsGraphOfThreadDirectories};
+ghost use Rattle.lfs_model.specs.declared.violations.Violation.{Violation};
+ghost use Rattle.lfs_mount.specs.Directories.{IsBrokenRuleOrTree, IsRuleBrokenInGraph};
 ghost use Rattle.lfs_mount.specs.DirectoryView.{directory_graph_view};
-ghost use Rattle.lfs_mount.specs.Orders.{includes_name_order};
-ghost use Rattle.lfs_mount.specs.Reaching.{AreMarksOfReachedDirectories, MeetsUnsoundOrRepeatedVertex, FindsNewDirectories, AreMarksOfFoundDirectories};
+ghost use Rattle.lfs_mount.specs.Orders.{violation_in_order};
+ghost use Rattle.lfs_mount.specs.Reaching.{AreMarksOfFoundDirectories, AreMarksOfReachedDirectories, FindsNewDirectories, IsRepeatedNumber};
 
-use crate::orders::NameOrderSet;
-use lfs_device::Error;
-use lfs_model::NameOrder;
+use crate::orders::{NameOrderSet, OrderViolations};
+use lfs_model::{NameOrder, Violation};
+use lfs_thread::MountError;
 use std::alloc::Global;
 
 // What is known of a directory by itself.
 #[derive(Drop)]
 pub(crate) struct Directory {
-    // The orders of names in which the directory is sound: its names rise, and each directory in it
-    // is one of the thread's.
-    pub sound_in: NameOrderSet,
-    // The places of the directories in it, in the order of their names.
+    // The orders in which the names of its entries rise.
+    pub rises_in: NameOrderSet,
+    // Whether each directory in it is one of the thread's.
+    pub leads: bool,
+    // The places of the directories in it, in the order of its entries.
     pub branches: Vec<u32>,
 }
 
-// Marks each of these directories as found. Corrupt where one was found before.
+// Marks each of these directories as found. Returns the first one that was found before, if there
+// is one.
 fn mark_branches_found(
     is_found: &mut Vec<bool>,
     found: &mut Vec<u32>,
     branches: &[u32],
-) -> Result<(), Error>
+) -> Result<Option<u32>, MountError>
     requires marked { AreMarksOfFoundDirectories is_found.old.items found.old.items }
     requires within { All (λ b. b < length is_found.old.items) branches.now }
-    ensures found { OnOk result (FindsNewDirectories is_found.old.items found.old.items branches.now is_found.new.items found.new.items) }
-    ensures twice { IsErrOf result Error.Corrupt → ¬ IsDistinct nat_eq (found.old.items ++ branches.now) }
-    ensures errors { IfErr result (λ e. (e ≡ Error.Corrupt) ⊎ (e ≡ Error.NoMemory)) }
+    ensures found { result ≡ Ok None → FindsNewDirectories is_found.old.items found.old.items branches.now is_found.new.items found.new.items }
+    ensures twice { IfOk result (λ branch. IfSome branch (IsRepeatedNumber (found.old.items ++ branches.now))) }
+    ensures within { IfOk result (λ branch. IfSome branch (λ b. b < length is_found.old.items)) }
+    ensures error { IfErr result (λ e. e ≡ MountError.NoMemory) }
 {
     for &branch in branches {
         let place = branch as usize;
         if is_found[place] {
-            return Err(Error::Corrupt);
+            return Ok(Some(branch));
         }
         is_found[place] = true;
         found.push(branch)?;
     }
-    Ok(())
+    Ok(None)
 }
 
-// Returns which directories are reached from the root, which is the first. Corrupt where a
-// directory that is reached isn't sound in that order of names, or is reached twice. The search
-// looks at each directory and at each branch once.
+// Returns which directories are reached from the root, which is the first. The search looks at each
+// directory and at each branch once. `addresses` are those of the directories' first pairs.
+//
+// Errors: `Corrupt` where the names of a directory that is reached don't rise in that order, where
+// an entry of it leads to no directory of the thread, or where a directory is reached twice.
 fn reached_directories(
     alloc: Global,
     directories: &[Directory],
+    addresses: &[[u32; 2]],
     order: NameOrder,
-) -> Result<Vec<bool>, Error>
+) -> Result<Vec<bool>, MountError>
     requires some { 0 < length directories.now }
     requires within { All (λ d. All (λ b. b < length directories.now) d.branches.items) directories.now }
-    ensures reached_directories { IfOk result (λ marks. AreMarksOfReachedDirectories (directory_graph_view order directories.now) marks.items) }
-    ensures corrupt { IsErrOf result Error.Corrupt → (steps : ℕ) × MeetsUnsoundOrRepeatedVertex (directory_graph_view order directories.now) steps }
-    ensures errors { IfErr result (λ e. (e ≡ Error.Corrupt) ⊎ (e ≡ Error.NoMemory)) }
+    requires places { length addresses.now ≡ length directories.now }
+    ensures reached { IfOk result (λ marks. AreMarksOfReachedDirectories (directory_graph_view order directories.now) marks.items) }
+    ensures broken { (v : Violation) (sync : Bool) → result ≡ Err (MountError.Corrupt v) → IsRuleBrokenInGraph order (directory_graph_view order directories.now) (map pair_address_of_array addresses.now) sync v }
+    ensures errors { ¬ IsErrOf result MountError.Io }
 {
     let mut is_found = Vec::from_elem(alloc, false, directories.len())?;
     let mut found = Vec::new(alloc);
@@ -67,70 +74,99 @@ fn reached_directories(
     found.push(0)?;
     let mut next = 0;
     while next < found.len() {
-        let directory = &directories[found[next] as usize];
-        if !directory.sound_in.contains(order) {
-            return Err(Error::Corrupt);
+        let place = found[next] as usize;
+        let directory = &directories[place];
+        let pair = addresses[place];
+        if !directory.rises_in.contains(order) {
+            return Err(MountError::Corrupt(Violation::Names { pair }));
         }
-        mark_branches_found(&mut is_found, &mut found, &directory.branches)?;
+        if !directory.leads {
+            return Err(MountError::Corrupt(Violation::Branch { pair }));
+        }
+        if let Some(branch) = mark_branches_found(&mut is_found, &mut found, &directory.branches)? {
+            let pair = addresses[branch as usize];
+            return Err(MountError::Corrupt(Violation::TwoPaths { pair }));
+        }
         next += 1;
     }
     Ok(is_found)
 }
 
-// Checks the directories of a thread in an order of names. Those that are reached from the root,
-// which is the first, are sound, and none is reached twice. Unless the sync bit is set, all are
-// reached. Corrupt exactly where that isn't so.
-fn check_directories_form_tree_in_name_order(
-    alloc: Global,
-    directories: &[Directory],
-    order: NameOrder,
-    sync: bool,
-) -> Result<(), Error>
-    requires some { 0 < length directories.now }
-    requires within { All (λ d. All (λ b. b < length directories.now) d.branches.items) directories.now }
-    ensures ok { OnOk result ((ps : List Pair) → IsGraphOfThreadDirectories order (directory_graph_view order directories.now) sync ps → IsTreeOfDirectories order ps) }
-    ensures corrupt { IsErrOf result Error.Corrupt → (ps : List Pair) → IsGraphOfThreadDirectories order (directory_graph_view order directories.now) sync ps → ¬ IsTreeOfDirectories order ps }
-    ensures errors { IfErr result (λ e. (e ≡ Error.Corrupt) ⊎ (e ≡ Error.NoMemory)) }
+// Returns the first directory that isn't reached.
+fn unreached_directory(is_reached: &[bool]) -> Option<usize>
+    ensures unreached { IfSome result (λ place. slice_get is_reached.now place ≡ Some false) }
+    ensures none { result ≡ None → All (λ reached. reached ≡ true) is_reached.now }
 {
-    let is_reached = reached_directories(alloc, directories, order)?;
-    if !sync && is_reached.contains(&false) {
-        return Err(Error::Corrupt);
+    for place in 0..is_reached.len() {
+        if !is_reached[place] {
+            return Some(place);
+        }
     }
-    Ok(())
+    None
 }
 
-// Returns whether the directories of a thread are right in an order of names.
-fn are_directories_a_tree(
+// Returns which rule the directories of a thread break in an order of names, or None where they
+// break none. The names of those that are reached from the root rise, and their entries lead to
+// directories of the thread. None is reached twice. Unless the sync bit is set, all are reached.
+fn find_directory_violation(
     alloc: Global,
     directories: &[Directory],
+    addresses: &[[u32; 2]],
     order: NameOrder,
     sync: bool,
-) -> Result<bool, Error>
+) -> Result<Option<Violation>, MountError>
     requires some { 0 < length directories.now }
     requires within { All (λ d. All (λ b. b < length directories.now) d.branches.items) directories.now }
-    ensures right { IfOk result (λ right. (ps : List Pair) → IsGraphOfThreadDirectories order (directory_graph_view order directories.now) sync ps → (right ≡ true) ↔ IsTreeOfDirectories order ps) }
-    ensures error { IfErr result (λ e. e ≡ Error.NoMemory) }
+    requires places { length addresses.now ≡ length directories.now }
+    ensures found { IfOk result (IsBrokenRuleOrTree order (directory_graph_view order directories.now) (map pair_address_of_array addresses.now) sync) }
+    ensures error { IfErr result (λ e. e ≡ MountError.NoMemory) }
 {
-    match check_directories_form_tree_in_name_order(alloc, directories, order, sync) {
-        Ok(()) => Ok(true),
-        Err(Error::Corrupt) => Ok(false),
-        Err(error) => Err(error),
+    let is_reached = match reached_directories(alloc, directories, addresses, order) {
+        Ok(is_reached) => is_reached,
+        Err(MountError::Corrupt(violation)) => return Ok(Some(violation)),
+        Err(error) => return Err(error),
+    };
+    if sync {
+        return Ok(None);
+    }
+    match unreached_directory(&is_reached) {
+        Some(place) => Ok(Some(Violation::NoPath {
+            pair: addresses[place],
+        })),
+        None => Ok(None),
     }
 }
 
-// Returns the orders of names in which the directories of a thread are right.
-pub(crate) fn name_orders_that_make_directories_a_tree(
+// Returns for each order of names which rule the directories of a thread break in it. `addresses`
+// are those of the directories' first pairs.
+pub(crate) fn find_directory_violations(
     alloc: Global,
     directories: &[Directory],
+    addresses: &[[u32; 2]],
     sync: bool,
-) -> Result<NameOrderSet, Error>
+) -> Result<OrderViolations, MountError>
     requires some { 0 < length directories.now }
     requires within { All (λ d. All (λ b. b < length directories.now) d.branches.items) directories.now }
-    ensures right { IfOk result (λ orders. (order : NameOrder) (ps : List Pair) → IsGraphOfThreadDirectories order (directory_graph_view order directories.now) sync ps → (includes_name_order order orders ≡ true) ↔ IsTreeOfDirectories order ps) }
-    ensures error { IfErr result (λ e. e ≡ Error.NoMemory) }
+    requires places { length addresses.now ≡ length directories.now }
+    ensures found { IfOk result (λ found. (order : NameOrder) → IsBrokenRuleOrTree order (directory_graph_view order directories.now) (map pair_address_of_array addresses.now) sync (violation_in_order order found)) }
+    ensures error { IfErr result (λ e. e ≡ MountError.NoMemory) }
 {
-    Ok(NameOrderSet {
-        longer_first: are_directories_a_tree(alloc, directories, NameOrder::LongerFirst, sync)?,
-        shorter_first: are_directories_a_tree(alloc, directories, NameOrder::ShorterFirst, sync)?,
+    let longer_first = find_directory_violation(
+        alloc,
+        directories,
+        addresses,
+        NameOrder::LongerFirst,
+        sync,
+    )?;
+    let shorter_first = find_directory_violation(
+        alloc,
+        directories,
+        addresses,
+        NameOrder::ShorterFirst,
+        sync,
+    )?;
+    Ok(OrderViolations {
+        longer_first,
+        shorter_first,
     })
 }

@@ -1,11 +1,10 @@
 -- The pairs of a thread, read in turn.
-use Rattle.std.proofs.Common.{ℕ, zero, suc, ◌≡◌, ◌≢◌, ◌⊎◌, inl, inr, ◌↔◌, ◌+◌, ◌<◌, ◌≤◌, nat_eq, true, false, List, [], ◌∷◌, ◌++◌, length, Option, Some, None, refl, sym, ap, subst, ◌∙◌, arith, set, replicate, append_assoc, append-nil, Result, Err}
+use Rattle.std.proofs.Common.{ℕ, zero, suc, ◌≡◌, ◌≢◌, ◌⊎◌, inl, inr, ◌↔◌, ◌+◌, ◌<◌, ◌≤◌, nat_eq, true, false, List, [], ◌∷◌, ◌++◌, length, Option, Some, None, refl, sym, ap, subst, ◌∙◌, arith, set, replicate}
 use Rattle.std.specs.Prelude.{Contains, is_some, slice_get}
-use Rattle.std.specs.Option.{option_map}
+use Rattle.std.specs.Option.{option_and_then, option_map}
 use Rattle.std.proofs.lemmas.Bool.Decides.{eqb_tells}
-use Rattle.std.proofs.lemmas.Option.{same_Some, slice_get_within}
+use Rattle.std.proofs.lemmas.Option.{slice_get_within}
 use Rattle.std.proofs.lemmas.List.{map-append, length-set, length-replicate}
-use Rattle.std.proofs.lemmas.List.Elements.{recursion_from_All}
 use Rattle.lfs_device.specs.declared.device.BlockDevice.{Ghosts}
 use Rattle.lfs_device.specs.Calls.{ReadsOnly}
 use Rattle.lfs_model.specs.Blocks.{Blocks}
@@ -14,17 +13,18 @@ use Rattle.lfs_model.specs.Disk.{Disk, block_count}
 use Rattle.lfs_model.specs.History.{DeviceCallEvent, AreCallsSinceOnlyReads}
 use Rattle.lfs_model.specs.Slots.{PairContent}
 use Rattle.lfs_model.specs.Content.{pair_content_if_slots_complete, content_of_pair_at, raw_content_of_pair_at}
-use Rattle.lfs_model.specs.Thread.{Pair, anchor_pair_address, AreLinkedByTails, pair_address_named_by_tail, blocks_of_pairs, IsThreadOfMetadataPairs}
+use Rattle.lfs_model.specs.Thread.{Pair, anchor_pair_address, AreLinkedByTails, pair_address_named_by_tail, blocks_of_pairs}
+use Rattle.lfs_model.specs.Violations.{LeadsByTails}
 use Rattle.lfs_model.proofs.BlockSets.{slice_get-set_same, slice_get-set_other, Contains-occurrence_count_of_number, occurrence_count_of_number-Contains, used_count-AreExactlyTheUsedBlocks, counts_le}
 use Rattle.lfs_model.proofs.Completed.{completed_parts}
 use Rattle.lfs_model.proofs.Histories.{goes_on_by}
-use Rattle.lfs_model.proofs.Counts.{Each, each_right, occurrence_count_of_number, count_here, each_counted, once_from_distinct, distinct_from_once}
+use Rattle.lfs_model.proofs.Counts.{occurrence_count_of_number, count_here, once_from_distinct, distinct_from_once}
 use Rattle.lfs_tag.specs.ContentView.{tail_view}
 use Rattle.lfs_pair.specs.Commit.{IsPairAddressOnDisk}
 use Rattle.lfs_pair.specs.Pair.{FetchFindsPair, pair_address_in_header}
 use Rattle.lfs_thread.specs.Kept.{PairHeader, pair_on_disk_at, pairs_of_headers, IsPairHeaderOnDisk, AreAllBlocksUsed, IsKeptThreadOnDisk}
-use Rattle.lfs_thread.specs.Begun.{IsPairWithContentOnFreeBlocks, IsBeginningOfThread}
-use Rattle.lfs_thread.proofs.Keeping.{headers_append, header_content, pair_on_content, blocks_append}
+use Rattle.lfs_thread.specs.Begun.{ArePairsBeforeAddress, IsPairWithContentOnFreeBlocks, IsBeginningOfThread}
+use Rattle.lfs_thread.proofs.Keeping.{headers_append, header_content, header_contents, pair_on_content, blocks_append}
 use Rattle.lfs_thread.proofs.Changing.{headers_read}
 use Rattle.lfs_thread.proofs.Coming.{two_unused, free_unused}
 
@@ -56,6 +56,17 @@ fetched_stands disk history at pair sets on f full first second =
       holds = ap (content_of_pair_at disk) (sym f.at) ∙ header_content disk history pair h;
     }
 
+-- no content, where a slot lacks its name or its struct
+pub fetched_incomplete : (disk : Disk) (history : List DeviceCallEvent) (at : ℕ × ℕ) (pair : PairHeader) → FetchFindsPair disk history at pair → pair.is_complete ≡ false → content_of_pair_at disk at ≡ None
+fetched_incomplete disk history at pair f not_full = ap (option_and_then pair_content_if_slots_complete) f.content ∙ go (pair_content_if_slots_complete f.held) (sym f.is_pair.describes.sums.complete ∙ not_full)
+  where
+    go : (o : Option PairContent) → is_some {T = PairContent} o ≡ false → o ≡ None
+    go None k = refl
+    go (Some c) k = absurd (cc)
+
+pub on_disk : (disk : Disk) (n : ℕ) (at : ℕ × ℕ) → block_count disk ≡ n → at.0 ≢ at.1 → at.0 < n → at.1 < n → IsPairAddressOnDisk disk at
+on_disk disk n at is apart first second = record { apart = apart; first = subst (λ k. at.0 < k) (sym is) first; second = subst (λ k. at.1 < k) (sym is) second }
+
 -- ---- nothing is read yet
 
 none_used : (n b : ℕ) → IsBlockMarkedUsedInMap (replicate n Free) b → ⊥
@@ -71,8 +82,7 @@ all_free (suc n) (suc b) l = all_free n b (omega arith)
 pub begun_none : (disk : Disk) (history : List DeviceCallEvent) (n : ℕ) → n ≡ block_count disk → IsBeginningOfThread disk history [] (replicate n Free) (Some anchor_pair_address)
 begun_none disk history n e = record {
   each = tt;
-  links = λ rest l. l;
-  only = λ ps t. (ps, (refl, t.links));
+  links = refl;
   distinct = distinct_from_once [] (λ b. omega arith);
   size = length-replicate n Free ∙ e;
   marked = λ b. ((λ u. absurd (none_used n b u)), (λ h. absurd (omega (arith, occurrence_count_of_number-Contains [] b h))));
@@ -80,6 +90,10 @@ begun_none disk history n e = record {
 }
 
 -- ---- one more
+
+leads_on : (at : Option (ℕ × ℕ)) (ps : List Pair) (p : Pair) → LeadsByTails at ps (Some p.at) → LeadsByTails at (ps ++ p ∷ []) (pair_address_named_by_tail p.content.tail)
+leads_on at [] p l = (l, refl)
+leads_on at (q ∷ ps) p l = (l.0, leads_on (pair_address_named_by_tail q.content.tail) ps p l.1)
 
 all_used : (sets : BlockStateList) (bs : List ℕ) → ((b : ℕ) → Contains bs b → IsBlockMarkedUsedInMap sets b) → AreAllBlocksUsed sets bs
 all_used sets [] f = tt
@@ -105,9 +119,6 @@ module _ (disk : Disk) (blocks : Blocks) (before after : List DeviceCallEvent) (
 
   pairs_now : pairs_of_headers disk (hs ++ h ∷ []) ≡ pairs_of_headers disk hs ++ p ∷ []
   pairs_now = map-append (λ x. pair_on_disk_at disk (pair_address_in_header x)) hs (h ∷ [])
-
-  behind : (rest : List Pair) → pairs_of_headers disk hs ++ p ∷ rest ≡ pairs_of_headers disk (hs ++ h ∷ []) ++ rest
-  behind rest = sym (append_assoc (pairs_of_headers disk hs) (p ∷ []) rest) ∙ ap (λ z. z ++ rest) (sym pairs_now)
 
   counts : (b : ℕ) → occurrence_count_of_number b (blocks_of_pairs (pairs_of_headers disk (hs ++ h ∷ []))) ≡ occurrence_count_of_number b (blocks_of_pairs (pairs_of_headers disk hs)) + occurrence_count_of_number b (at.0 ∷ at.1 ∷ [])
   counts b = ap (λ z. occurrence_count_of_number b (blocks_of_pairs z)) pairs_now ∙ blocks_append (pairs_of_headers disk hs) (p ∷ []) b
@@ -187,23 +198,12 @@ module _ (disk : Disk) (blocks : Blocks) (before after : List DeviceCallEvent) (
           side (inl u) = inl (other_same b k.0 k.1 ∙ u)
           side (inr f) = inr (other_same b k.0 k.1 ∙ f)
 
-  only_now : (ps : List Pair) → IsThreadOfMetadataPairs (content_of_pair_at disk) (block_count disk) ps → (rest : List Pair) × ((ps ≡ pairs_of_headers disk (hs ++ h ∷ []) ++ rest) × AreLinkedByTails (pair_address_named_by_tail (option_map tail_view h.tail)) rest)
-  only_now ps t = go (begun.only ps t).0 (begun.only ps t).1.0 (begun.only ps t).1.1
-    where
-      go : (rest : List Pair) → ps ≡ pairs_of_headers disk hs ++ rest → AreLinkedByTails (Some at) rest → (rest : List Pair) × ((ps ≡ pairs_of_headers disk (hs ++ h ∷ []) ++ rest) × AreLinkedByTails (pair_address_named_by_tail (option_map tail_view h.tail)) rest)
-      go [] e l = absurd (cc)
-      go (q ∷ rest) e l =
-          let here : q.at ≡ pair_address_in_header h = same_Some q.at (pair_address_in_header h) (sym l.0 ∙ ap Some (sym same)) in
-          let has : content_of_pair_at disk q.at ≡ Some q.content = (each_right (λ (x : Pair). content_of_pair_at disk x.at ≡ Some x.content) (pairs_of_headers disk hs) (q ∷ rest)
-          (subst (Each (λ (x : Pair). content_of_pair_at disk x.at ≡ Some x.content)) e (recursion_from_All (λ (x : Pair). content_of_pair_at disk x.at ≡ Some x.content) ps t.contents))).0 in
-          let is_q : q ≡ p = sym (pair_on_content disk q.at q.content has) ∙ ap (pair_on_disk_at disk) here in
-          (rest, (e ∙ ap (λ z. pairs_of_headers disk hs ++ z ∷ rest) is_q ∙ behind rest, subst (λ z. AreLinkedByTails (pair_address_named_by_tail z) rest) (ap (λ (z : Pair). z.content.tail) is_q ∙ tail_is) l.1))
-
   pub begun_more : IsBeginningOfThread disk after (hs ++ h ∷ []) now (pair_address_named_by_tail (option_map tail_view h.tail))
   begun_more = record {
     each = headers_append disk after hs (h ∷ []) (headers_read disk blocks before after hs reads begun.each) (is, tt);
-    links = λ rest l. subst (AreLinkedByTails (Some anchor_pair_address)) (behind rest) (begun.links (p ∷ rest) (ap Some (sym same), subst (λ t. AreLinkedByTails (pair_address_named_by_tail t) rest) (sym tail_is) l));
-    only = only_now;
+    links = subst (λ ps. LeadsByTails (Some anchor_pair_address) ps (pair_address_named_by_tail (option_map tail_view h.tail))) (sym pairs_now)
+        (subst (λ t. LeadsByTails (Some anchor_pair_address) (pairs_of_headers disk hs ++ p ∷ []) (pair_address_named_by_tail t)) tail_is
+        (leads_on (Some anchor_pair_address) (pairs_of_headers disk hs) p (subst (λ a. LeadsByTails (Some anchor_pair_address) (pairs_of_headers disk hs) (Some a)) (sym same) begun.links)));
     distinct = distinct_from_once (blocks_of_pairs (pairs_of_headers disk (hs ++ h ∷ []))) (λ b.
         let e = counts b in
         let k = two_unused sets at.0 at.1 (blocks_of_pairs (pairs_of_headers disk hs)) (free_unused sets at.0 stands.first_free) (free_unused sets at.1 stands.second_free) stands.apart (used_now disk before hs sets (Some at) begun) (once_from_distinct (blocks_of_pairs (pairs_of_headers disk hs)) begun.distinct) b in
@@ -215,10 +215,14 @@ module _ (disk : Disk) (blocks : Blocks) (before after : List DeviceCallEvent) (
 
 -- ---- at the end
 
+leads_linked : (at : Option (ℕ × ℕ)) (ps : List Pair) → LeadsByTails at ps None → AreLinkedByTails at ps
+leads_linked at [] l = l
+leads_linked at (p ∷ ps) l = (l.0, leads_linked (pair_address_named_by_tail p.content.tail) ps l.1)
+
 pub begun_kept : (disk : Disk) (history : List DeviceCallEvent) (hs : List PairHeader) (sets : BlockStateList) → IsBeginningOfThread disk history hs sets None → IsKeptThreadOnDisk disk history hs sets
 begun_kept disk history hs sets begun = record {
   each = begun.each;
-  links = subst (AreLinkedByTails (Some anchor_pair_address)) (append-nil (pairs_of_headers disk hs)) (begun.links [] refl);
+  links = leads_linked (Some anchor_pair_address) (pairs_of_headers disk hs) begun.links;
   distinct = begun.distinct;
   size = begun.size;
   used = used_now disk history hs sets None begun;
@@ -234,58 +238,13 @@ begun_none_in_flight disk history hs sets next begun b = (
     go flies (inl used) = absurd (let e : Some InFlight ≡ Some Used = sym flies ∙ used in cc)
     go flies (inr free) = absurd (let e : Some InFlight ≡ Some Free = sym flies ∙ free in cc)
 
--- there is no thread, where no pair can stand at the next address
-pub begun_ends : (disk : Disk) (history : List DeviceCallEvent) (hs : List PairHeader) (sets : BlockStateList) (at : ℕ × ℕ) → IsBeginningOfThread disk history hs sets (Some at) → ¬ IsPairWithContentOnFreeBlocks disk sets at
-    → (ps : List Pair) → ¬ IsThreadOfMetadataPairs (content_of_pair_at disk) (block_count disk) ps
-begun_ends disk history hs sets at begun cannot ps t = go (begun.only ps t).0 (begun.only ps t).1.0 (begun.only ps t).1.1
-  where
-    go : (rest : List Pair) → ps ≡ pairs_of_headers disk hs ++ rest → AreLinkedByTails (Some at) rest → ⊥
-    go [] e l = absurd (cc)
-    go (q ∷ rest) e l = cannot (record {
-      apart = λ i. let k = once at.0 in let m = twice i in omega arith;
-      first_free = free at.0 (within at.0 first_in) (λ u. let k = once at.0 in let m = occurrence_count_of_number-Contains (blocks_of_pairs (pairs_of_headers disk hs)) at.0 ((begun.marked at.0).0 u) in let f = first_in in omega arith);
-      second_free = free at.1 (within at.1 second_in) (λ u. let k = once at.1 in let m = occurrence_count_of_number-Contains (blocks_of_pairs (pairs_of_headers disk hs)) at.1 ((begun.marked at.1).0 u) in let f = second_in in omega arith);
-      content = q.content;
-      holds = ap (content_of_pair_at disk) here ∙ (each_right (λ (x : Pair). content_of_pair_at disk x.at ≡ Some x.content) (pairs_of_headers disk hs) (q ∷ rest)
-          (subst (Each (λ (x : Pair). content_of_pair_at disk x.at ≡ Some x.content)) e (recursion_from_All (λ (x : Pair). content_of_pair_at disk x.at ≡ Some x.content) ps t.contents))).0;
-    })
-      where
-        here : at ≡ q.at
-        here = same_Some at q.at l.0
-
-        parts : (b : ℕ) → occurrence_count_of_number b (blocks_of_pairs ps) ≡ occurrence_count_of_number b (blocks_of_pairs (pairs_of_headers disk hs)) + occurrence_count_of_number b (blocks_of_pairs (q ∷ rest))
-        parts b = ap (λ z. occurrence_count_of_number b (blocks_of_pairs z)) e ∙ blocks_append (pairs_of_headers disk hs) (q ∷ rest) b
-
-        once : (b : ℕ) → occurrence_count_of_number b (blocks_of_pairs (pairs_of_headers disk hs)) + occurrence_count_of_number b (blocks_of_pairs (q ∷ rest)) ≤ 1
-        once b = let k = once_from_distinct (blocks_of_pairs ps) t.distinct b in let m = parts b in omega arith
-
-        blocks_here : (b : ℕ) → occurrence_count_of_number b (blocks_of_pairs (q ∷ rest)) ≡ occurrence_count_of_number b (at.0 ∷ at.1 ∷ blocks_of_pairs rest)
-        blocks_here b = ap (λ (x : ℕ × ℕ). occurrence_count_of_number b (x.0 ∷ x.1 ∷ blocks_of_pairs rest)) (sym here)
-
-        more : (x b : ℕ) (bs : List ℕ) → occurrence_count_of_number x bs ≤ occurrence_count_of_number x (b ∷ bs)
-        more x b bs = omega arith
-
-        first_in : 1 ≤ occurrence_count_of_number at.0 (blocks_of_pairs (q ∷ rest))
-        first_in = let k = blocks_here at.0 in let m = count_here at.0 (at.1 ∷ blocks_of_pairs rest) in omega arith
-
-        second_in : 1 ≤ occurrence_count_of_number at.1 (blocks_of_pairs (q ∷ rest))
-        second_in = let k = blocks_here at.1 in let m = count_here at.1 (blocks_of_pairs rest) in let n = more at.1 at.0 (at.1 ∷ blocks_of_pairs rest) in omega arith
-
-        twice : at.0 ≡ at.1 → 2 ≤ occurrence_count_of_number at.0 (blocks_of_pairs (q ∷ rest))
-        twice i = let k = blocks_here at.0 in let m = count_here at.0 (at.1 ∷ blocks_of_pairs rest) in
-            let n = ap (λ x. occurrence_count_of_number at.0 (x ∷ blocks_of_pairs rest)) (sym i) ∙ count_here at.0 (blocks_of_pairs rest) in omega arith
-
-        within : (b : ℕ) → 1 ≤ occurrence_count_of_number b (blocks_of_pairs (q ∷ rest)) → b < length sets
-        within b k =
-            let l = each_counted (λ x. x < block_count disk) (blocks_of_pairs ps) (recursion_from_All (λ (x : ℕ). x < block_count disk) (blocks_of_pairs ps) t.in_range) b (let m = parts b in omega arith) in
-            let s = begun.size in omega arith
-
-        free : (b : ℕ) → b < length sets → ¬ IsBlockMarkedUsedInMap sets b → IsBlockFree sets b
-        free b l unused = side (begun.others b l)
-          where
-            side : IsBlockMarkedUsedInMap sets b ⊎ IsBlockFree sets b → IsBlockFree sets b
-            side (inl u) = absurd (unused u)
-            side (inr f) = f
+pub begun_before : (disk : Disk) (history : List DeviceCallEvent) (hs : List PairHeader) (sets : BlockStateList) (next : Option (ℕ × ℕ)) (at : ℕ × ℕ) → next ≡ Some at → IsBeginningOfThread disk history hs sets next
+    → ArePairsBeforeAddress disk sets (pairs_of_headers disk hs) at
+begun_before disk history hs sets next at is begun = record {
+  begins = record { links = subst (LeadsByTails (Some anchor_pair_address) (pairs_of_headers disk hs)) is begun.links; contents = header_contents disk history hs begun.each };
+  marked = begun.marked;
+  others = begun.others;
+}
 
 -- there are at least two blocks for each pair
 pub begun_few : (disk : Disk) (history : List DeviceCallEvent) (hs : List PairHeader) (sets : BlockStateList) (next : Option (ℕ × ℕ)) → IsBeginningOfThread disk history hs sets next → length hs + length hs ≤ block_count disk
@@ -325,12 +284,3 @@ begun_next disk now blocks before after hs items sets marked next at h behind e 
     (subst (λ s. IsBeginningOfThread disk after (hs ++ h ∷ []) s behind) (sym marked_is)
     (subst (λ n. IsBeginningOfThread disk after (hs ++ h ∷ []) (set (set sets at.0 Used) at.1 Used) n) (sym behind_is)
     (begun_more disk blocks before after hs sets at h reads (subst (IsBeginningOfThread disk before hs sets) is begun) header same stands))))
-
-pub no_thread : (disk old : Disk) (n : ℕ) (history : List DeviceCallEvent) (hs : List PairHeader) (sets : BlockStateList) (next : Option (ℕ × ℕ)) (at : ℕ × ℕ) → disk ≡ old → block_count old ≡ n → next ≡ Some at
-    → IsBeginningOfThread disk history hs sets next → ¬ IsPairWithContentOnFreeBlocks disk sets at → (ps : List Pair) → ¬ IsThreadOfMetadataPairs (content_of_pair_at old) n ps
-no_thread disk old n history hs sets next at e occurrence_count_of_number is begun cannot ps t =
-    begun_ends disk history hs sets at (subst (IsBeginningOfThread disk history hs sets) is begun) cannot ps
-    (subst (λ (d : Disk). IsThreadOfMetadataPairs (content_of_pair_at d) (block_count d) ps) (sym e) (subst (λ k. IsThreadOfMetadataPairs (content_of_pair_at old) k ps) (sym occurrence_count_of_number) t))
-
-pub same_error : {T E : Type 0} {r : Result T E} {y f e : E} → r ≡ Err y → y ≡ f → r ≡ Err e → f ≡ e
-same_error was is gives = cc

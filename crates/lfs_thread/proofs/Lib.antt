@@ -14,3 +14,4 @@ pub mod GlobalState
 pub mod Beside
 pub mod ByBlocks
 pub mod HeaderReads
+pub mod MountErrors

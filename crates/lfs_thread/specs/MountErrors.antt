@@ -1,5 +1,5 @@
 -- Why the image of a device isn't mounted, and what is true of the device then.
-use Rattle.std.specs.Prelude.{◌≡◌, ◌≢◌, ◌<◌, Result, IsErrOf}
+use Rattle.std.specs.Prelude.{◌≡◌, ◌<◌, Result, IsErrOf}
 use Rattle.lfs_device.specs.declared.device.BlockDevice.{Ghosts}
 use Rattle.lfs_device.specs.declared.error.Error.{Error}
 use Rattle.lfs_device.specs.declared.error.Error.TheVariants as error

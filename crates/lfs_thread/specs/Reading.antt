@@ -1,9 +1,6 @@
 -- What a reading of a thread from a device leaves and reports.
-use Rattle.std.specs.Prelude.{ℕ, ◌≡◌, ◌+◌, ◌⊎◌, false, List, [], slice_set, sum_by, Result, IfErr}
+use Rattle.std.specs.Prelude.{ℕ, ◌≡◌, ◌+◌, false, List, [], slice_set, sum_by}
 use Rattle.lfs_device.specs.declared.device.BlockDevice.{Ghosts}
-use Rattle.lfs_device.specs.declared.error.Error.{Error}
-use Rattle.lfs_device.specs.declared.error.Error.TheVariants.{Corrupt, Io, NoMemory}
-use Rattle.lfs_device.specs.Calls.{ReadsOnly, ReportsFaults}
 use Rattle.lfs_model.specs.BlockSets.{AreExactlyTheInFlightBlocks, AreExactlyTheUsedBlocks, BlockStateList, Used}
 use Rattle.lfs_model.specs.Content.{content_of_pair_at}
 use Rattle.lfs_model.specs.Disk.{Disk}
@@ -12,12 +9,6 @@ use Rattle.lfs_model.specs.Thread.{IsThreadOfMetadataPairs, Pair, blocks_of_pair
 use Rattle.lfs_pair.specs.Pair.{pair_address_in_header, read_count_of_pair_fetch}
 use Rattle.lfs_thread.specs.Begun.{IsPairWithContentOnFreeBlocks}
 use Rattle.lfs_thread.specs.Kept.{PairHeader, IsPairHeaderOnDisk, ThreadView, disk_of_device}
-
--- The device was only read. `Io` comes with a fault of the device, and any other result without one.
-pub record OnlyReadsAndReportsErrors {D X : Type 0} (g : Ghosts D) (old new : D) (result : Result X Error) : Type 0 where
-  pub device : ReadsOnly g old new
-  pub errors : IfErr result (λ e. (e ≡ Corrupt) ⊎ ((e ≡ Io) ⊎ (e ≡ NoMemory)))
-  pub faults : ReportsFaults g old new result
 
 -- The header is that of the pair at an address. The pair can stand there, and its blocks are marked now.
 pub record IsPairHeaderReadAndBlocksMarkedUsed (disk : Disk) (history : List DeviceCallEvent) (at : ℕ × ℕ) (old new : BlockStateList) (h : PairHeader) : Type 0 where

@@ -1,21 +1,23 @@
 // The headers of a thread, read from a device.
 
-ghost use Rattle.std.specs.Prelude.{◌≡◌, ◌+◌, [], length, replicate, sum_by, IfOk, List, OnOk};
+ghost use Rattle.std.specs.Prelude.{◌≡◌, ◌+◌, [], length, replicate, sum_by, IfErr, IfOk, List, OnOk};
 ghost use Rattle.std.specs.Option.{option_map};
 ghost use Rattle.lfs_model.specs.Slots.{pair_address_of_array};
 ghost use Rattle.lfs_tag.specs.ContentView.{tail_view};
 ghost use Rattle.lfs_model.specs.BlockSets.{AreExactlyTheInFlightBlocks, AreExactlyTheUsedBlocks};
 ghost use Rattle.lfs_model.specs.BlockSets.BlockState.{Free};
-ghost use Rattle.lfs_model.specs.Content.{content_of_pair_at};
 ghost use Rattle.lfs_model.specs.History.{read_count_of_history};
-ghost use Rattle.lfs_model.specs.Thread.{IsThreadOfMetadataPairs, Pair as ThreadPair, blocks_of_pairs, pair_address_named_by_tail};
+ghost use Rattle.lfs_model.specs.Thread.{Pair as ThreadPair, blocks_of_pairs, pair_address_named_by_tail};
 ghost use Rattle.lfs_pair.specs.Pair.{pair_address_in_header, read_count_of_pair_fetch};
-ghost use Rattle.lfs_thread.specs.Begun.{IsPairWithContentOnFreeBlocks};
+ghost use Rattle.lfs_thread.specs.Begun.{ArePairsBeforeAddress};
 ghost use Rattle.lfs_thread.specs.Kept.{IsKeptThreadOnDevice, disk_of_device, pairs_of_headers};
-ghost use Rattle.lfs_thread.specs.Reading.{IsPairHeaderReadAndBlocksMarkedUsed, OnlyReadsAndReportsErrors};
+ghost use Rattle.lfs_thread.specs.MountErrors.{HasTrueThreadViolation, OnlyReadsUnlessFault};
+ghost use Rattle.lfs_thread.specs.Reading.{IsPairHeaderReadAndBlocksMarkedUsed};
 
+use crate::mount_error::MountError;
 use lfs_alloc::BlockMap;
-use lfs_device::{BlockDevice, Error};
+use lfs_device::BlockDevice;
+use lfs_model::Violation;
 use lfs_pair::{Pair, fetch};
 use std::alloc::Global;
 
@@ -26,14 +28,13 @@ pub(crate) fn read_thread_headers<D: BlockDevice>(
     device: &mut D,
     pairs: &mut Vec<Pair>,
     map: &mut BlockMap,
-) -> Result<(), Error>
+) -> Result<(), MountError>
     requires none { pairs.old.items ≡ [] }
     requires free { map.old ≡ replicate (D.geometry device.old).block_count Free }
     ensures kept { OnOk result (IsKeptThreadOnDevice D.BlockDevice device.new pairs.new.items map.new) }
     ensures marked { OnOk result (AreExactlyTheUsedBlocks map.new (blocks_of_pairs (pairs_of_headers (disk_of_device D.BlockDevice device.new) pairs.new.items)) × AreExactlyTheInFlightBlocks map.new []) }
-    ensures corrupt { result ≡ Err Error.Corrupt → (ps : List ThreadPair)
-        → ¬ IsThreadOfMetadataPairs (content_of_pair_at (disk_of_device D.BlockDevice device.old)) (D.geometry device.old).block_count ps }
-    ensures reported { OnlyReadsAndReportsErrors D.BlockDevice device.old device.new result }
+    ensures broken { IfErr result (λ e. HasTrueThreadViolation (disk_of_device D.BlockDevice device.old) e) }
+    ensures reported { OnlyReadsUnlessFault D.BlockDevice device.old device.new result }
     ensures few { OnOk result (read_count_of_history (D.history device.new) ≡ read_count_of_history (D.history device.old) + sum_by (λ h. read_count_of_pair_fetch (disk_of_device D.BlockDevice device.old) (pair_address_in_header h)) pairs.new.items) }
 {
     let block_count = device.geometry().block_count;
@@ -49,7 +50,7 @@ pub(crate) fn read_thread_headers<D: BlockDevice>(
             }
         }
     }
-    Err(Error::Corrupt)
+    unreachable!()
 }
 
 // Returns the address that a pair's tail names.
@@ -63,33 +64,49 @@ fn address_named_by_header_tail(pair: &Pair) -> Option<[u32; 2]>
 }
 
 // Reads the header of the pair at an address, and marks its blocks as used. `Corrupt` where a block
-// is out of range or marked already, or where the pair holds no content.
+// is out of range, comes twice or is marked already, or where the pair holds no content.
 fn read_header_and_mark_pair_used<D: BlockDevice>(
     alloc: Global,
     device: &mut D,
     map: &mut BlockMap,
     at: [u32; 2],
-) -> Result<Pair, Error>
+) -> Result<Pair, MountError>
     requires { length map.old ≡ (D.geometry device.old).block_count }
     ensures read { IfOk result (IsPairHeaderReadAndBlocksMarkedUsed (disk_of_device D.BlockDevice device.old) (D.history device.new) (pair_address_of_array at) map.old map.new) }
-    ensures corrupt { result ≡ Err Error.Corrupt → ¬ IsPairWithContentOnFreeBlocks (disk_of_device D.BlockDevice device.old) map.old (pair_address_of_array at) }
-    ensures reported { OnlyReadsAndReportsErrors D.BlockDevice device.old device.new result }
+    ensures broken { (before : List ThreadPair) → ArePairsBeforeAddress (disk_of_device D.BlockDevice device.old) map.old before (pair_address_of_array at)
+        → IfErr result (λ e. HasTrueThreadViolation (disk_of_device D.BlockDevice device.old) e) }
+    ensures reported { OnlyReadsUnlessFault D.BlockDevice device.old device.new result }
     ensures few { OnOk result (read_count_of_history (D.history device.new) ≡ read_count_of_history (D.history device.old) + read_count_of_pair_fetch (disk_of_device D.BlockDevice device.old) (pair_address_of_array at)) }
 {
     let [first, second] = at;
     let block_count = device.geometry().block_count;
-    if first >= block_count || second >= block_count || first == second {
-        return Err(Error::Corrupt);
+    if first >= block_count || second >= block_count {
+        return Err(MountError::Corrupt(Violation::OutOfRange { pair: at }));
+    }
+    if first == second {
+        return Err(MountError::Corrupt(Violation::OneBlock { pair: at }));
     }
     if !map.mark(first) {
-        return Err(Error::Corrupt);
+        return Err(MountError::Corrupt(Violation::TwoPairs {
+            pair: at,
+            block: first,
+        }));
     }
     if !map.mark(second) {
-        return Err(Error::Corrupt);
+        return Err(MountError::Corrupt(Violation::TwoPairs {
+            pair: at,
+            block: second,
+        }));
     }
-    let pair = fetch(alloc, device, at)?;
-    if !pair.is_complete {
-        return Err(Error::Corrupt);
+    let no_content = Violation::NoContent { pair: at };
+    match fetch(alloc, device, at) {
+        Err(error) => Err(MountError::of(error, no_content)),
+        Ok(pair) => {
+            if pair.is_complete {
+                Ok(pair)
+            } else {
+                Err(MountError::Corrupt(no_content))
+            }
+        }
     }
-    Ok(pair)
 }

@@ -1,6 +1,6 @@
 // Addresses of pairs, found without a search through all of them.
 
-ghost use Rattle.std.specs.Prelude.{IfSome, IfNone, ◌≡◌, ◌++◌, ◌∷◌, [], ◌<◌, false, nat_eq, OnOk, OnErr, IfErr, length};
+ghost use Rattle.std.specs.Prelude.{IfSome, IfNone, ◌≡◌, ◌++◌, ◌∷◌, [], ◌<◌, false, nat_eq, OnOk, OnErr, IfErr, length, map};
 ghost use Rattle.std.specs.List.{AllByRecursion, IsDistinct};
 ghost use Rattle.lfs_model.specs.Slots.{pair_address_of_array, same_pair};
 ghost use Rattle.lfs_thread.specs.Places.{IsSamePairAddressAtIndex, blocks_of_pair_addresses, greater_block_of, lesser_block_of, index_of_pair_address};
@@ -73,6 +73,13 @@ impl PairAddressList {
             return Err(Error::NoMemory);
         }
         Ok(())
+    }
+
+    /// Returns the addresses as a slice, each at its place.
+    pub fn addresses(&self) -> &[[u32; 2]]
+        ensures { map pair_address_of_array result.now ≡ self.now }
+    {
+        &self.addresses
     }
 
     /// Returns the place of the pair that has these two blocks, in either order. Returns None where

@@ -1,6 +1,6 @@
-ghost use Rattle.std.specs.Prelude.{ℕ, ◌+◌, ◌*◌, ◌≤◌, if◌then◌else◌, None, Some, List, ◌↔◌, IfOk, ◌≡◌, IsTrue, true, ◌⊎◌, ◌<◌, length, false, is_err, [], replicate, slice_set, IfErr, IfNone, IfSome, IsSome, OnOk, ◌-◌, min, take, drop, slice_range};
+ghost use Rattle.std.specs.Prelude.{ℕ, ◌+◌, ◌*◌, ◌≤◌, if◌then◌else◌, None, Some, List, ◌↔◌, IfOk, ◌≡◌, IsTrue, true, ◌<◌, length, false, is_err, [], replicate, slice_set, IfErr, IfNone, IfSome, IsSome, OnOk, ◌-◌, min, take, drop, slice_range};
 ghost use Rattle.std.specs.Option.{option_map};
-ghost use Rattle.lfs_model.specs.Content.{content_of_pair_at, current_block_of_pair_at};
+ghost use Rattle.lfs_model.specs.Content.{current_block_of_pair_at};
 ghost use Rattle.lfs_model.specs.Disk.{disk_in_order};
 ghost use Rattle.lfs_model.specs.BlockSets.{IsBlockFree, IsBlockInFlight, IsBlockMarkedUsedInMap, used_count};
 ghost use Rattle.lfs_model.specs.BlockSets.BlockState.{Free, InFlight};
@@ -9,7 +9,7 @@ ghost use Rattle.lfs_model.specs.Shown.{skip_list_blocks_of_struct};
 ghost use Rattle.lfs_model.specs.SkipLists.{IsSkipList, bytes_of_skip_list};
 ghost use Rattle.lfs_model.specs.History.{read_count_of_history};
 ghost use Rattle.lfs_model.specs.Slots.{Ctz, pair_address_of_array};
-ghost use Rattle.lfs_model.specs.Thread.{IsThreadOfMetadataPairs, Pair as ThreadPair, gstate_of_pairs, is_hard_tail, blocks_of_pair_address, blocks_of_two_pair_addresses};
+ghost use Rattle.lfs_model.specs.Thread.{gstate_of_pairs, is_hard_tail, blocks_of_pair_address, blocks_of_two_pair_addresses};
 ghost use Rattle.lfs_tag.specs.ContentView.{tail_view};
 ghost use Rattle.lfs_tag.specs.FieldsView.{move_view};
 ghost use Rattle.lfs_pair.specs.ChangeView.{changes_view};
@@ -17,6 +17,7 @@ ghost use Rattle.lfs_thread.specs.Beside.{CanCallClosureOnDeviceAndMap, HasRunWo
 ghost use Rattle.lfs_thread.specs.Device.{GivesDeviceBackOnlyReadWithError, PowerLossLeavesSuchBlocksAfterCleanErases};
 ghost use Rattle.lfs_thread.specs.Kept.{IsCacheCurrent, IsKeptThreadOnDevice, WasKeptThreadOnDevice, disk_of_device, kept_thread_in_order};
 ghost use Rattle.lfs_thread.specs.CachedLog.{IsLogBlockOfContent, cached_log, cache_after_load, read_count_unless_cached};
+ghost use Rattle.lfs_thread.specs.MountErrors.{HasTrueThreadViolation, error_of_mount};
 ghost use Rattle.lfs_thread.specs.Reading.{IsThreadReadFromDevice};
 ghost use Rattle.lfs_thread.specs.Steps.{CanSplitPairAtIndex, CanChangePair, CanDropNextPair, CanThreadInFreshPair, IoMeantFaultNoMemoryWroteNothing, IoMeantFaultNoMemoryKeptOtherBlocks, IsThreadingInRefused, IsFreshPairThreadedIn, PowerLossLeavesPairOldOrThreadedIn, IsPairChanged, IsPairAfterIndexDropped, PowerLossLeavesPairOldOrChanged, PowerLossLeavesPairOldOrSplit, IsThreadOnlyRead, IsCommitRefused, IsPairSplitInTwo, ThreadChangesOnlyBlocksWithinReadLimit, thread_pair_at_index};
 
@@ -25,6 +26,7 @@ use crate::deltas::global_state_of_pairs;
 use crate::drops::drop_next_pair;
 use crate::headers::read_thread_headers;
 use crate::joins::thread_in_fresh_pair;
+use crate::mount_error::MountError;
 use crate::parts::ThreadParts;
 use crate::splits::split_pair;
 use lfs_alloc::BlockMap;
@@ -79,21 +81,21 @@ impl<D: BlockDevice> Thread<D> {
     /// The names are taken to be in the order of littlefs's own code, until
     /// [`set_order`](Thread::set_order) says otherwise.
     ///
-    /// Errors: `Corrupt` exactly where the device has no thread. Then an address is out of range, a
-    /// block comes twice, or a pair holds no content whose slots each have a name and a struct.
-    /// `Io` where a read failed. `NoMemory` where memory for the headers, the map or a block and
-    /// its slots isn't granted. The device comes back with an error.
-    pub fn read(alloc: Global, mut device: D) -> Result<Thread<D>, (D, Error)>
+    /// Errors: `Corrupt` exactly where the device has no thread. It names the rule that is broken:
+    /// an address is out of range (`OutOfRange`), a block comes twice (`OneBlock`, `TwoPairs`), or
+    /// a pair holds no content whose slots each have a name and a struct (`NoContent`). `Io` where
+    /// a read failed. `NoMemory` where memory for the headers, the map or a block and its slots
+    /// isn't granted. The device comes back with an error.
+    pub fn read(alloc: Global, mut device: D) -> Result<Thread<D>, (D, MountError)>
         ensures read { IfOk result (IsThreadReadFromDevice D.BlockDevice device) }
-        ensures corrupt { IfErr result (λ e. e.1 ≡ Error.Corrupt → (ps : List ThreadPair) → ¬ IsThreadOfMetadataPairs (content_of_pair_at (disk_of_device D.BlockDevice device)) (D.geometry device).block_count ps) }
-        ensures errors { IfErr result (λ e. (e.1 ≡ Error.Corrupt) ⊎ ((e.1 ≡ Error.Io) ⊎ (e.1 ≡ Error.NoMemory))) }
-        ensures back { IfErr result (λ e. GivesDeviceBackOnlyReadWithError D.BlockDevice device e.0 e.1) }
+        ensures broken { IfErr result (λ e. HasTrueThreadViolation (disk_of_device D.BlockDevice device) e.1) }
+        ensures back { IfErr result (λ e. GivesDeviceBackOnlyReadWithError D.BlockDevice device e.0 (error_of_mount e.1)) }
     {
         let block_count = device.geometry().block_count;
         let mut pairs = Vec::new(alloc);
         let (cache, mut map) = match make_empty_cache_and_map(alloc, block_count) {
             Ok(parts) => parts,
-            Err(error) => return Err((device, error)),
+            Err(_) => return Err((device, MountError::NoMemory)),
         };
         match read_thread_headers(alloc, &mut device, &mut pairs, &mut map) {
             Ok(()) => Ok(Thread {

@@ -11,6 +11,7 @@ ghost use Rattle.lfs_model.specs.declared.order.NameOrder.{NameOrder};
 ghost use Rattle.lfs_model.specs.declared.order.NameOrder.TheVariants.{LongerFirst};
 ghost use Rattle.lfs_tool.specs.ExcerptBlocks.{AreExcerptsOfBlocksWithSize};
 ghost use Rattle.lfs_tool.specs.ExcerptView as excerpt;
+ghost use Rattle.lfs_mount.specs.Accepted.{IsMountedThread};
 ghost use Rattle.lfs_mount.specs.Device.{IsIoCorruptOrNoMemory};
 ghost use Rattle.lfs_thread.specs.Device.{GivesDeviceBackOnlyReadWithError};
 ghost use Rattle.lfs_thread.specs.Kept.{disk_of_device};
@@ -68,6 +69,19 @@ pub(crate) fn excerpt_device_of_blocks(
     Ok(ExcerptDevice::new(geometry.with_profile(layout.profile), blocks))
 }
 
+// Mounts the image of a device. Which rule it breaks isn't handed on.
+fn mount_thread<D: BlockDevice>(alloc: Global, device: D) -> Result<Thread<D>, (D, Error)>
+    ensures mounted { IfOk result (λ t. IsMountedThread (disk_in_order t.kept.disk.order (disk_of_device D.BlockDevice device)) (D.history device) t) }
+    ensures corrupt { IfErr result (λ e. e.1 ≡ Error.Corrupt → (order : NameOrder) (ps : List Pair) → ¬ IsAcceptedImage (disk_in_order order (disk_of_device D.BlockDevice device)) ps) }
+    ensures errors { IfErr result (λ e. IsIoCorruptOrNoMemory e.1) }
+    ensures back { IfErr result (λ e. GivesDeviceBackOnlyReadWithError D.BlockDevice device e.0 e.1) }
+{
+    match mount(alloc, device) {
+        Ok(thread) => Ok(thread),
+        Err((device, error)) => Err((device, error.into())),
+    }
+}
+
 // Returns the thread of an image that is accepted in one of the orders of names, and all entries of
 // the image.
 pub(crate) fn tree_items_of_device<D: BlockDevice>(
@@ -79,7 +93,7 @@ pub(crate) fn tree_items_of_device<D: BlockDevice>(
     ensures errors { IfErr result (λ e. IsIoCorruptOrNoMemory e.1) }
     ensures back { IfErr result (λ e. GivesDeviceBackOnlyReadWithError D.BlockDevice device e.0 e.1) }
 {
-    let mut thread = mount(alloc, device)?;
+    let mut thread = mount_thread(alloc, device)?;
     match walk_tree(alloc, &mut thread) {
         Ok(items) => Ok((thread, items)),
         Err(error) => Err((thread.into_device(), error)),

@@ -1,15 +1,41 @@
 // What a tree keeps of an image that was mounted.
 
-ghost use Rattle.std.specs.Prelude.{◌≡◌, ◌↔◌, IsTrue, IfOk, false};
-ghost use Rattle.lfs_model.specs.Thread.{pair_count_before_root};
+ghost use Rattle.std.specs.Prelude.{List, ◌≡◌, ◌↔◌, IsTrue, IfErr, IfOk, false};
+ghost use Rattle.lfs_model.specs.Disk.{disk_in_order};
+ghost use Rattle.lfs_model.specs.Thread.{Pair, pair_count_before_root};
 ghost use Rattle.lfs_model.specs.View.{IsAcceptedImage};
 ghost use Rattle.lfs_model.specs.Profile.{IsWritableImage};
+ghost use Rattle.lfs_model.specs.declared.order.NameOrder.{NameOrder};
+ghost use Rattle.lfs_model.specs.declared.order.NameOrder.TheVariants.{LongerFirst, ShorterFirst};
+ghost use Rattle.lfs_thread.specs.Device.{GivesDeviceBackOnlyReadWithError};
+ghost use Rattle.lfs_thread.specs.Kept.{disk_of_device};
+ghost use Rattle.lfs_mount.specs.Accepted.{IsMountedThread};
+ghost use Rattle.lfs_mount.specs.Device.{IsIoCorruptOrNoMemory};
+ghost use Rattle.lfs_mount.specs.ReadImage.{HasAtMostMountReads};
 ghost use Rattle.lfs_lookup.specs.Reading.{OnlyReadsThreadAndReportsErrors};
 
 use lfs_device::{BlockDevice, Error};
 use lfs_lookup::{find_root, is_writable};
 use lfs_thread::Thread;
 use std::alloc::Global;
+
+// Mounts the image of a device. Which rule it breaks isn't handed on.
+pub(crate) fn mount_thread<D: BlockDevice>(
+    alloc: Global,
+    device: D,
+) -> Result<Thread<D>, (D, Error)>
+    ensures mounted { IfOk result (λ t. IsMountedThread (disk_in_order t.kept.disk.order (disk_of_device D.BlockDevice device)) (D.history device) t) }
+    ensures longer { IfOk result (λ t. t.kept.disk.order ≡ ShorterFirst → (ps : List Pair) → ¬ IsAcceptedImage (disk_in_order LongerFirst (disk_of_device D.BlockDevice device)) ps) }
+    ensures corrupt { IfErr result (λ e. e.1 ≡ Error.Corrupt → (order : NameOrder) (ps : List Pair) → ¬ IsAcceptedImage (disk_in_order order (disk_of_device D.BlockDevice device)) ps) }
+    ensures errors { IfErr result (λ e. IsIoCorruptOrNoMemory e.1) }
+    ensures back { IfErr result (λ e. GivesDeviceBackOnlyReadWithError D.BlockDevice device e.0 e.1) }
+    ensures few { IfOk result (HasAtMostMountReads (disk_of_device D.BlockDevice device) (D.history device)) }
+{
+    match lfs_mount::mount(alloc, device) {
+        Ok(thread) => Ok(thread),
+        Err((device, error)) => Err((device, error.into())),
+    }
+}
 
 // Returns the number of the root directory's first pair, and whether the image is in the writing
 // profile.

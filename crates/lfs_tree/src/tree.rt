@@ -36,7 +36,7 @@ use crate::attributes_at::{remove_attr_at, set_attr_at};
 use crate::entries_at::{create_empty_file_at, make_directory_at};
 use crate::formats::format;
 use crate::lost_recovery::end_move_and_drop_unreached_directories;
-use crate::mounted_tree::find_root_and_writing_profile;
+use crate::mounted_tree::{find_root_and_writing_profile, mount_thread};
 use crate::remounts::{SpareThreadParts, mount_again};
 use crate::removals_at::remove_at;
 use core::mem::replace_with;
@@ -89,7 +89,7 @@ impl<D: BlockDevice> Tree<D> {
         ensures errors { IfErr result (λ e. IsIoCorruptOrNoMemory e.1) }
         ensures back { IfErr result (λ e. GivesDeviceBackOnlyReadWithError D.BlockDevice device e.0 e.1) }
     {
-        let mut thread = lfs_mount::mount(alloc, device)?;
+        let mut thread = mount_thread(alloc, device)?;
         match find_root_and_writing_profile(alloc, &mut thread) {
             Ok((root, is_writable)) => Ok(Tree {
                 thread,

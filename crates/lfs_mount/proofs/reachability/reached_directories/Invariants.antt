@@ -1,7 +1,7 @@
 use Rattle.std.proofs.Common.{◌≡◌, ◌≤◌, ◌-◌, length}
 use Rattle.lfs_mount.specs.DirectoryView.{directory_graph_view}
-use Rattle.lfs_mount.specs.Reaching.{AreMarksOfFoundDirectories, directories_found_after_steps, has_vertex_at_sorted_names_and_known_branches}
-use Rattle.std.specs.Prelude.{All, true, take}
+use Rattle.lfs_mount.specs.Reaching.{AreMarksOfFoundDirectories, directories_found_after_steps}
+use Rattle.lfs_mount.proofs.Searches.{AreSoundBefore}
 use Rattle.lfs_mount.proofs.reachability.reached_directories.Given as goal
 
 abbrev pub invariant-loop-next : goal.invariant-loop-next
@@ -9,7 +9,7 @@ invariant-loop-next l = record {
   found : l.found.items ≡ directories_found_after_steps (directory_graph_view l.order l.directories) l.next;
   marked : AreMarksOfFoundDirectories l.is_found.items l.found.items;
   len : length l.is_found.items ≡ length l.directories;
-  sound : All (λ v. has_vertex_at_sorted_names_and_known_branches (directory_graph_view l.order l.directories) v ≡ true) (take l.next l.found.items);
+  sound : AreSoundBefore (directory_graph_view l.order l.directories) l.next;
   passed : l.next ≤ length l.found.items;
 }
 

@@ -1,27 +1,55 @@
-use Rattle.std.proofs.Common.{◌≡◌, ◌≢◌, ◌<◌, slice_set, true, rules, sym, subst}
+use Rattle.std.proofs.Common.{◌≡◌, ◌≢◌, ◌<◌, Err, ap, slice_set, true, rules, subst, sym}
+use Rattle.std.specs.Option.{option_and_then}
 use Rattle.lfs_model.specs.Slots.{pair_address_of_array}
 use Rattle.lfs_model.specs.BlockSets.{BlockStateList, IsBlockFree, Used}
-use Rattle.lfs_pair.specs.Commit.{IsPairAddressOnDisk}
+use Rattle.lfs_model.specs.Content.{pair_content_if_slots_complete}
+use Rattle.lfs_model.specs.declared.violations.Violation.TheVariants.{NoContent}
 use Rattle.lfs_thread.specs.Kept.{disk_of_device}
-use Rattle.lfs_thread.proofs.Begun.{fetched_header, fetched_stands}
+use Rattle.lfs_thread.specs.MountErrors.{HasTrueThreadViolation}
+use Rattle.lfs_thread.proofs.Begun.{fetched_header, fetched_incomplete, fetched_stands, on_disk}
+use Rattle.lfs_thread.proofs.MountErrors.{second_in_two, true_of}
 use Rattle.lfs_thread.proofs.headers.read_header_and_mark_pair_used.Goals as goal
 
-pub returns-clause-read : goal.returns-clause-read
-returns-clause-read g c =
+pub returns-then-pair-clause-read : goal.returns-then-pair-clause-read
+returns-then-pair-clause-read g c =
     let apart : (pair_address_of_array c.args.at).0 ≢ (pair_address_of_array c.args.at).1 = search rules in
     let first : (pair_address_of_array c.args.at).0 < (g.D.BlockDevice.geometry c.args.device.now).block_count = search rules in
     let second : (pair_address_of_array c.args.at).1 < (g.D.BlockDevice.geometry c.args.device.now).block_count = search rules in
-    let full : c.in_ok-pair.pair.is_complete ≡ true = search rules in
+    let full : c.in-Ok.pair.is_complete ≡ true = search rules in
     let first_free : IsBlockFree c.args.map.now (pair_address_of_array c.args.at).0 = search rules in
     let second_free : IsBlockFree c.mark.new.self (pair_address_of_array c.args.at).1 = search rules in
     let first_marked = c.if-not-mark.ensures.marked in
     let marked : c.mark-2.new.self ≡ slice_set (slice_set c.args.map.now (pair_address_of_array c.args.at).0 Used) (pair_address_of_array c.args.at).1 Used = search rules in
-    let count = (g.met.D.BlockDevice.shape c.args.device.now).count in
-    let on : IsPairAddressOnDisk (disk_of_device g.D.BlockDevice c.args.device.now) (pair_address_of_array c.args.at) = record { apart = apart; first = subst (λ n. (pair_address_of_array c.args.at).0 < n) (sym count) first; second = subst (λ n. (pair_address_of_array c.args.at).1 < n) (sym count) second } in
+    let on = on_disk (disk_of_device g.D.BlockDevice c.args.device.now) _ (pair_address_of_array c.args.at) (g.met.D.BlockDevice.shape c.args.device.now).count apart first second in
     record {
-      header = fetched_header _ _ (pair_address_of_array c.args.at) c.in_ok-pair.pair on c.in_ok-pair.ensures.ok full;
-      address = c.in_ok-pair.ensures.ok.at;
-      stands = fetched_stands _ _ (pair_address_of_array c.args.at) c.in_ok-pair.pair c.args.map.now on c.in_ok-pair.ensures.ok full
+      header = fetched_header _ _ (pair_address_of_array c.args.at) c.in-Ok.pair on c.in-Ok.ensures.ok full;
+      address = c.in-Ok.ensures.ok.at;
+      stands = fetched_stands _ _ (pair_address_of_array c.args.at) c.in-Ok.pair c.args.map.now on c.in-Ok.ensures.ok full
           first_free (subst (λ (s : BlockStateList). IsBlockFree s (pair_address_of_array c.args.at).1) first_marked second_free);
       marked = marked;
     }
+
+pub returns-then-not-mark-2-clause-broken : goal.returns-then-not-mark-2-clause-broken
+returns-then-not-mark-2-clause-broken g c before is =
+    let apart : (pair_address_of_array c.args.at).0 ≢ (pair_address_of_array c.args.at).1 = search rules in
+    let taken : ¬ IsBlockFree c.mark.new.self (pair_address_of_array c.args.at).1 = search rules in
+    second_in_two _ c.args.map.now before (pair_address_of_array c.args.at) is apart (search rules)
+    (subst (λ (s : BlockStateList). ¬ IsBlockFree s (pair_address_of_array c.args.at).1) c.if-not-mark.ensures.marked taken)
+
+pub returns-in-Err-clause-broken : goal.returns-in-Err-clause-broken
+returns-in-Err-clause-broken g c before is =
+    let apart : (pair_address_of_array c.args.at).0 ≢ (pair_address_of_array c.args.at).1 = search rules in
+    let first : (pair_address_of_array c.args.at).0 < (g.D.BlockDevice.geometry c.args.device.now).block_count = search rules in
+    let second : (pair_address_of_array c.args.at).1 < (g.D.BlockDevice.geometry c.args.device.now).block_count = search rules in
+    let on = on_disk (disk_of_device g.D.BlockDevice c.args.device.now) _ (pair_address_of_array c.args.at) (g.met.D.BlockDevice.shape c.args.device.now).count apart first second in
+    subst (HasTrueThreadViolation (disk_of_device g.D.BlockDevice c.args.device.now)) (sym c.of.ensures)
+    (true_of _ c.in-Err.error (NoContent c.args.at) c.in-Err.ensures.errors
+    (λ corrupt. ((before, is.begins), (on.first, on.second), ap (option_and_then pair_content_if_slots_complete) (c.in-Err.ensures.corrupt (ap Err corrupt)))))
+
+pub returns-else-pair-clause-broken : goal.returns-else-pair-clause-broken
+returns-else-pair-clause-broken g c before is =
+    let apart : (pair_address_of_array c.args.at).0 ≢ (pair_address_of_array c.args.at).1 = search rules in
+    let first : (pair_address_of_array c.args.at).0 < (g.D.BlockDevice.geometry c.args.device.now).block_count = search rules in
+    let second : (pair_address_of_array c.args.at).1 < (g.D.BlockDevice.geometry c.args.device.now).block_count = search rules in
+    let on = on_disk (disk_of_device g.D.BlockDevice c.args.device.now) _ (pair_address_of_array c.args.at) (g.met.D.BlockDevice.shape c.args.device.now).count apart first second in
+    ((before, is.begins), (on.first, on.second), fetched_incomplete _ _ (pair_address_of_array c.args.at) c.in-Ok.pair c.in-Ok.ensures.ok (search rules))

@@ -1,17 +1,18 @@
 use Rattle.std.proofs.lemmas.Result.{err_from_is_err_and}
-use Rattle.std.specs.Prelude.{◌⊎◌, IfErr}
-use Rattle.lfs_device.specs.declared.error.Error.TheVariants.{Corrupt, Io, NoMemory}
+use Rattle.lfs_thread.specs.declared.mount_error.MountError.TheVariants.{NoMemory}
 use Rattle.std.proofs.Common.{◌≡◌, ◌+◌, ◌<◌, ◌∙◌, Err, [], ◌∷◌, length, refl, sym, ap, ap₂, subst, arith, rules, length-append}
 use Rattle.std.specs.Option.{option_map}
 use Rattle.lfs_device.specs.Shown.{disk_of_geometry_and_blocks}
 use Rattle.lfs_device.specs.declared.geometry.Geometry.{Geometry}
 use Rattle.lfs_model.specs.Slots.{pair_address_of_array}
 use Rattle.lfs_model.proofs.Histories.{began}
-use Rattle.std.specs.Prelude.{sum_by}
+use Rattle.std.specs.Prelude.{IfErr, sum_by}
 use Rattle.lfs_pair.specs.Pair.{pair_address_in_header, read_count_of_pair_fetch}
 use Rattle.lfs_thread.proofs.HeaderReads.{more_reads}
 use Rattle.lfs_thread.specs.Begun.{IsBeginningOfThread}
-use Rattle.lfs_thread.proofs.Begun.{begun_first, begun_next, begun_kept, begun_none_in_flight, begun_few, no_thread, read_on, same_error}
+use Rattle.lfs_thread.specs.Kept.{disk_of_device}
+use Rattle.lfs_thread.specs.MountErrors.{HasTrueThreadViolation}
+use Rattle.lfs_thread.proofs.Begun.{begun_first, begun_next, begun_kept, begun_none_in_flight, begun_few, begun_before, read_on}
 use Rattle.lfs_thread.proofs.headers.read_thread_headers.Goals as goal
 
 pub loop-init : goal.loop-init
@@ -31,42 +32,40 @@ returns-in-None-clause-kept g c =
 pub returns-in-None-clause-marked : goal.returns-in-None-clause-marked
 returns-in-None-clause-marked g c = (c.loop.invariant.begun.marked, begun_none_in_flight _ _ _ _ _ c.loop.invariant.begun)
 
-pub returns-in_err-pair-in-Some-clause-corrupt : goal.returns-in_err-pair-in-Some-clause-corrupt
-returns-in_err-pair-in-Some-clause-corrupt g c e =
+pub returns-in_err-pair-in-Some-clause-broken : goal.returns-in_err-pair-in-Some-clause-broken
+returns-in_err-pair-in-Some-clause-broken g c =
     let p = err_from_is_err_and c.from_residual.result c.from_residual.ensures.1 in
-    no_thread _ _ _ _ _ _ _ (pair_address_of_array c.in-Some.at) (ap₂ disk_of_geometry_and_blocks c.loop.invariant.device.geometry c.loop.invariant.device.same) (g.met.D.BlockDevice.shape c.args.device.now).count (ap (option_map pair_address_of_array) c.in-Some.is)
-    c.loop.invariant.begun (c.in_err-pair-in-Some.ensures.corrupt (ap Err (same_error p.1 p.2 e)))
+    let same : disk_of_device g.D.BlockDevice c.loop.device ≡ disk_of_device g.D.BlockDevice c.args.device.now = ap₂ disk_of_geometry_and_blocks c.loop.invariant.device.geometry c.loop.invariant.device.same in
+    let before = begun_before _ _ _ _ _ (pair_address_of_array c.in-Some.at) (ap (option_map pair_address_of_array) c.in-Some.is) c.loop.invariant.begun in
+    let broken = c.in_err-pair-in-Some.ensures.broken _ before in
+    subst (λ r. IfErr r (HasTrueThreadViolation (disk_of_device g.D.BlockDevice c.args.device.now))) (sym p.1)
+    (subst (HasTrueThreadViolation (disk_of_device g.D.BlockDevice c.args.device.now)) (sym p.2)
+    (subst (λ d. HasTrueThreadViolation d c.in_err-pair-in-Some.field-0.0) same broken))
 
 pub returns-in_err-pair-in-Some-clause-reported : goal.returns-in_err-pair-in-Some-clause-reported
 returns-in_err-pair-in-Some-clause-reported g c =
     let reported = c.in_err-pair-in-Some.ensures.reported in
-    let errors : IfErr c.from_residual.result (λ e. (e ≡ Corrupt) ⊎ ((e ≡ Io) ⊎ (e ≡ NoMemory))) = search rules in
     let no_fault = c.loop.invariant.no_fault in
     record {
       device = read_on c.loop.invariant.device reported.device;
-      errors = errors;
-      faults = record {
-        fault = λ io. (let fault = reported.faults.fault (search rules) in omega (arith, fault, no_fault));
-        no_fault = λ other. reported.faults.no_fault (λ io. other (search rules)) ∙ no_fault;
-      };
+      fault = λ io. (let fault = reported.fault (search rules) in omega (arith, fault, no_fault));
+      no_fault = λ other. reported.no_fault (λ io. other (search rules)) ∙ no_fault;
     }
 
 pub returns-in_err-push-in-Some-clause-reported : goal.returns-in_err-push-in-Some-clause-reported
 returns-in_err-push-in-Some-clause-reported g c =
     let reported = c.in_ok-pair-in-Some.ensures.reported in
-    let errors : IfErr c.from_residual-in_err-push-in-Some.result (λ e. (e ≡ Corrupt) ⊎ ((e ≡ Io) ⊎ (e ≡ NoMemory))) = search rules in
     let full : c.from_residual-in_err-push-in-Some.result ≡ Err NoMemory = search rules in
-    let no_fault = reported.faults.no_fault (λ e. absurd (cc)) ∙ c.loop.invariant.no_fault in
     record {
       device = read_on c.loop.invariant.device reported.device;
-      errors = errors;
-      faults = record { fault = λ e. absurd (cc); no_fault = λ _. no_fault };
+      fault = λ e. absurd (cc);
+      no_fault = λ _. reported.no_fault (λ e. absurd (cc)) ∙ c.loop.invariant.no_fault;
     }
 
 pub loop-preserved : goal.loop-preserved
 loop-preserved g c =
     let read = c.in_ok-pair-in-Some.ensures in
-    let no_fault = read.reported.faults.no_fault (λ e. absurd (cc)) in
+    let no_fault = read.reported.no_fault (λ e. absurd (cc)) in
     record {
       begun = begun_next (disk_of_geometry_and_blocks (g.D.BlockDevice.geometry c.loop.device) (g.D.BlockDevice.blocks c.loop.device)) _ _ _ _ c.loop.pairs.items _ c.loop.map _ (option_map pair_address_of_array c.loop.next) (pair_address_of_array c.in-Some.at) c.in_ok-pair-in-Some.pair (option_map pair_address_of_array c.address_named_by_header_tail-next.result)
           (ap₂ disk_of_geometry_and_blocks read.reported.device.geometry read.reported.device.same) read.reported.device.reads (ap (option_map pair_address_of_array) c.in-Some.is) c.loop.invariant.begun read.read.header read.read.address read.read.stands c.in_ok-push-in-Some.ensures.items read.read.marked c.address_named_by_header_tail-next.ensures;
@@ -77,8 +76,8 @@ loop-preserved g c =
       count = ap length c.in_ok-push-in-Some.ensures.items ∙ length-append c.loop.pairs.items (c.in_ok-pair-in-Some.pair ∷ []) ∙ ap (λ n. n + 1) c.loop.invariant.count;
     }
 
-pub returns-clause-corrupt : goal.returns-clause-corrupt
-returns-clause-corrupt g c _ ps t =
+pub unreachable-requires : goal.unreachable-requires
+unreachable-requires g c =
     let few = begun_few _ _ _ _ _ c.loop.invariant.begun in
     let count = c.loop.invariant.count in
     let size = ap length c.loop.invariant.device.same ∙ (g.met.D.BlockDevice.shape c.args.device.now).count in

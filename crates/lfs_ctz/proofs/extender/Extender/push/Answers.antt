@@ -32,6 +32,7 @@ loop-done-init g c = record {
   same = refl;
   device = changes_none g.D.BlockDevice _ c.args.dev.now;
   writes = record { erased = refl; programmed = refl };
+  few = record { few = omega arith; none = λ all. (refl, all) };
   quiet = refl;
 }
 
@@ -105,6 +106,7 @@ loop-done-preserved g c =
     let here = among c.args.self.now c.loop-done.self.stand c.args.blocks.now c.loop-done.used _ _ next refl some inv.pending in
     let now = c.in_ok-done.ensures.filled in
     let written = c.in_ok-done.ensures.writes in
+    let read = c.in_ok-done.ensures.few in
     let more = bytes_more _ _ c.args.bytes.now c.loop-done.done c.in_ok-done.field-0 inv.low c.in_ok-done.ensures.count.1 inv.bytes in
     record {
       low = more.0;
@@ -121,6 +123,13 @@ loop-done-preserved g c =
       same = now.geometry ∙ inv.same;
       device = changes_one g.D.BlockDevice here inv.device c.fill_current_block.ensures.device;
       writes = record { erased = omega (arith, written.erased, inv.writes.erased); programmed = omega (arith, written.programmed, inv.writes.programmed) };
+      few = record {
+        few = omega (arith, read.few, inv.few.few);
+        none = λ all.
+            let so_far = inv.few.none all in
+            let here = read.none so_far.1 in
+            (here.0 ∙ so_far.0, here.1);
+      };
       quiet = quiet g.D.BlockDevice c.in_ok-done.ensures.io.faults ∙ inv.quiet;
     }
 

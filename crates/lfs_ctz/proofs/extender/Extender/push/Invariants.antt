@@ -1,5 +1,6 @@
 use Rattle.std.proofs.Common.{ℕ, false, ◌≡◌, ◌≢◌, ◌≤◌, ◌+◌, ◌-◌, ◌++◌, length, take}
 use Rattle.std.specs.Prelude.{All}
+use Rattle.lfs_ctz.specs.FewReads.{FillsBlocksByFewReads}
 use Rattle.lfs_ctz.specs.Counts.{AddsOneEraseAndProgramPerBlock}
 use Rattle.lfs_device.specs.Calls.{ChangesOnlyTheseBlocks}
 use Rattle.lfs_model.specs.History.{fault_count_of_history}
@@ -26,6 +27,7 @@ invariant-loop-done g l =
       same : now.geometry ≡ was.geometry;
       device : ChangesOnlyTheseBlocks g.D.BlockDevice handed old l.dev;
       writes : AddsOneEraseAndProgramPerBlock was.full now.full (history old) (history l.dev);
+      few : FillsBlocksByFewReads was now (history old) (history l.dev);
       quiet : fault_count_of_history (history l.dev) ≡ fault_count_of_history (history old);
     }
 

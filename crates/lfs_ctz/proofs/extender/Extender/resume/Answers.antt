@@ -1,12 +1,18 @@
-use Rattle.std.proofs.Common.{refl, suc, ℕ, ◌≡◌, ◌≤◌, ◌<◌, ◌+◌, ◌-◌, ◌*◌, ◌++◌, ◌⊎◌, inl, inr, List, [], ◌∷◌, length, take, drop, slice_index, Result, Err, sym, ap, ◌∙◌, arith}
+use Rattle.std.proofs.Common.{refl, suc, ℕ, ◌≡◌, ◌≤◌, ◌<◌, ◌+◌, ◌-◌, ◌*◌, ◌++◌, ◌⊎◌, inl, inr, List, [], ◌∷◌, length, take, drop, slice_index, Result, Err, sym, ap, subst, ◌∙◌, arith, rules}
 use Rattle.std.specs.Vec.{with_items}
 use Rattle.std.proofs.lemmas.List.{append-nil, length-take, with_items_is}
-use Rattle.std.proofs.lemmas.Result.{err_from_is_err_and}
+use Rattle.std.proofs.lemmas.Result.{IfOk-weaker, err_from_is_err_and}
 use Rattle.lfs_device.specs.declared.error.Error.{Error}
 use Rattle.lfs_device.specs.declared.geometry.Geometry.{Geometry}
 use Rattle.lfs_model.specs.Blocks.{Blocks, HasBlocksOfCountAndSize, block_bytes_by_number}
 use Rattle.lfs_model.specs.SkipLists.{AreListBlocks, IsSkipList, IsPlaceOfByteInList, pointer_count_of_list_block, byte_count_before_list_block, list_blocks_from_head, list_block_count_for_size, bytes_of_skip_list, word_at_offset}
-use Rattle.lfs_ctz.specs.Growing.{data_of_list_blocks, AreLastBytesInSharedBlock}
+use Rattle.lfs_ctz.specs.declared.block.FullBlocks.{FullBlocks}
+use Rattle.lfs_ctz.specs.declared.extender.ExtenderState.{ExtenderState}
+use Rattle.lfs_ctz.specs.declared.rest.RestLocation.TheVariants.{Closed, Shared}
+use Rattle.lfs_ctz.specs.Extending.{IsResumedList}
+use Rattle.lfs_ctz.specs.Fields.{growing_list_view}
+use Rattle.lfs_ctz.specs.Filled.{AreExtenderNumbersConsistent}
+use Rattle.lfs_ctz.specs.Growing.{GrowingList, data_of_list_blocks, AreLastBytesInSharedBlock}
 use Rattle.lfs_ctz.proofs.Sizes.{blocks_for-last, place-lt, pointer_count_of_list_block-le, place-le}
 use Rattle.lfs_ctz.proofs.Chains.{in_range_at, back-pointer0}
 use Rattle.lfs_ctz.proofs.Geometries.{last_is, chain, sized, shaped}
@@ -41,8 +47,8 @@ returns-in_err-block-clause-reports g c =
           (chain _ _ _ _ _ c.geometry-geometry.result.valid.no_smaller c.blocks_for.ensures (sized _ _ _ _ _ c.geometry-geometry.ensures c.requires.list)));
     })
 
-pub overflow_add-result : goal.overflow_add-result
-overflow_add-result g c =
+pub overflow_add-state : goal.overflow_add-state
+overflow_add-state g c =
     let few = place-le _ _ _ _ c.geometry-geometry.result.valid.no_smaller c.place-index.ensures in
     omega arith
 
@@ -144,8 +150,8 @@ read_rest d same old new items block off p block_size e is read long within low 
     ap (λ (l : List ℕ). take (off + 1 - p) (drop p l)) (is ∙ read ∙ ap (λ b. take (off + 1) (block_bytes_by_number b block) ++ drop (0 + (off + 1)) old) e)
     ∙ data-written (block_bytes_by_number d block) (drop (0 + (off + 1)) old) (off + 1) p (omega arith) low
 
-pub invariant_of-result : goal.invariant_of-result
-invariant_of-result g c =
+pub of_state-requires : goal.of_state-requires
+of_state-requires g c =
     let full = is_full _ _ _ _ _ _ _ _ _ _ c.geometry-geometry.ensures c.blocks_for.ensures (g.met.D.BlockDevice.shape c.args.dev.now) c.requires.list c.requires.some c.requires.within c.place-index.ensures c.in_ok-block.ensures.found c.if-off-block_size.true in
     let few = pointer_count_of_list_block-le (c.place-index.result.0 + 1) in
     let large = c.geometry-geometry.result.valid.no_smaller in
@@ -153,7 +159,19 @@ invariant_of-result g c =
     let high = c.requires.list.size_high in
     let within = c.requires.within in
     let sum = full.sum in
-    record { one_block = omega (arith, c.in_ok-buffer.ensures.len, c.in_ok-buffer.buffer.ok.0); in_step = record { low = omega arith; high = omega arith; sum = omega arith; fits = omega arith } }
+    record {
+      one_block = omega (arith, c.in_ok-buffer.ensures.len, c.in_ok-buffer.buffer.ok.0);
+      in_step = subst (λ (f : FullBlocks). AreExtenderNumbersConsistent c.geometry-geometry.result.block_size f.count (4 * c.pointer_count_at_index.result) c.args.keep) (sym c.new.ensures.made) (record { low = omega arith; high = omega arith; sum = omega arith; fits = omega arith });
+      known = c.new.ensures.below _;
+    }
+
+pub of_state-requires-2 : goal.of_state-requires-2
+of_state-requires-2 g c = record {
+  one_block = ap length (with_items_is c.in_ok-buffer.buffer c.read_block_bytes_into_buffer_range.new.buf (omega (arith, c.read_block_bytes_into_buffer_range.auto.buf, c.as_mut_slice.ensures.len, c.in_ok-buffer.buffer.ok.0)))
+      ∙ omega (arith, c.read_block_bytes_into_buffer_range.auto.buf, ap length c.as_mut_slice.ensures.value, c.in_ok-buffer.ensures.len, c.in_ok-buffer.buffer.ok.0);
+  in_step = subst (λ (f : FullBlocks). AreExtenderNumbersConsistent c.geometry-geometry.result.block_size f.count (c.place-index.result.1 + 1) c.args.keep) (sym c.new-2.ensures.made) (search rules);
+  known = c.new-2.ensures.below _;
+}
 
 pub returns-then-off-block_size-clause-resumed : goal.returns-then-off-block_size-clause-resumed
 returns-then-off-block_size-clause-resumed g c =
@@ -163,16 +181,20 @@ returns-then-off-block_size-clause-resumed g c =
     let i : ℕ = c.place-index.result.0 in
     let rest : take (4 * c.pointer_count_at_index.result - 4 * pointer_count_of_list_block (i + 1)) (drop (4 * pointer_count_of_list_block (i + 1)) c.in_ok-buffer.buffer.items) ≡ [] =
     ap (λ k. take k (drop (4 * pointer_count_of_list_block (i + 1)) c.in_ok-buffer.buffer.items)) (let none : 4 * c.pointer_count_at_index.result - 4 * pointer_count_of_list_block (i + 1) ≡ 0 = omega (arith, c.pointer_count_at_index.ensures) in none) in
-    record {
+    let resumed : GrowingList → Type 0 = IsResumedList old (g.D.BlockDevice.geometry c.args.dev.now) c.args.head c.args.size c.args.keep in
+    let state : FullBlocks → ExtenderState = λ f. record { geometry = c.geometry-geometry.result; buffer = c.in_ok-buffer.buffer; front = f; filled = 4 * c.pointer_count_at_index.result; size = c.args.keep; stand = Closed } in
+    let front : FullBlocks = record { count = i + 1; head = c.in_ok-block.block; known = c.new.result.known } in
+    let all : resumed (growing_list_view (state front)) = record {
       grown =
-          is_grown _ old _ _ _ _ _ _ (g.met.D.BlockDevice.shape c.args.dev.now) made
+          is_grown _ old (growing_list_view (state front)) _ _ _ _ _ (g.met.D.BlockDevice.shape c.args.dev.now) made
           (omega (arith, ap length rest, pointer_count_of_list_block-le (i + 1), c.geometry-geometry.result.valid.no_smaller))
-          (record { chain = full.chain_is; stand = rest })
+          (record { chain = full.chain_is; known = c.new.ensures.known _; stand = rest })
           (ap (λ (l : List ℕ). data_of_list_blocks old (list_blocks_from_head old (i + 1) c.in_ok-block.block) ++ l) rest ∙ full.content)
           (omega (arith, ap length rest, full.sum, ap (λ (k : Geometry). byte_count_before_list_block k.block_size (i + 1)) made))
           full.kept full.blocks_are;
       waits = record { listed = refl; pending = λ other apart. apart };
-    }
+    } in
+    IfOk-weaker c.of_state.result _ resumed (λ list is. subst resumed (sym is) (subst (λ f. resumed (growing_list_view (state f))) (sym c.new.ensures.made) all)) c.of_state.ensures.list
 
 pub returns-in_err-head-clause-device : goal.returns-in_err-head-clause-device
 returns-in_err-head-clause-device g c = read_on g.D.BlockDevice c.find_block_at_index.ensures.reading.device c.head_of_list_before_block.ensures.reading.device
@@ -198,7 +220,7 @@ pub returns-clause-device : goal.returns-clause-device
 returns-clause-device g c = read_on g.D.BlockDevice (read_on g.D.BlockDevice c.find_block_at_index.ensures.reading.device c.head_of_list_before_block.ensures.reading.device) c.read_block_bytes_into_buffer_range.ensures.device
 
 -- the bytes of the block that are kept
-rest_is : (g : _) (c : goal.In_ok-read_block_bytes_into_buffer_range g) → take (c.place-index.result.1 + 1 - 4 * pointer_count_of_list_block c.place-index.result.0) (drop (4 * pointer_count_of_list_block c.place-index.result.0) (with_items c.in_ok-buffer.buffer c.read_block_bytes_into_buffer_range.new.buf).items)
+rest_is : (g : _) (c : goal.After-of_state-2 g) → take (c.place-index.result.1 + 1 - 4 * pointer_count_of_list_block c.place-index.result.0) (drop (4 * pointer_count_of_list_block c.place-index.result.0) (with_items c.in_ok-buffer.buffer c.read_block_bytes_into_buffer_range.new.buf).items)
     ≡ take (c.place-index.result.1 + 1 - 4 * pointer_count_of_list_block c.place-index.result.0) (drop (4 * pointer_count_of_list_block c.place-index.result.0) (block_bytes_by_number (g.D.BlockDevice.blocks c.args.dev.now) c.in_ok-block.block))
 rest_is g c =
     let made = c.geometry-geometry.ensures in
@@ -212,7 +234,7 @@ rest_is g c =
     (omega (arith, shape.sizes c.in_ok-block.block in_range, ap (λ (k : Geometry). k.block_size) made))
     (omega arith) (let at = place.at in omega arith)
 
-opened : (g : _) (c : goal.In_ok-read_block_bytes_into_buffer_range g) → IsOpen (g.D.BlockDevice.blocks c.args.dev.now) (g.D.BlockDevice.geometry c.args.dev.now) c.geometry-geometry.result c.args.head c.args.size c.args.keep c.place-index.result.0 c.place-index.result.1
+opened : (g : _) (c : goal.After-of_state-2 g) → IsOpen (g.D.BlockDevice.blocks c.args.dev.now) (g.D.BlockDevice.geometry c.args.dev.now) c.geometry-geometry.result c.args.head c.args.size c.args.keep c.place-index.result.0 c.place-index.result.1
     c.in_ok-block.block c.in_ok-head.head (take (c.place-index.result.1 + 1 - 4 * pointer_count_of_list_block c.place-index.result.0) (drop (4 * pointer_count_of_list_block c.place-index.result.0) (with_items c.in_ok-buffer.buffer c.read_block_bytes_into_buffer_range.new.buf).items))
 opened g c =
     is_open _ _ _ _ _ _ _ _ _ _ _ _ c.geometry-geometry.ensures c.blocks_for.ensures (g.met.D.BlockDevice.shape c.args.dev.now) c.requires.list c.requires.some c.requires.within c.place-index.ensures c.in_ok-block.ensures.found
@@ -224,9 +246,12 @@ pub returns-clause-resumed : goal.returns-clause-resumed
 returns-clause-resumed g c =
     let o = opened g c in
     let made = c.geometry-geometry.ensures in
-    record {
+    let resumed : GrowingList → Type 0 = IsResumedList (g.D.BlockDevice.blocks c.args.dev.now) (g.D.BlockDevice.geometry c.args.dev.now) c.args.head c.args.size c.args.keep in
+    let state : FullBlocks → ExtenderState = λ f. record { geometry = c.geometry-geometry.result; buffer = with_items c.in_ok-buffer.buffer c.read_block_bytes_into_buffer_range.new.buf; front = f; filled = c.place-index.result.1 + 1; size = c.args.keep; stand = Shared c.in_ok-block.block } in
+    let front : FullBlocks = record { count = c.place-index.result.0; head = c.in_ok-head.head; known = c.new-2.result.known } in
+    let all : resumed (growing_list_view (state front)) = record {
       grown =
-          is_grown _ (g.D.BlockDevice.blocks c.args.dev.now) _ _ _ _ _ _ (g.met.D.BlockDevice.shape c.args.dev.now) made
+          is_grown _ (g.D.BlockDevice.blocks c.args.dev.now) (growing_list_view (state front)) _ _ _ _ _ (g.met.D.BlockDevice.shape c.args.dev.now) made
           (omega (
             arith,
             length-take (c.place-index.result.1 + 1 - 4 * pointer_count_of_list_block c.place-index.result.0) (drop (4 * pointer_count_of_list_block c.place-index.result.0) (with_items c.in_ok-buffer.buffer c.read_block_bytes_into_buffer_range.new.buf).items),
@@ -234,6 +259,7 @@ returns-clause-resumed g c =
             pointer_count_of_list_block-le c.place-index.result.0,
             c.geometry-geometry.result.valid.no_smaller,
           ))
-          (record { chain = o.chain_is; stand = o.shared }) o.content (omega (arith, o.sum, ap (λ (k : Geometry). byte_count_before_list_block k.block_size c.place-index.result.0) made)) o.kept o.blocks_are;
+          (record { chain = o.chain_is; known = c.new-2.ensures.known _; stand = o.shared }) o.content (omega (arith, o.sum, ap (λ (k : Geometry). byte_count_before_list_block k.block_size c.place-index.result.0) made)) o.kept o.blocks_are;
       waits = record { listed = refl; pending = λ other apart. apart };
-    }
+    } in
+    IfOk-weaker c.of_state-2.result _ resumed (λ list is. subst resumed (sym is) (subst (λ f. resumed (growing_list_view (state f))) (sym c.new-2.ensures.made) all)) c.of_state-2.ensures.list

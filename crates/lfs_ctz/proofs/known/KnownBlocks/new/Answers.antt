@@ -1,4 +1,4 @@
-use Rattle.std.proofs.Common.{ℕ, ◌≡◌, ◌<◌, replicate, slice_index, arith}
+use Rattle.std.proofs.Common.{◌≡◌, replicate, slice_index, arith}
 use Rattle.std.proofs.lemmas.List.{get_or-replicate}
 use Rattle.lfs_ctz.proofs.known.KnownBlocks.new.Goals as goal
 

@@ -1,4 +1,4 @@
-use Rattle.std.proofs.Common.{suc, ℕ, Bool, false, ◌==◌, ◌≡◌, ◌≤◌, ◌<◌, ◌+◌, ◌-◌, ◌*◌, ◌^◌, ◌++◌, min, List, length, length-append, length-drop, take, drop, slice_index, slice_range, refl, sym, ap, subst, ◌∙◌, arith}
+use Rattle.std.proofs.Common.{suc, ℕ, Bool, false, ◌==◌, ◌≡◌, ◌≤◌, ◌<◌, ◌+◌, ◌-◌, ◌*◌, ◌++◌, min, List, length, length-append, length-drop, take, drop, slice_index, slice_range, refl, sym, ap, subst, ◌∙◌, arith}
 use Rattle.std.proofs.lemmas.Bool.Decides.{nat_tests}
 use Rattle.std.proofs.lemmas.List.{take_at}
 use Rattle.std.proofs.lemmas.Result.{err_from_is_err_and}
@@ -9,7 +9,7 @@ use Rattle.lfs_ctz.proofs.Sizes.{blocks_for-last, place-lt, place_unique, place-
 use Rattle.lfs_ctz.proofs.Gathered.{IsPart, IsReadPass, filled, turn_bytes, turn_rest, turn_before, turn_index}
 use Rattle.lfs_ctz.proofs.Geometries.{count_by, last_is, chain, sized, shaped}
 use Rattle.lfs_ctz.proofs.Chains.{in_range_at, length_back}
-use Rattle.lfs_ctz.proofs.Recalled.{all_read, found_at, found_by, found_first, known_by, none_read, read_more}
+use Rattle.lfs_ctz.proofs.Recalled.{all_read, found_at, found_by, found_first, known_by, read_more}
 use Rattle.lfs_ctz.proofs.Called.{list_as, list_io, list_ok, list_on, read_on, quiet, reported_on}
 use Rattle.lfs_ctz.proofs.known.KnownBlocks.read_at.Goals as goal
 

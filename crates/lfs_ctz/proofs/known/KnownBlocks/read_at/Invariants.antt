@@ -1,6 +1,6 @@
-use Rattle.std.proofs.Common.{ℕ, ◌≡◌, ◌≤◌, ◌<◌, ◌+◌, ◌-◌, ◌*◌, ◌^◌, ◌++◌, min, length, drop, slice_index, slice_range}
+use Rattle.std.proofs.Common.{ℕ, ◌≡◌, ◌≤◌, ◌<◌, ◌+◌, ◌-◌, ◌*◌, ◌++◌, min, length, drop, slice_index, slice_range}
 use Rattle.lfs_device.specs.Calls.{ReadsOnly}
-use Rattle.lfs_model.specs.History.{fault_count_of_history, read_count_of_history}
+use Rattle.lfs_model.specs.History.{fault_count_of_history}
 use Rattle.lfs_model.specs.SkipLists.{IsSkipList, IsPlaceOfByteInList, list_blocks_from_head, list_block_count_for_size, bytes_of_skip_list}
 use Rattle.lfs_ctz.specs.Known.{AreKnownListBlocks}
 use Rattle.lfs_ctz.proofs.Recalled.{FindsWithMoreReads}

@@ -26,6 +26,6 @@ returns-in-Ok-read_thread_headers-clause-read g c =
       none_in_flight = c.in-Ok-read_thread_headers.ensures.marked.1;
       disk = same;
       only = reported.device.reads;
-      no_fault = reported.faults.no_fault (λ e. absurd (cc));
+      no_fault = reported.no_fault (λ e. absurd (cc));
       few = read ∙ ap (λ n. read_count_of_history (g.D.BlockDevice.history c.args.device) + n) (sym (header_reads_of (disk_of_device g.D.BlockDevice c.read_thread_headers.new.device) disk c.read_thread_headers.new.pairs.items));
     }

@@ -95,12 +95,14 @@ fn broken_rule_of_device(
     match mount_in_order(alloc, device, NameOrder::ShorterFirst) {
         // The image is accepted in neither order.
         Ok(_thread) => unreachable!(),
-        Err((device, MountError::Corrupt(shorter))) => {
-            let violation = rule_to_tell(longer, shorter);
-            let rule = broken_rule(alloc, device, violation, shorter)?;
-            Ok(rule)
-        }
-        Err((_device, error)) => Err(error.into()),
+        Err((device, error)) => match error {
+            MountError::Corrupt(shorter) => {
+                let violation = rule_to_tell(longer, shorter);
+                let rule = broken_rule(alloc, device, violation, shorter)?;
+                Ok(rule)
+            }
+            _ => Err(error.into()),
+        },
     }
 }
 
@@ -130,10 +132,12 @@ pub fn judge_image_on_device(alloc: Global, device: RamDevice) -> Result<ImageVe
 {
     match mount(alloc, device) {
         Ok(thread) => judge_thread(alloc, thread),
-        Err((device, MountError::Corrupt(violation))) => {
-            let rule = broken_rule_of_device(alloc, device, violation)?;
-            Ok(ImageVerdict::Refused(rule))
-        }
-        Err((_device, error)) => Err(error.into()),
+        Err((device, error)) => match error {
+            MountError::Corrupt(violation) => {
+                let rule = broken_rule_of_device(alloc, device, violation)?;
+                Ok(ImageVerdict::Refused(rule))
+            }
+            _ => Err(error.into()),
+        },
     }
 }

@@ -1,5 +1,5 @@
 -- From a run of a source's operations to the image that it leaves.
-use Rattle.std.proofs.Common.{ℕ, ◌≡◌, ◌∙◌, ◌≤◌, ◌+◌, ◌*◌, ◌/◌, ◌%◌, List, [], ◌∷◌, length, Option, Some, None, ap, ap₂, arith, false, subst, sym, flat_map}
+use Rattle.std.proofs.Common.{ℕ, ◌≡◌, ◌∙◌, ◌≤◌, ◌+◌, ◌*◌, ◌/◌, ◌%◌, List, length, Option, Some, None, ap, ap₂, arith, false, subst, sym, flat_map}
 use Rattle.std.specs.Prelude.{Err, IfErr, IfSome, IsErrAnd, Ok, Result, ◌≢◌}
 use Rattle.lfs_device.specs.declared.error.Error.{Error}
 use Rattle.lfs_device.specs.declared.error.Error.TheVariants.{NoMemory}
@@ -15,8 +15,7 @@ use Rattle.lfs_model.specs.Disk.{Disk, SameGeometry, block_count, disk_in_order,
 use Rattle.lfs_model.specs.Fresh.{IsFreshDisk, empty_tree}
 use Rattle.lfs_model.specs.Geometry.{IsValidGeometry}
 use Rattle.lfs_model.specs.Headline.{IsDiskWritableAndRecovered, IsSessionHealthyWithDiskTree, session_after_operations}
-use Rattle.lfs_model.specs.Operations.{Operation, Reply}
-use Rattle.lfs_model.specs.Run.{AreSessionSteps, SystemState}
+use Rattle.lfs_model.specs.Run.{SystemState}
 use Rattle.lfs_model.specs.Session.{Session}
 use Rattle.lfs_model.specs.Source.{IsTreeMadeFromSource, TreeSource}
 use Rattle.lfs_model.specs.State.{HasFailed, Healthy, SessionHealth, is_remount_operation, session_after_mount}

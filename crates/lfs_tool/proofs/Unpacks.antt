@@ -1,6 +1,6 @@
 -- What is done of an image that is unpacked.
 use Rattle.std.proofs.Common.{ℕ, ◌≡◌, ◌⊎◌, ◌∙◌, inl, inr, List, [], ◌∷◌, Option, Some, None, Result, Ok, Err, ap, ap₂, map, refl, subst, sym, take}
-use Rattle.std.specs.Prelude.{◌≢◌, IfErr, IfSome, OnErr, OnOk}
+use Rattle.std.specs.Prelude.{◌≢◌, IfErr, IfSome, OnErr}
 use Rattle.lfs_tool.specs.declared.image_layout.ImageLayout.{ImageLayout}
 use Rattle.lfs_model.specs.Disk.{Disk, IsImageOfWholeBlocks, disk_of_image, disk_in_order}
 use Rattle.lfs_model.specs.Listing.{UnpackingAction, PathAndNode, unpacking_action_of_node, unpacking_action_of_entry}

@@ -39,7 +39,7 @@ OBJECTIONS = [
     ("profile name-max 1 file-max 2 attr-max 3 inline-max 4 also-2.1 name-max 5",
      "too many words: profile [also-2.1] [name-max N] [file-max N] [attr-max N] [inline-max N]"),
 ]
-COMMANDS = """fresh image profile unmount mount save calls compare compare-with open read write seek truncate sync close mkdir remove rename list
+COMMANDS = """fresh image profile unmount mount format put bytes save calls compare compare-with open read write seek truncate sync close mkdir remove rename list
 stat get-attr set-attr remove-attr gstate is-used used-count recover remount""".split()
 
 

@@ -5,7 +5,6 @@
 mod bytes;
 mod copy;
 mod image;
-mod marking;
 
 pub use bytes::blocks_of_device_are_bytes;
 pub use copy::copy_block;
@@ -13,4 +12,3 @@ pub use image::{
     BlockFilling, FixtureEntries, beginning_of_block_with_superblock_and_commits,
     block_with_superblock_and_entries, image_with_first_two_blocks, image_with_second_commit,
 };
-pub use marking::mark_list_blocks_used;

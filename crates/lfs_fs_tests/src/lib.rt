@@ -1,5 +1,6 @@
 // SPDX-License-Identifier: BSD-3-Clause
-//! Tests of sessions whose device or memory fails, and of the lines of scripts.
+//! Tests of sessions whose device or memory fails, of images with limits of their own, of devices that
+//! know blank bytes, and of the lines of scripts.
 #![tactic(auto)]
 
 mod recovery;
@@ -8,6 +9,8 @@ pub use recovery::{recover_from_stop, rename_despite_stop};
 
 #[cfg(test)]
 mod answers;
+#[cfg(test)]
+mod blank_appends;
 #[cfg(test)]
 mod failed_sessions;
 #[cfg(test)]

@@ -1,158 +1,226 @@
 // Which lines of a script are commands, and why the others are refused.
 
-use lfs_script_lines::{CommandName, LineError, LineObjection, OperationName, read_line};
-use std::alloc::Global;
+use lfs_script_lines::{LineError, read_line};
+use std::alloc::{AllocError, Global};
 use std::test::Fail;
 
-const COMMAND: Result<bool, LineObjection> = Ok(true);
-
-const NOTHING: Result<bool, LineObjection> = Ok(false);
-
-const LINES: [(&str, Result<bool, LineObjection>); 74] = [
-    ("", NOTHING),
-    ("# list /", NOTHING),
-    (" # list /", NOTHING),
+const LINES: [(&str, &str); 81] = [
+    ("", "nothing"),
+    ("# list /", "nothing"),
+    (" # list /", "nothing"),
     // One space stands between words. Spaces around them and the end of the line don't count.
-    ("list /", COMMAND),
-    (" list /", COMMAND),
-    ("list  /", Err(LineObjection::Spaces)),
-    ("list / ", COMMAND),
-    ("list\t/", Err(LineObjection::Name)),
-    ("list /\r", COMMAND),
-    ("   ", NOTHING),
-    ("\r\n", NOTHING),
-    ("  #  \r\n", NOTHING),
-    ("list /\n", COMMAND),
-    ("list /\r\n", COMMAND),
-    ("  list /  \r\n", COMMAND),
+    ("list /", "a command"),
+    (" list /", "a command"),
+    ("list  /", "two spaces stand side by side"),
+    ("list / ", "a command"),
+    ("list\t/", "no command has this name (--help lists them)"),
+    ("list /\r", "a command"),
+    ("   ", "nothing"),
+    ("\r\n", "nothing"),
+    ("  #  \r\n", "nothing"),
+    ("list /\n", "a command"),
+    ("list /\r\n", "a command"),
+    ("  list /  \r\n", "a command"),
     // A CR counts where no newline is right behind it.
-    ("list /\r\r\n", Err(LineObjection::Spelling(1))),
     (
-        "list / \r \n",
-        Err(LineObjection::TooMany(CommandName::Perform(OperationName::List))),
+        "list /\r\r\n",
+        "word 2 is not spelled as bytes are (--help says how)",
     ),
-    ("list\r /", Err(LineObjection::Name)),
-    ("list /\n\n", Err(LineObjection::Spelling(1))),
+    ("list / \r \n", "too many words: list PATH"),
+    ("list\r /", "no command has this name (--help lists them)"),
+    (
+        "list /\n\n",
+        "word 2 is not spelled as bytes are (--help says how)",
+    ),
     // Each command has its name, and so many words behind it.
-    ("List /", Err(LineObjection::Name)),
-    (
-        "list",
-        Err(LineObjection::TooFew(CommandName::Perform(OperationName::List))),
-    ),
-    (
-        "list / /",
-        Err(LineObjection::TooMany(CommandName::Perform(OperationName::List))),
-    ),
-    ("save", Err(LineObjection::TooFew(CommandName::Save))),
-    ("calls 1", Err(LineObjection::TooMany(CommandName::Calls))),
-    (
-        "rename /a",
-        Err(LineObjection::TooFew(CommandName::Perform(OperationName::Rename))),
-    ),
-    (
-        "set-attr /a 41",
-        Err(LineObjection::TooFew(CommandName::Perform(OperationName::SetAttr))),
-    ),
+    ("List /", "no command has this name (--help lists them)"),
+    ("list", "too few words: list PATH"),
+    ("list / /", "too many words: list PATH"),
+    ("save", "too few words: save FILE"),
+    ("calls 1", "too many words: calls"),
+    ("rename /a", "too few words: rename OLD NEW"),
+    ("set-attr /a 41", "too few words: set-attr PATH TYPE BYTES"),
     (
         "set-attr /a 41 x y",
-        Err(LineObjection::TooMany(CommandName::Perform(OperationName::SetAttr))),
+        "too many words: set-attr PATH TYPE BYTES",
     ),
     // Numbers are decimal and below 2^32, and have no sign.
-    ("read 0 4294967295", COMMAND),
-    ("read 0 4294967296", Err(LineObjection::Number(2))),
-    ("read 0 1a", Err(LineObjection::Number(2))),
-    ("read 0 +1", Err(LineObjection::Number(2))),
-    ("read 0 -1", Err(LineObjection::Number(2))),
+    ("read 0 4294967295", "a command"),
+    (
+        "read 0 4294967296",
+        "word 3 is no decimal number up to 4294967295",
+    ),
+    ("read 0 1a", "word 3 is no decimal number up to 4294967295"),
+    ("read 0 +1", "word 3 is no decimal number up to 4294967295"),
+    ("read 0 -1", "word 3 is no decimal number up to 4294967295"),
     // Flags and the types of attributes are hexadecimal.
-    ("open /a 40a", COMMAND),
-    ("open /a 0x102", Err(LineObjection::Flags(2))),
-    ("get-attr /a ff", COMMAND),
-    ("get-attr /a 100", Err(LineObjection::Byte(2))),
+    ("open /a 40a", "a command"),
+    (
+        "open /a 0x102",
+        "word 3 is no hexadecimal number up to ffffffff",
+    ),
+    ("get-attr /a ff", "a command"),
+    (
+        "get-attr /a 100",
+        "word 3 is no hexadecimal number up to ff",
+    ),
     // Words for bytes, and how many times they are taken.
-    ("stat /\\x00\\xff", COMMAND),
-    ("stat /\\x0", Err(LineObjection::Spelling(1))),
-    ("stat /\\x0g", Err(LineObjection::Spelling(1))),
-    ("stat /\\n", Err(LineObjection::Spelling(1))),
-    ("stat /\\", Err(LineObjection::Spelling(1))),
-    ("stat /é", Err(LineObjection::Spelling(1))),
-    ("stat /\x7f", Err(LineObjection::Spelling(1))),
-    ("stat /\\e", Err(LineObjection::Spelling(1))),
-    ("stat *:/a", Err(LineObjection::Spelling(1))),
-    ("stat *2/a", Err(LineObjection::Spelling(1))),
-    ("stat *x:/a", Err(LineObjection::Spelling(1))),
+    ("stat /\\x00\\xff", "a command"),
+    (
+        "stat /\\x0",
+        "word 2 is not spelled as bytes are (--help says how)",
+    ),
+    (
+        "stat /\\x0g",
+        "word 2 is not spelled as bytes are (--help says how)",
+    ),
+    (
+        "stat /\\n",
+        "word 2 is not spelled as bytes are (--help says how)",
+    ),
+    (
+        "stat /\\",
+        "word 2 is not spelled as bytes are (--help says how)",
+    ),
+    (
+        "stat /é",
+        "word 2 is not spelled as bytes are (--help says how)",
+    ),
+    (
+        "stat /\x7f",
+        "word 2 is not spelled as bytes are (--help says how)",
+    ),
+    (
+        "stat /\\e",
+        "word 2 is not spelled as bytes are (--help says how)",
+    ),
+    (
+        "stat *:/a",
+        "word 2 is not spelled as bytes are (--help says how)",
+    ),
+    (
+        "stat *2/a",
+        "word 2 is not spelled as bytes are (--help says how)",
+    ),
+    (
+        "stat *x:/a",
+        "word 2 is not spelled as bytes are (--help says how)",
+    ),
     // What of two sessions is compared.
-    ("compare", COMMAND),
-    ("compare entries", COMMAND),
-    ("compare ff", COMMAND),
-    ("compare 100", Err(LineObjection::Byte(1))),
+    ("compare", "a command"),
+    ("compare entries", "a command"),
+    ("compare ff", "a command"),
+    ("compare 100", "word 2 is no hexadecimal number up to ff"),
     (
         "compare entries ff",
-        Err(LineObjection::TooMany(CommandName::Compare)),
+        "too many words: compare [TYPE | entries]",
     ),
-    (
-        "compare-with",
-        Err(LineObjection::TooFew(CommandName::CompareWith)),
-    ),
-    ("compare-with a.img", COMMAND),
+    ("compare-with", "too few words: compare-with FILE"),
+    ("compare-with a.img", "a command"),
     // What erases leave.
     (
         "fresh 4096 256",
-        Err(LineObjection::TooFew(CommandName::Fresh)),
+        "too few words: fresh B P N [longer-first | shorter-first] [fill XX | keep]",
     ),
-    ("fresh 4096 256 16 fill", Err(LineObjection::Options(4))),
-    ("fresh 4096 256 16 fill 100", Err(LineObjection::Byte(5))),
-    ("fresh 4096 256 16 keep 00", Err(LineObjection::Options(4))),
+    (
+        "fresh 4096 256 16 fill",
+        "from word 5 on there are no options of the command",
+    ),
+    (
+        "fresh 4096 256 16 fill 100",
+        "word 6 is no hexadecimal number up to ff",
+    ),
+    (
+        "fresh 4096 256 16 keep 00",
+        "from word 5 on there are no options of the command",
+    ),
     // Which of two names comes first.
-    ("fresh 4096 256 16 shorter-first", COMMAND),
-    ("fresh 4096 256 16 longer-first keep", COMMAND),
+    ("fresh 4096 256 16 shorter-first", "a command"),
+    ("fresh 4096 256 16 longer-first keep", "a command"),
     (
         "fresh 4096 256 16 keep longer-first",
-        Err(LineObjection::Options(4)),
+        "from word 5 on there are no options of the command",
     ),
-    ("fresh 4096 256 16 first", Err(LineObjection::Options(4))),
+    (
+        "fresh 4096 256 16 first",
+        "from word 5 on there are no options of the command",
+    ),
     (
         "image 4096 256",
-        Err(LineObjection::TooFew(CommandName::Image)),
+        "too few words: image B P FILE [fill XX | keep]",
     ),
-    ("image 4096 256 \\", Err(LineObjection::Spelling(3))),
+    (
+        "image 4096 256 \\",
+        "word 4 is not spelled as bytes are (--help says how)",
+    ),
     (
         "fresh 4096 256 16 longer-first fill 1g",
-        Err(LineObjection::Byte(6)),
+        "word 7 is no hexadecimal number up to ff",
     ),
     // Which call of a mounted device fails, and what it leaves.
-    ("mount program 1 torn 20", COMMAND),
-    ("mount any", Err(LineObjection::Options(1))),
-    ("mount write 1", Err(LineObjection::Options(1))),
-    ("mount any 1 whole stop", Err(LineObjection::Options(3))),
-    ("mount program 1 torn", Err(LineObjection::Options(3))),
+    ("mount program 1 torn 20", "a command"),
+    (
+        "mount any",
+        "from word 2 on there are no options of the command",
+    ),
+    (
+        "mount write 1",
+        "from word 2 on there are no options of the command",
+    ),
+    (
+        "mount any 1 whole stop",
+        "from word 4 on there are no options of the command",
+    ),
+    (
+        "mount program 1 torn",
+        "from word 4 on there are no options of the command",
+    ),
     (
         "mount program 1 torn 20 whole",
-        Err(LineObjection::Options(3)),
+        "from word 4 on there are no options of the command",
     ),
-    ("mount any x", Err(LineObjection::Number(2))),
-    ("mount any 1 stop torn 1", COMMAND),
+    (
+        "mount any x",
+        "word 3 is no decimal number up to 4294967295",
+    ),
+    ("mount any 1 stop torn 1", "a command"),
     (
         "mount any 1 stop torn 1 2",
-        Err(LineObjection::TooMany(CommandName::Mount)),
+        "too many words: mount [KIND N [stop] [torn K | whole]]",
+    ),
+    // Bytes of the device in hand.
+    ("put 0 0 \\x00", "a command"),
+    ("put 0 0 a keep", "a command"),
+    (
+        "put 0 0",
+        "too few words: put BLOCK OFFSET BYTES [fill XX | keep]",
+    ),
+    ("bytes 0 0 1", "a command"),
+    (
+        "bytes 0 0 x",
+        "word 4 is no decimal number up to 4294967295",
+    ),
+    ("format erase 2", "a command"),
+    (
+        "format erase",
+        "from word 2 on there are no options of the command",
     ),
 ];
 
-// Whether a line is a command, or why it is refused.
-fn outcome_of_script_line(
-    alloc: Global,
-    line: &str,
-) -> Result<Result<bool, LineObjection>, LineError> {
+// What is found of a line.
+fn line_verdict(alloc: Global, line: &str) -> Result<String, AllocError> {
     match read_line(alloc, line.as_bytes()) {
-        Ok(command) => Ok(Ok(command.is_some())),
-        Err(LineError::Refused(refusal)) => Ok(Err(refusal)),
-        Err(LineError::NoMemory) => Err(LineError::NoMemory),
+        Ok(Some(_)) => format!(in alloc; "a command"),
+        Ok(None) => format!(in alloc; "nothing"),
+        Err(LineError::Refused(reason)) => format!(in alloc; "{}", reason),
+        Err(LineError::NoMemory) => Err(AllocError),
     }
 }
 
 #[test]
-fn lines_are_commands_or_refused(rt: HostRuntime) -> Result<(), Fail> {
-    for (line, wanted) in LINES {
-        assert_eq!(rt; outcome_of_script_line(rt.alloc(), line)?, wanted, "{line}");
+fn lines_are_read(rt: HostRuntime) -> Result<(), Fail> {
+    for (line, verdict) in LINES {
+        assert_eq!(rt; line_verdict(rt.alloc(), line)?.as_str(), verdict, "{line}");
     }
     Ok(())
 }

@@ -1,7 +1,5 @@
 // Comparisons of sessions with others on bytes like those of their devices.
 
-ghost use Rattle.std.specs.Prelude.{◌≡◌, ◌<◌, ◌≤◌, ◌++◌, ◌∷◌, length, IfOk};
-
 use crate::hand::{Device, NO_FAULT, device_with_planned_fault};
 use lfs_device::{BlockDevice, Error, Geometry, RamDevice};
 use lfs_fs::{Item, Kind, OpenFlags, Reply, Session, mount};
@@ -79,10 +77,7 @@ fn path_of_name_in_directory(
     alloc: Global,
     directory: &[u8],
     name: &[u8],
-) -> Result<Vec<u8>, AllocError>
-    ensures root { length directory.now ≤ 1 → IfOk result (λ path. path.items ≡ 0x2f ∷ name.now) }
-    ensures deeper { 1 < length directory.now → IfOk result (λ path. path.items ≡ directory.now ++ 0x2f ∷ name.now) }
-{
+) -> Result<Vec<u8>, AllocError> {
     let mut path = Vec::new(alloc);
     if directory.len() > 1 {
         path.extend_from_slice(directory)?;

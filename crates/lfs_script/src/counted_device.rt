@@ -1,8 +1,5 @@
 // A device that counts the calls that fail.
 
-ghost use Rattle.std.specs.Prelude.{◌≡◌, ◌-◌, ◌^◌, min};
-ghost use Rattle.lfs_model.specs.History.{fault_count_of_history};
-
 use lfs_device::{BlockDevice, Error, Geometry};
 
 /// A device with the count of its calls that failed. The count saturates.
@@ -10,34 +7,24 @@ use lfs_device::{BlockDevice, Error, Geometry};
 pub struct DeviceWithCountedFaults<D: BlockDevice> {
     inner: D,
     failed: u64,
-    ghost counted: { failed ≡ min (fault_count_of_history (D.history inner)) (2 ^ 64 - 1) },
 }
 
 impl<D: BlockDevice> DeviceWithCountedFaults<D> {
-    pub fn new(inner: D) -> DeviceWithCountedFaults<D>
-        requires { fault_count_of_history (D.history inner) ≡ 0 }
-        ensures { result.inner ≡ inner }
-    {
+    pub fn new(inner: D) -> DeviceWithCountedFaults<D> {
         DeviceWithCountedFaults { inner, failed: 0 }
     }
 
     /// Borrows the device below.
-    pub fn inner(&self) -> &D
-        ensures { result.now ≡ self.now.inner }
-    {
+    pub fn inner(&self) -> &D {
         &self.inner
     }
 
-    pub fn into_inner(self) -> D
-        ensures { result ≡ self.inner }
-    {
+    pub fn into_inner(self) -> D {
         self.inner
     }
 
     /// Returns how many of the calls failed.
-    pub fn failed_calls(&self) -> u64
-        ensures { result ≡ min (fault_count_of_history (D.history self.now.inner)) (2 ^ 64 - 1) }
-    {
+    pub fn failed_calls(&self) -> u64 {
         self.failed
     }
 }

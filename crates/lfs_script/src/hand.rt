@@ -1,9 +1,5 @@
 // The device in hand, and the session over it.
 
-ghost use Rattle.std.specs.Prelude.{◌≡◌, ◌↔◌, [], IfSome, None};
-ghost use Rattle.lfs_device.specs.FaultDevice.{planned_fault_of_device, history_of_fault_device, inner_of_fault_device};
-ghost use Rattle.lfs_script.specs.Hands.{IsDeviceLeftBySession, call_counts_of_history};
-
 use crate::counted_device::DeviceWithCountedFaults;
 use lfs_device::{CountedCalls, FaultDevice, FaultExtent, PlannedFault, RamDevice};
 use lfs_fs::Session;
@@ -21,11 +17,7 @@ pub const NO_FAULT: PlannedFault = PlannedFault {
 };
 
 /// Counts the calls of the device from now on. One of them may fail.
-pub fn device_with_planned_fault(device: RamDevice, fault: PlannedFault) -> Device
-    ensures fault { planned_fault_of_device result.inner ≡ fault }
-    ensures device { inner_of_fault_device result.inner ≡ device }
-    ensures no_call { history_of_fault_device result.inner ≡ [] }
-{
+pub fn device_with_planned_fault(device: RamDevice, fault: PlannedFault) -> Device {
     let device = FaultDevice::new(device, fault.which, fault.nth, fault.stops);
     let device = match fault.extent {
         FaultExtent::Nothing => device,
@@ -45,11 +37,7 @@ pub enum ScriptDevice {
 
 impl ScriptDevice {
     /// Borrows the device in hand. A session's is as the last call left it.
-    pub fn device(&self) -> Option<&Device>
-        ensures none { (result ≡ None) ↔ (self.now ≡ ScriptDevice.Nothing) }
-        ensures device { IfSome result (λ found. (d : _) → self.now ≡ ScriptDevice.Device d → found.now ≡ d) }
-        ensures session { IfSome result (λ found. (s : _) → self.now ≡ ScriptDevice.Session s → IsDeviceLeftBySession s (inner_of_fault_device found.now.inner) (history_of_fault_device found.now.inner)) }
-    {
+    pub fn device(&self) -> Option<&Device> {
         match self {
             ScriptDevice::Nothing => None,
             ScriptDevice::Device(device) => Some(device),
@@ -58,23 +46,18 @@ impl ScriptDevice {
     }
 
     /// Returns the device in hand, and ends the session. Nothing is written.
-    pub fn into_device(self) -> Option<Device>
-        ensures none { (result ≡ None) ↔ (self ≡ ScriptDevice.Nothing) }
-        ensures device { IfSome result (λ found. (d : _) → self ≡ ScriptDevice.Device d → found ≡ d) }
-        ensures session { IfSome result (λ found. (s : _) → self ≡ ScriptDevice.Session s → IsDeviceLeftBySession s (inner_of_fault_device found.inner) (history_of_fault_device found.inner)) }
-    {
-        match self {
-            ScriptDevice::Nothing => None,
-            ScriptDevice::Device(device) => Some(device),
-            ScriptDevice::Session(session) => Some(session.unmount()),
-        }
+    pub fn into_device(self) -> Option<RamDevice> {
+        let device = match self {
+            ScriptDevice::Nothing => return None,
+            ScriptDevice::Device(device) => device,
+            ScriptDevice::Session(session) => session.unmount(),
+        };
+        Some(device.into_inner().into_inner())
     }
 }
 
 /// Returns how many calls a device had. Each count saturates.
-pub fn call_counts_of_device(device: &Device) -> DeviceCallCounts
-    ensures { result ≡ call_counts_of_history (history_of_fault_device device.now.inner) }
-{
+pub fn call_counts_of_device(device: &Device) -> DeviceCallCounts {
     DeviceCallCounts {
         reads: device.inner().calls(CountedCalls::Read),
         programs: device.inner().calls(CountedCalls::Program),

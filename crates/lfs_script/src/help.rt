@@ -18,6 +18,10 @@ Devices:
   unmount                   ends the session
   mount [KIND N [stop] [torn K | whole]]  mounts the device; its N-th call of
                             KIND (any, read, program, erase) fails
+  format [KIND N [stop] [torn K | whole]]  makes the device empty, likewise
+  put BLOCK OFFSET BYTES [fill XX | keep]  ends the session, and puts bytes
+                            over those of the device
+  bytes BLOCK OFFSET N      shows N bytes of the device
   save FILE                 writes the device's bytes to a file
   calls                     how many calls the device had
   compare [TYPE | entries]  compares the session with a fresh mount

@@ -5,9 +5,9 @@
 
 mod comparison;
 mod counted_device;
+mod files;
 mod hand;
 mod help;
-mod images;
 mod operation_calls;
 mod script;
 mod script_run;

@@ -1,20 +1,12 @@
 // The answers of a session to a script's operations.
 
-ghost use Rattle.std.specs.Prelude.{◌≡◌};
-ghost use Rattle.lfs_fs.specs.SessionView.{system_state_of_session_view};
-ghost use Rattle.lfs_fs.specs.OpView.{op_view};
-ghost use Rattle.lfs_script.specs.SessionAnswers.{IsSessionAnswerToOperation};
-ghost use Rattle.lfs_script.specs.OperationView.{operation_view};
-
 use lfs_device::BlockDevice;
 use lfs_fs::{Op, Session};
 use lfs_script_lines::{Answer, Operation};
 use std::alloc::Global;
 
 // Returns the session's operation.
-fn op_of_script_operation(operation: &Operation) -> Op<'_>
-    ensures { op_view result ≡ operation_view operation.now }
-{
+fn op_of_script_operation(operation: &Operation) -> Op<'_> {
     match operation {
         Operation::Open(path, flags) => Op::Open(path, *flags),
         Operation::Read(fd, count) => Op::Read(*fd, *count),
@@ -39,19 +31,6 @@ fn op_of_script_operation(operation: &Operation) -> Op<'_>
     }
 }
 
-// Performs an operation of the session.
-fn perform_op<D: BlockDevice>(alloc: Global, session: &mut Session<D>, op: Op<'_>) -> Answer
-    ensures { IsSessionAnswerToOperation (system_state_of_session_view session.old) (op_view op.entry) result (system_state_of_session_view session.new) }
-{
-    match session.run(alloc, &[op]) {
-        Ok(mut replies) => match replies.pop() {
-            Some(reply) => Answer::Reply(reply),
-            None => unreachable!(),
-        },
-        Err(error) => Answer::Error(error),
-    }
-}
-
 /// Performs an operation.
 ///
 /// The answer is the session's reply, a refusal among them, or the error by which the session failed.
@@ -59,8 +38,12 @@ pub fn perform_script_operation<D: BlockDevice>(
     alloc: Global,
     session: &mut Session<D>,
     operation: &Operation,
-) -> Answer
-    ensures { IsSessionAnswerToOperation (system_state_of_session_view session.old) (operation_view operation.now) result (system_state_of_session_view session.new) }
-{
-    perform_op(alloc, session, op_of_script_operation(operation))
+) -> Answer {
+    match session.run(alloc, &[op_of_script_operation(operation)]) {
+        Ok(mut replies) => match replies.pop() {
+            Some(reply) => Answer::Reply(reply),
+            None => Answer::Nothing,
+        },
+        Err(error) => Answer::Error(error),
+    }
 }

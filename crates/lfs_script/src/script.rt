@@ -1,37 +1,41 @@
 // The commands of a script on the device in hand.
 
-ghost use Rattle.std.specs.Prelude.{◌≡◌, IfErr, IfOk};
-ghost use Rattle.lfs_script.specs.Hands.{IsScriptStepOfComparisonStayingInSession, IsScriptStepOfUnmount, answer_with_device_call_counts, device_call_history_of_script};
-ghost use Rattle.lfs_script.specs.PerformedOperations.{IsScriptStepOfOperation};
-
 use crate::comparison::{compare_session_with_copy, compare_session_with_image};
+use crate::files::{read_file, write_file};
 use crate::hand::{
     Device, NO_FAULT, ScriptDevice, call_counts_of_device, device_with_planned_fault,
 };
-use crate::images::{blank_ram_device, ram_device_of_bytes, read_file, write_file};
 use crate::operation_calls::perform_script_operation;
-use lfs_device::{Erased, Error, PlannedFault, RamDevice};
+use lfs_device::{BlockDevice, Erased, Error, Geometry, PlannedFault, RamDevice};
 use lfs_fs::{Reply, Session, format_ordered, mount};
 use lfs_model::{NameOrder, Profile};
-use lfs_script_lines::{Answer, Command, ComparisonScope, Operation};
+use lfs_script_lines::{Answer, Command, ComparisonScope};
 use std::mem;
 use std::rt::Files;
 
-// Compares a session with one on a device that holds the bytes of a file.
-fn compare_session_with_file_bytes<R: Files + AllocGlobal>(
-    rt: &R,
-    session: &mut Session<Device>,
-    file: &[u8],
-) -> Answer {
-    match read_file(rt, file) {
-        Some(bytes) => compare_session_with_image(
-            rt.alloc(),
-            session,
-            ComparisonScope::Whole,
-            bytes,
-        ),
-        None => Answer::Input,
+// Returns the device of these bytes, with that profile.
+fn device_of_bytes(
+    bytes: Vec<u8>,
+    block_size: u32,
+    page: u32,
+    profile: Profile,
+) -> Result<RamDevice, Error> {
+    if block_size == 0 {
+        return Err(Error::Invalid);
     }
+    match u32::try_from(bytes.len() / block_size as usize) {
+        Ok(block_count) => {
+            let geometry = Geometry::new(block_size, page, block_count)?;
+            RamDevice::from_bytes(geometry.with_profile(profile), bytes)
+        }
+        Err(_) => Err(Error::Invalid),
+    }
+}
+
+// Returns where so many bytes from a byte of a block on are among all bytes.
+fn range_of_block_bytes(block_size: u32, block: u32, offset: u32, count: usize) -> (usize, usize) {
+    let start = (block_size as usize * block as usize).saturating_add(offset as usize);
+    (start, start.saturating_add(count))
 }
 
 /// The state of a script.
@@ -54,13 +58,10 @@ impl<'a, R: Files + AllocGlobal> Script<'a, R> {
     }
 
     // Takes a session in hand, or the device of an error.
-    fn store_session_or_device_after_mount_attempt(
+    fn take_session_or_device(
         &mut self,
         begun: Result<Session<Device>, (Device, Error)>,
-    ) -> Answer
-        ensures session { IfOk begun (λ s. (result ≡ Answer.Reply Reply.Done) × (self.new.hand ≡ ScriptDevice.Session s)) }
-        ensures device { IfErr begun (λ back. (result ≡ Answer.Error back.1) × (self.new.hand ≡ ScriptDevice.Device back.0)) }
-    {
+    ) -> Answer {
         match begun {
             Ok(session) => {
                 self.hand = ScriptDevice::Session(session);
@@ -73,63 +74,24 @@ impl<'a, R: Files + AllocGlobal> Script<'a, R> {
         }
     }
 
-    fn blank_device(
-        &self,
-        block_size: u32,
-        page: u32,
-        block_count: u32,
-    ) -> Result<RamDevice, Error> {
-        blank_ram_device(self.rt.alloc(), block_size, page, block_count, self.profile)
+    fn mount(&mut self, device: RamDevice, fault: PlannedFault) -> Answer {
+        let device = device_with_planned_fault(device, fault);
+        let begun = mount(self.rt.alloc(), device);
+        self.take_session_or_device(begun)
     }
 
-    fn format(
-        &mut self,
-        device: Result<RamDevice, Error>,
-        order: NameOrder,
-        erased: Erased,
-    ) -> Answer {
-        match device {
-            Ok(device) => {
-                let device = device_with_planned_fault(device.erased_as(erased), NO_FAULT);
-                self.store_session_or_device_after_mount_attempt(format_ordered(
-                    self.rt.alloc(),
-                    device,
-                    order,
-                ))
-            }
-            Err(error) => Answer::Error(error),
-        }
+    fn format(&mut self, device: RamDevice, order: NameOrder, fault: PlannedFault) -> Answer {
+        let device = device_with_planned_fault(device, fault);
+        let begun = format_ordered(self.rt.alloc(), device, order);
+        self.take_session_or_device(begun)
     }
 
-    fn mount_image_file_as_session(
-        &mut self,
-        file: &[u8],
-        block_size: u32,
-        page: u32,
-        erased: Erased,
-    ) -> Answer {
-        let Some(bytes) = read_file(self.rt, file) else {
-            return Answer::Input;
-        };
-        match ram_device_of_bytes(bytes, block_size, page, self.profile) {
-            Ok(device) => {
-                let device = device_with_planned_fault(device.erased_as(erased), NO_FAULT);
-                self.store_session_or_device_after_mount_attempt(mount(self.rt.alloc(), device))
-            }
-            Err(error) => Answer::Error(error),
-        }
+    // Ends the session, and takes its device out of hand.
+    fn take_device(&mut self) -> Option<RamDevice> {
+        mem::replace(&mut self.hand, ScriptDevice::Nothing).into_device()
     }
 
-    fn set_profile(&mut self, profile: Profile) -> Answer
-        ensures { (result ≡ Answer.Reply Reply.Done) × (self.new.profile ≡ profile) × (self.new.hand ≡ self.old.hand) }
-    {
-        self.profile = profile;
-        Answer::Reply(Reply::Done)
-    }
-
-    fn unmount(&mut self) -> Answer
-        ensures { IsScriptStepOfUnmount self.old.hand result self.new.hand }
-    {
+    fn unmount(&mut self) -> Answer {
         match mem::replace(&mut self.hand, ScriptDevice::Nothing) {
             ScriptDevice::Session(session) => {
                 self.hand = ScriptDevice::Device(session.unmount());
@@ -142,41 +104,85 @@ impl<'a, R: Files + AllocGlobal> Script<'a, R> {
         }
     }
 
-    fn mount(&mut self, fault: PlannedFault) -> Answer {
-        match mem::replace(&mut self.hand, ScriptDevice::Nothing).into_device() {
-            Some(device) => {
-                let device = device_with_planned_fault(device.into_inner().into_inner(), fault);
-                self.store_session_or_device_after_mount_attempt(mount(self.rt.alloc(), device))
+    fn fresh(
+        &mut self,
+        geometry: Result<Geometry, Error>,
+        order: NameOrder,
+        erased: Erased,
+    ) -> Answer {
+        let geometry = match geometry {
+            Ok(geometry) => geometry.with_profile(self.profile),
+            Err(error) => return Answer::Error(error),
+        };
+        match RamDevice::blank(self.rt.alloc(), geometry) {
+            Ok(device) => self.format(device.erased_as(erased), order, NO_FAULT),
+            Err(error) => Answer::Error(error),
+        }
+    }
+
+    fn image(&mut self, file: &[u8], block_size: u32, page: u32, erased: Erased) -> Answer {
+        let Some(bytes) = read_file(self.rt, file) else {
+            return Answer::Input;
+        };
+        match device_of_bytes(bytes, block_size, page, self.profile) {
+            Ok(device) => self.mount(device.erased_as(erased), NO_FAULT),
+            Err(error) => Answer::Error(error),
+        }
+    }
+
+    // Puts bytes over those of the device in hand. Its session ends.
+    fn put(&mut self, block: u32, offset: u32, more: &[u8], erased: Erased) -> Answer {
+        let Some(device) = self.take_device() else {
+            return Answer::Nothing;
+        };
+        let geometry = device.geometry();
+        let mut bytes = device.to_bytes();
+        let (start, end) = range_of_block_bytes(geometry.block_size, block, offset, more.len());
+        let answer = match bytes.as_mut_slice().get_mut(start..end) {
+            Some(place) => {
+                place.copy_from_slice(more);
+                Answer::Reply(Reply::Done)
             }
-            None => Answer::Nothing,
+            None => Answer::Error(Error::Invalid),
+        };
+        match RamDevice::from_bytes(geometry, bytes) {
+            Ok(device) => {
+                let device = device.erased_as(erased);
+                self.hand = ScriptDevice::Device(device_with_planned_fault(device, NO_FAULT));
+                answer
+            }
+            Err(error) => Answer::Error(error),
+        }
+    }
+
+    // Shows bytes of the device in hand.
+    fn bytes(&self, block: u32, offset: u32, count: u32) -> Answer {
+        let Some(device) = self.hand.device() else {
+            return Answer::Nothing;
+        };
+        let block_size = device.geometry().block_size;
+        let (start, end) = range_of_block_bytes(block_size, block, offset, count as usize);
+        let all = device.inner().inner().bytes();
+        match all.get(start..end) {
+            Some(bytes) => match Vec::from_slice(self.rt.alloc(), bytes) {
+                Ok(bytes) => Answer::Reply(Reply::Bytes(bytes)),
+                Err(_) => Answer::Error(Error::NoMemory),
+            },
+            None => Answer::Error(Error::Invalid),
         }
     }
 
     fn save(&self, file: &[u8]) -> Answer {
         match self.hand.device() {
-            Some(device) => {
-                if write_file(self.rt, file, device.inner().inner().bytes()) {
-                    Answer::Reply(Reply::Done)
-                } else {
-                    Answer::Output
-                }
+            Some(device) if write_file(self.rt, file, device.inner().inner().bytes()) => {
+                Answer::Reply(Reply::Done)
             }
+            Some(_) => Answer::Output,
             None => Answer::Nothing,
         }
     }
 
-    fn answer_call_counts(&self) -> Answer
-        ensures { result ≡ answer_with_device_call_counts (device_call_history_of_script self.now.hand) }
-    {
-        match self.hand.device() {
-            Some(device) => Answer::Calls(call_counts_of_device(device)),
-            None => Answer::Nothing,
-        }
-    }
-
-    fn compare_session_with_remounted_copy(&mut self, scope: ComparisonScope) -> Answer
-        ensures { IsScriptStepOfComparisonStayingInSession self.old.hand result self.new.hand }
-    {
+    fn compare(&mut self, scope: ComparisonScope) -> Answer {
         match &mut self.hand {
             ScriptDevice::Session(session) => compare_session_with_copy(
                 self.rt.alloc(),
@@ -187,43 +193,24 @@ impl<'a, R: Files + AllocGlobal> Script<'a, R> {
         }
     }
 
-    fn compare_session_with_image_file(&mut self, file: &[u8]) -> Answer
-        ensures { IsScriptStepOfComparisonStayingInSession self.old.hand result self.new.hand }
-    {
-        match &mut self.hand {
-            ScriptDevice::Session(session) => compare_session_with_file_bytes(
-                self.rt, session, file,
-            ),
-            _ => Answer::Nothing,
-        }
-    }
-
-    fn perform_operation_in_session(&mut self, operation: &Operation) -> Answer
-        ensures { IsScriptStepOfOperation self.old.hand operation.now result self.new.hand }
-    {
-        match &mut self.hand {
-            ScriptDevice::Session(session) => perform_script_operation(
-                self.rt.alloc(),
+    fn compare_with(&mut self, file: &[u8]) -> Answer {
+        let ScriptDevice::Session(session) = &mut self.hand else {
+            return Answer::Nothing;
+        };
+        let alloc = self.rt.alloc();
+        match read_file(self.rt, file) {
+            Some(bytes) => compare_session_with_image(
+                alloc,
                 session,
-                operation,
+                ComparisonScope::Whole,
+                bytes,
             ),
-            _ => Answer::Nothing,
+            None => Answer::Input,
         }
     }
 
-    /// Performs a command.
-    ///
-    /// An operation is one of the session. Without a session the answer to it, and to a comparison,
-    /// is `Nothing`. `Calls` and `Save` leave the device and the session, and so does `Profile`.
-    pub fn perform_command(&mut self, command: &Command) -> Answer
-        ensures performed { (op : _) → command.now ≡ Command.Perform op → IsScriptStepOfOperation self.old.hand op result self.new.hand }
-        ensures unmounted { command.now ≡ Command.Unmount → IsScriptStepOfUnmount self.old.hand result self.new.hand }
-        ensures calls { command.now ≡ Command.Calls → (result ≡ answer_with_device_call_counts (device_call_history_of_script self.old.hand)) × (self.new.hand ≡ self.old.hand) }
-        ensures compared { ((scope : _) → command.now ≡ Command.Compare scope → IsScriptStepOfComparisonStayingInSession self.old.hand result self.new.hand)
-            × ((file : _) → command.now ≡ Command.CompareWith file → IsScriptStepOfComparisonStayingInSession self.old.hand result self.new.hand) }
-        ensures profile { (given : _) → command.now ≡ Command.Profile given → (result ≡ Answer.Reply Reply.Done) × (self.new.profile ≡ given) × (self.new.hand ≡ self.old.hand) }
-        ensures saved { (file : _) → command.now ≡ Command.Save file → self.new.hand ≡ self.old.hand }
-    {
+    // Performs a command that makes, changes or shows a device.
+    fn perform_device_command(&mut self, command: &Command) -> Answer {
         match command {
             Command::Fresh {
                 block_size,
@@ -232,23 +219,65 @@ impl<'a, R: Files + AllocGlobal> Script<'a, R> {
                 order,
                 erased,
             } => {
-                let device = self.blank_device(*block_size, *page, *block_count);
-                self.format(device, *order, *erased)
+                let geometry = Geometry::new(*block_size, *page, *block_count);
+                self.fresh(geometry, *order, *erased)
             }
             Command::Image {
                 block_size,
                 page,
                 file,
                 erased,
-            } => self.mount_image_file_as_session(file, *block_size, *page, *erased),
-            Command::Profile(profile) => self.set_profile(*profile),
+            } => self.image(file, *block_size, *page, *erased),
+            Command::Put {
+                block,
+                offset,
+                bytes,
+                erased,
+            } => self.put(*block, *offset, bytes, *erased),
+            Command::Bytes {
+                block,
+                offset,
+                count,
+            } => self.bytes(*block, *offset, *count),
+            _ => Answer::Nothing,
+        }
+    }
+
+    /// Performs a command.
+    ///
+    /// An operation is one of the session. Without a session the answer to it, and to a comparison,
+    /// is `Nothing`.
+    pub fn perform_command(&mut self, command: &Command) -> Answer {
+        match command {
+            Command::Profile(profile) => {
+                self.profile = *profile;
+                Answer::Reply(Reply::Done)
+            }
             Command::Unmount => self.unmount(),
-            Command::Mount(fault) => self.mount(*fault),
+            Command::Mount(fault) => match self.take_device() {
+                Some(device) => self.mount(device, *fault),
+                None => Answer::Nothing,
+            },
+            Command::Format(fault) => match self.take_device() {
+                Some(device) => self.format(device, NameOrder::LongerFirst, *fault),
+                None => Answer::Nothing,
+            },
             Command::Save(file) => self.save(file),
-            Command::Calls => self.answer_call_counts(),
-            Command::Compare(scope) => self.compare_session_with_remounted_copy(*scope),
-            Command::CompareWith(file) => self.compare_session_with_image_file(file),
-            Command::Perform(operation) => self.perform_operation_in_session(operation),
+            Command::Calls => match self.hand.device() {
+                Some(device) => Answer::Calls(call_counts_of_device(device)),
+                None => Answer::Nothing,
+            },
+            Command::Compare(scope) => self.compare(*scope),
+            Command::CompareWith(file) => self.compare_with(file),
+            Command::Perform(operation) => match &mut self.hand {
+                ScriptDevice::Session(session) => perform_script_operation(
+                    self.rt.alloc(),
+                    session,
+                    operation,
+                ),
+                _ => Answer::Nothing,
+            },
+            command => self.perform_device_command(command),
         }
     }
 }

@@ -7,7 +7,7 @@ use std::io::{BufRead, ErrorKind, Write};
 use std::rt::Files;
 
 /// How a script ended.
-#[derive(Clone, Copy, Debug, PartialEq, Eq)]
+#[derive(Clone, Copy)]
 pub enum ScriptEnd {
     /// With its last line.
     Done,

@@ -4,7 +4,7 @@ use lfs_device::Error;
 use lfs_fs::Reply;
 
 /// How many calls a device had, with those that failed.
-#[derive(Clone, Copy, Debug, PartialEq, Eq)]
+#[derive(Clone, Copy)]
 pub struct DeviceCallCounts {
     pub reads: u64,
     pub programs: u64,

@@ -44,6 +44,22 @@ pub enum Command {
     Unmount,
     /// A session over the device in hand, one of whose calls will fail.
     Mount(PlannedFault),
+    /// The device in hand, made an empty file system. One of its calls will fail.
+    Format(PlannedFault),
+    /// These bytes over those of the device in hand, from a byte of a block on.
+    Put {
+        block: u32,
+        offset: u32,
+        bytes: Vec<u8>,
+        /// What its erases leave.
+        erased: Erased,
+    },
+    /// So many bytes of the device in hand, from a byte of a block on.
+    Bytes {
+        block: u32,
+        offset: u32,
+        count: u32,
+    },
     /// The device's bytes, into the file at a path.
     Save(Vec<u8>),
     /// How many calls the device had.

@@ -1,72 +1,80 @@
 // The options behind commands' names.
 
-ghost use Rattle.std.specs.Prelude.{◌≡◌, ◌+◌, ◌<◌, ◌≤◌, ◌∷◌, [], IfErr, IfNone, IsTrue, Ok, OnSome, drop, length};
-ghost use Rattle.lfs_script_lines.specs.Kinds.{Keyword, WordKind, NoOption, word_kinds_of_keyword_or_keyword_with_word, word_kinds_of_erased_option, word_kinds_of_fault_extent_option, word_kinds_of_fault_option, word_kinds_of_order_option, word_kinds_of_scope_option, word_kinds_of_stop_option, word_kind_of_call_named_to_fail};
-ghost use Rattle.lfs_script_lines.specs.Lines.{IsErrorOfWordsNotMatchingKinds, texts_of_borrowed_words};
-
-use crate::arguments::{
-    decimal_number_of_word_at, hex_byte_of_word_at, is_keyword, objection_to_option_word, word_at,
-};
+use crate::arguments::{byte_at, number_at, word_at};
 use crate::command::ComparisonScope;
 use crate::lines::LineError;
+use crate::refusal::LineObjection;
 use lfs_device::{CountedCalls, Erased, FaultExtent, PlannedFault};
-use lfs_model::NameOrder;
+use lfs_model::{AcceptedVersions, NameOrder, Profile};
+
+fn no_options(place: usize) -> LineError {
+    LineError::Refused(LineObjection::Options(place))
+}
+
+fn is_keyword(word: &[u8], keyword: &[u8]) -> bool {
+    word == keyword
+}
 
 // Returns how much of two sessions is compared.
-pub(crate) fn comparison_scope_of_words(words: &[&[u8]]) -> Result<ComparisonScope, LineError>
-    ensures { IfErr result (IsErrorOfWordsNotMatchingKinds (texts_of_borrowed_words words.now) 1 (word_kinds_of_scope_option (drop 1 (texts_of_borrowed_words words.now)))) }
-{
+pub(crate) fn scope_of_words(words: &[&[u8]]) -> Result<ComparisonScope, LineError> {
     if words.len() < 2 {
-        return Ok(ComparisonScope::Whole);
-    }
-    if is_keyword(word_at(words, 1), b"entries") {
+        Ok(ComparisonScope::Whole)
+    } else if is_keyword(word_at(words, 1), b"entries") {
         Ok(ComparisonScope::Entries)
     } else {
-        Ok(ComparisonScope::Kind(hex_byte_of_word_at(words, 1)?))
+        Ok(ComparisonScope::Kind(byte_at(words, 1)?))
     }
 }
 
-// Which of two options ends a line.
-#[derive(Clone, Copy)]
-enum ChosenOption {
-    Nothing,
-    // The keyword that stands alone.
-    Alone,
-    // The keyword with a word behind it.
-    Leading,
-}
-
-// Returns which of two options the words from a place on are. One is a keyword alone, the other a
-// keyword with a word behind it.
-fn choose_keyword_or_keyword_with_word(
-    words: &[&[u8]],
-    place: usize,
-    alone: &[u8],
-    leading: &[u8],
-) -> Result<ChosenOption, LineError>
-    requires { place ≤ length words.now }
-    ensures err { (kind : WordKind) → IfErr result (IsErrorOfWordsNotMatchingKinds (texts_of_borrowed_words words.now) place (word_kinds_of_keyword_or_keyword_with_word alone.now leading.now kind (drop place (texts_of_borrowed_words words.now)))) }
-    ensures leading { result ≡ Ok ChosenOption.Leading → (length words.now ≡ place + 2)
-        × ((kind : WordKind) → word_kinds_of_keyword_or_keyword_with_word alone.now leading.now kind (drop place (texts_of_borrowed_words words.now)) ≡ Keyword ∷ kind ∷ []) }
-{
-    let behind = words.len() - place;
-    if behind == 0 {
-        return Ok(ChosenOption::Nothing);
-    }
+// Returns what erases leave, by the words from a place on.
+pub(crate) fn erased_at(words: &[&[u8]], place: usize) -> Result<Erased, LineError> {
     let word = word_at(words, place);
-    if behind == 1 && is_keyword(word, alone) {
-        return Ok(ChosenOption::Alone);
+    match words.len().saturating_sub(place) {
+        0 => Ok(Erased::Fill(0xff)),
+        1 if is_keyword(word, b"keep") => Ok(Erased::Keep),
+        2 if is_keyword(word, b"fill") => Ok(Erased::Fill(byte_at(
+            words,
+            place.saturating_add(1),
+        )?)),
+        _ => Err(no_options(place)),
     }
-    if behind == 2 && is_keyword(word, leading) {
-        return Ok(ChosenOption::Leading);
+}
+
+// Returns the order of names and what erases leave, by the words from place 4 on. Without a word for
+// the order the longer names come first.
+pub(crate) fn order_and_erased(words: &[&[u8]]) -> Result<(NameOrder, Erased), LineError> {
+    let word = word_at(words, 4);
+    let is_shorter_first = is_keyword(word, b"shorter-first");
+    let order = if is_shorter_first {
+        NameOrder::ShorterFirst
+    } else {
+        NameOrder::LongerFirst
+    };
+    let place = if is_shorter_first || is_keyword(word, b"longer-first") {
+        5
+    } else {
+        4
+    };
+    let erased = erased_at(words, place)?;
+    Ok((order, erased))
+}
+
+// Returns what a failing call leaves, by the words from a place on.
+fn extent_at(words: &[&[u8]], place: usize) -> Result<FaultExtent, LineError> {
+    let word = word_at(words, place);
+    match words.len().saturating_sub(place) {
+        0 => Ok(FaultExtent::Nothing),
+        1 if is_keyword(word, b"whole") => Ok(FaultExtent::Whole),
+        2 if is_keyword(word, b"torn") => Ok(FaultExtent::FirstBytes(number_at(
+            words,
+            place.saturating_add(1),
+        )?)),
+        _ => Err(no_options(place)),
     }
-    Err(objection_to_option_word(words, place))
 }
 
 // Returns the kind of calls that a word names, if it names one.
-fn call_kind_of_word(word: &[u8]) -> Option<CountedCalls>
-    ensures { IfNone result (word_kind_of_call_named_to_fail word.now ≡ NoOption) }
-{
+fn call_kind_of_word(word: &[u8]) -> Option<CountedCalls> {
     if is_keyword(word, b"any") {
         Some(CountedCalls::Any)
     } else if is_keyword(word, b"read") {
@@ -80,61 +88,14 @@ fn call_kind_of_word(word: &[u8]) -> Option<CountedCalls>
     }
 }
 
-// Returns what a failing call leaves, by the words from a place on.
-fn extent(words: &[&[u8]], place: usize) -> Result<FaultExtent, LineError>
-    requires { place ≤ length words.now }
-    ensures { IfErr result (IsErrorOfWordsNotMatchingKinds (texts_of_borrowed_words words.now) place (word_kinds_of_fault_extent_option (drop place (texts_of_borrowed_words words.now)))) }
-{
-    match choose_keyword_or_keyword_with_word(words, place, b"whole", b"torn")? {
-        ChosenOption::Nothing => Ok(FaultExtent::Nothing),
-        ChosenOption::Alone => Ok(FaultExtent::Whole),
-        ChosenOption::Leading => Ok(FaultExtent::FirstBytes(decimal_number_of_word_at(
-            words,
-            place + 1,
-        )?)),
-    }
-}
-
-// A device none of whose calls fails.
-const NO_FAULT: PlannedFault = PlannedFault {
-    which: CountedCalls::Any,
-    nth: 0,
-    stops: false,
-    extent: FaultExtent::Nothing,
-};
-
-// Returns whether a failing call stops the device, by the word at place 3.
-fn stops(words: &[&[u8]]) -> bool
-    ensures stops { IsTrue result → (3 < length words.now) × (word_kinds_of_stop_option (drop 3 (texts_of_borrowed_words words.now)) ≡ Keyword ∷ word_kinds_of_fault_extent_option (drop 4 (texts_of_borrowed_words words.now))) }
-    ensures goes_on { ¬ IsTrue result → word_kinds_of_stop_option (drop 3 (texts_of_borrowed_words words.now)) ≡ word_kinds_of_fault_extent_option (drop 3 (texts_of_borrowed_words words.now)) }
-{
-    words.len() > 3 && is_keyword(word_at(words, 3), b"stop")
-}
-
-// Returns whether a failing call stops the device, and what it leaves, by the words from place 3 on.
-fn stop_and_extent_of_words(words: &[&[u8]]) -> Result<(bool, FaultExtent), LineError>
-    requires { 2 < length words.now }
-    ensures { IfErr result (IsErrorOfWordsNotMatchingKinds (texts_of_borrowed_words words.now) 3 (word_kinds_of_stop_option (drop 3 (texts_of_borrowed_words words.now)))) }
-{
-    if stops(words) {
-        let extent = extent(words, 4)?;
-        Ok((true, extent))
-    } else {
-        let extent = extent(words, 3)?;
-        Ok((false, extent))
-    }
-}
-
 // Returns at which call a device fails, by at least two words behind the command's name.
-fn planned_fault_of_given_words(words: &[&[u8]]) -> Result<PlannedFault, LineError>
-    requires { 2 < length words.now }
-    ensures { IfErr result (IsErrorOfWordsNotMatchingKinds (texts_of_borrowed_words words.now) 1 (word_kinds_of_fault_option (drop 1 (texts_of_borrowed_words words.now)))) }
-{
+fn given_fault(words: &[&[u8]]) -> Result<PlannedFault, LineError> {
     let Some(which) = call_kind_of_word(word_at(words, 1)) else {
-        return Err(objection_to_option_word(words, 1));
+        return Err(no_options(1));
     };
-    let nth = decimal_number_of_word_at(words, 2)?;
-    let (stops, extent) = stop_and_extent_of_words(words)?;
+    let nth = number_at(words, 2)?;
+    let stops = is_keyword(word_at(words, 3), b"stop");
+    let extent = extent_at(words, if stops { 4 } else { 3 })?;
     Ok(PlannedFault {
         which,
         nth: u64::from(nth),
@@ -143,65 +104,56 @@ fn planned_fault_of_given_words(words: &[&[u8]]) -> Result<PlannedFault, LineErr
     })
 }
 
-// Returns at which call a device fails.
-pub(crate) fn planned_fault_or_none(words: &[&[u8]]) -> Result<PlannedFault, LineError>
-    ensures { IfErr result (IsErrorOfWordsNotMatchingKinds (texts_of_borrowed_words words.now) 1 (word_kinds_of_fault_option (drop 1 (texts_of_borrowed_words words.now)))) }
-{
-    if words.len() < 2 {
-        return Ok(NO_FAULT);
-    }
-    if words.len() < 3 {
-        return Err(objection_to_option_word(words, 1));
-    }
-    planned_fault_of_given_words(words)
-}
-
-// Returns what a device's erases leave, by the words from a place on.
-pub(crate) fn erased(words: &[&[u8]], place: usize) -> Result<Erased, LineError>
-    requires { place ≤ length words.now }
-    ensures { IfErr result (IsErrorOfWordsNotMatchingKinds (texts_of_borrowed_words words.now) place (word_kinds_of_erased_option (drop place (texts_of_borrowed_words words.now)))) }
-{
-    match choose_keyword_or_keyword_with_word(words, place, b"keep", b"fill")? {
-        ChosenOption::Nothing => Ok(Erased::Fill(0xff)),
-        ChosenOption::Alone => Ok(Erased::Keep),
-        ChosenOption::Leading => Ok(Erased::Fill(hex_byte_of_word_at(words, place + 1)?)),
+// Returns at which call a device fails, if it does.
+pub(crate) fn fault_of_words(words: &[&[u8]]) -> Result<PlannedFault, LineError> {
+    match words.len() {
+        0 | 1 => Ok(PlannedFault {
+            which: CountedCalls::Any,
+            nth: 0,
+            stops: false,
+            extent: FaultExtent::Nothing,
+        }),
+        2 => Err(no_options(1)),
+        _ => given_fault(words),
     }
 }
 
-// Returns the order of names that the word at place 4 gives, if it gives one.
-fn name_order_of_words(words: &[&[u8]]) -> Option<NameOrder>
-    ensures given { OnSome result ((4 < length words.now) × (word_kinds_of_order_option (drop 4 (texts_of_borrowed_words words.now)) ≡ Keyword ∷ word_kinds_of_erased_option (drop 5 (texts_of_borrowed_words words.now)))) }
-    ensures missing { IfNone result (word_kinds_of_order_option (drop 4 (texts_of_borrowed_words words.now)) ≡ word_kinds_of_erased_option (drop 4 (texts_of_borrowed_words words.now))) }
-{
-    if words.len() <= 4 {
+// Returns the profile with another limit, if the word names one.
+fn with_limit(profile: Profile, name: &[u8], bytes: u32) -> Option<Profile> {
+    let mut profile = profile;
+    if is_keyword(name, b"name-max") {
+        profile.name_max = bytes;
+    } else if is_keyword(name, b"file-max") {
+        profile.file_max = bytes;
+    } else if is_keyword(name, b"attr-max") {
+        profile.attr_max = bytes;
+    } else if is_keyword(name, b"inline-max") {
+        profile.inline_max = bytes;
+    } else {
         return None;
     }
-    let word = word_at(words, 4);
-    if is_keyword(word, b"longer-first") {
-        Some(NameOrder::LongerFirst)
-    } else if is_keyword(word, b"shorter-first") {
-        Some(NameOrder::ShorterFirst)
-    } else {
-        None
-    }
+    Some(profile)
 }
 
-// Returns the order of names and what a device's erases leave, by the words from place 4 on. Without
-// a word for the order the longer names come first.
-pub(crate) fn name_order_and_erased_option(
-    words: &[&[u8]],
-) -> Result<(NameOrder, Erased), LineError>
-    requires { 3 < length words.now }
-    ensures { IfErr result (IsErrorOfWordsNotMatchingKinds (texts_of_borrowed_words words.now) 4 (word_kinds_of_order_option (drop 4 (texts_of_borrowed_words words.now)))) }
-{
-    match name_order_of_words(words) {
-        Some(order) => {
-            let erased = erased(words, 5)?;
-            Ok((order, erased))
-        }
-        None => {
-            let erased = erased(words, 4)?;
-            Ok((NameOrder::LongerFirst, erased))
+// Returns the profile that the words behind the command's name give.
+pub(crate) fn profile_of_words(words: &[&[u8]]) -> Result<Profile, LineError> {
+    let mut profile = Profile::new();
+    let mut is_number = false;
+    for place in 1..words.len() {
+        let word = word_at(words, place);
+        if is_number {
+            is_number = false;
+        } else if is_keyword(word, b"also-2.1") {
+            profile.versions = AcceptedVersions::AlsoTwoOne;
+        } else {
+            let behind = place.saturating_add(1);
+            if behind == words.len() || with_limit(profile, word, 0).is_none() {
+                return Err(no_options(place));
+            }
+            let bytes = number_at(words, behind)?;
+            profile = with_limit(profile, word, bytes).unwrap_or(profile);
+            is_number = true;
         }
     }
+    Ok(profile)
 }

@@ -1,73 +1,33 @@
 // The reasons for which lines are refused.
 
-use crate::names::CommandName;
 use std::fmt;
 
 /// The reason for which a line is no command. A place is that of a word: the command's name has 0.
-#[derive(Clone, Copy, Debug, PartialEq, Eq)]
+#[derive(Clone, Copy)]
 pub enum LineObjection {
-    /// Two spaces stand side by side.
-    Spaces,
-    /// The first word is no command's name.
-    Name,
-    /// The command takes more words.
-    TooFew(CommandName),
-    /// The command takes fewer words.
-    TooMany(CommandName),
-    /// The word at this place isn't a decimal number below 2^32.
-    Number(usize),
-    /// The word at this place isn't a hexadecimal number below 2^32.
-    Flags(usize),
-    /// The word at this place isn't a hexadecimal number below 256.
-    Byte(usize),
-    /// The word at this place has no bytes.
-    Spelling(usize),
+    /// What is wrong with the line.
+    Line(&'static str),
+    /// It has too few words or too many, and how the command is written.
+    Words(&'static str, &'static str),
+    /// The word at this place is no such thing.
+    Word(usize, &'static str),
     /// From this place on the words aren't options of the command.
     Options(usize),
-}
-
-// Returns the number of the word at a place, from 1 on.
-fn word_number_from_one(place: usize) -> usize {
-    place.saturating_add(1)
-}
-
-// Writes what the word at a place is instead of what is wanted.
-fn write_word_number_and_fault<W: fmt::Write>(
-    f: &mut fmt::Formatter<W>,
-    place: usize,
-    fault: &str,
-) -> fmt::Result {
-    write!(f, "word {} is {}", word_number_from_one(place), fault)
 }
 
 impl fmt::Display for LineObjection {
     fn fmt<W: fmt::Write>(&self, f: &mut fmt::Formatter<W>) -> fmt::Result {
         match self {
-            LineObjection::Spaces => write!(f, "two spaces stand side by side"),
-            LineObjection::Name => write!(f, "no command has this name (--help lists them)"),
-            LineObjection::TooFew(name) => write!(f, "too few words: {}", name.usage()),
-            LineObjection::TooMany(name) => write!(f, "too many words: {}", name.usage()),
-            LineObjection::Number(place) => {
-                write_word_number_and_fault(f, *place, "no decimal number up to 4294967295")
+            LineObjection::Line(fault) => write!(f, "{}", *fault),
+            LineObjection::Words(fault, usage) => write!(f, "{} words: {}", *fault, *usage),
+            LineObjection::Word(place, kind) => {
+                write!(f, "word {} is {}", place.saturating_add(1), *kind)
             }
-            LineObjection::Flags(place) => {
-                write_word_number_and_fault(f, *place, "no hexadecimal number up to ffffffff")
-            }
-            LineObjection::Byte(place) => write_word_number_and_fault(
+            LineObjection::Options(place) => write!(
                 f,
-                *place,
-                "no hexadecimal number up to ff",
+                "from word {} on there are no options of the command",
+                place.saturating_add(1)
             ),
-            LineObjection::Spelling(place) => {
-                write_word_number_and_fault(f, *place, "not spelled as bytes are (--help says how)")
-            }
-            LineObjection::Options(place) => {
-                write!(
-                    f,
-                    "from word {} on there are no options of the command",
-                    word_number_from_one(*place)
-                )
-            }
         }
     }
 }

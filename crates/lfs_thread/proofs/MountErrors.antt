@@ -10,7 +10,6 @@ use Rattle.lfs_model.specs.declared.violations.Violation.{Violation}
 use Rattle.lfs_model.proofs.BlockSets.{slice_get-set_other}
 use Rattle.lfs_thread.specs.Begun.{ArePairsBeforeAddress}
 use Rattle.lfs_thread.specs.MountErrors.{HasTrueThreadViolation, mount_error_of}
-use Rattle.lfs_thread.specs.declared.mount_error.MountError.TheVariants as mount
 
 -- ---- an error below
 

@@ -207,7 +207,7 @@ fn push_writable_line(text: &mut Vec<u8>, profile: WritingProfile) -> Result<(),
 }
 
 // Adds the lines of an accepted image.
-pub(crate) fn push_summary(
+fn push_summary(
     text: &mut Vec<u8>,
     summary: &ImageSummary,
     orders: AcceptedOrders,
@@ -283,7 +283,11 @@ pub(crate) fn push_slot_text(
 }
 
 // Adds the words for a pair.
-fn push_pair_message(text: &mut Vec<u8>, pair: [u32; 2], says: &str) -> Result<(), AllocError>
+pub(crate) fn push_pair_message(
+    text: &mut Vec<u8>,
+    pair: [u32; 2],
+    says: &str,
+) -> Result<(), AllocError>
     ensures { OnOk result (text.new.items ≡ text.old.items ++ (pair_text (pair_address_of_array pair) ++ says.now)) }
 {
     push_pair_text(text, pair)?;
@@ -329,7 +333,7 @@ fn push_no_image_of_given_sizes_text(
     )
 }
 
-pub(crate) fn push_unaccepted_reason(
+fn push_unaccepted_reason(
     text: &mut Vec<u8>,
     given: &GivenSizes,
     reason: &RefusalReason,

@@ -1,11 +1,10 @@
 // The lines that name entries.
 
-use crate::checked_lines::{push_quoted_name, push_slot_text, push_text};
+use crate::checked_lines::{push_pair_message, push_quoted_name, push_slot_text, push_text};
 use crate::owned_parts::{OwnedPair, OwnedSlot};
 use crate::places_in_pairs::{
     Place, ThreadSlots, branch_at, directory_at, places_in_directory, reached_places, slot_at,
 };
-use crate::violation_lines::push_pair_line;
 use lfs_lookup::OwnedStruct;
 use lfs_model::{NameOrder, Violation};
 use lfs_pair::is_same_pair;
@@ -187,7 +186,7 @@ fn push_loose_branch(
     to: [u32; 2],
 ) -> Result<(), AllocError> {
     push_place_line(text, pairs, place, " leads to ")?;
-    push_pair_line(text, to, ", where no directory begins")
+    push_pair_message(text, to, ", where no directory begins")
 }
 
 // Adds the first entry of a directory that leads to no directory.

@@ -1,6 +1,6 @@
 // Whether an image is accepted, and with what, or why not.
 
-ghost use Rattle.std.specs.Prelude.{◌≡◌, ◌↔◌, ◌⊎◌, IfErr, IfOk, IsTrue, false};
+ghost use Rattle.std.specs.Prelude.{◌≡◌, ◌≢◌, ◌↔◌, ◌⊎◌, IfErr, IfOk, IsTrue, false};
 ghost use Rattle.lfs_device.specs.RamDevice.{ram_blocks, geometry_of_ram_device};
 ghost use Rattle.lfs_device.specs.Shown.{disk_of_geometry_and_blocks};
 ghost use Rattle.lfs_model.specs.Disk.{disk_in_order};
@@ -81,28 +81,66 @@ fn rule_to_tell(longer: Violation, shorter: Violation) -> Violation
     }
 }
 
-// Returns the rule that the image of a device breaks. With longer names first it breaks the rule `longer`.
+// Returns the rule that the image of a device breaks. With longer names first it breaks the rule `longer`, and
+// a mount with shorter names first met this error.
+fn rule_by_both_orders(
+    alloc: Global,
+    device: RamDevice,
+    longer: Violation,
+    error: MountError,
+) -> Result<BrokenRule, Error>
+    requires longer { Breaks (disk_in_order LongerFirst (disk_of_geometry_and_blocks (geometry_of_ram_device device) (ram_blocks device))) longer }
+    requires shorter { (violation : Violation) → error ≡ MountError.Corrupt violation → Breaks (disk_in_order ShorterFirst (disk_of_geometry_and_blocks (geometry_of_ram_device device) (ram_blocks device))) violation }
+    requires no_fault { error ≢ MountError.Io }
+    ensures broken { IfOk result (λ rule. BreaksInSomeOrder (disk_of_geometry_and_blocks (geometry_of_ram_device device) (ram_blocks device)) rule.violation) }
+    ensures err { IfErr result (λ e. e ≡ Error.NoMemory) }
+{
+    match error {
+        MountError::Corrupt(shorter) => {
+            let rule = broken_rule(alloc, device, rule_to_tell(longer, shorter), shorter)?;
+            Ok(rule)
+        }
+        error => Err(error.into()),
+    }
+}
+
+// Returns the rule that the image of a device breaks. It is accepted in neither order of names, and with longer
+// names first it breaks the rule `longer`.
 fn broken_rule_of_device(
     alloc: Global,
     device: RamDevice,
     longer: Violation,
 ) -> Result<BrokenRule, Error>
     requires refused { IsAcceptedInNoNameOrder (disk_of_geometry_and_blocks (geometry_of_ram_device device) (ram_blocks device)) }
-    requires broken { Breaks (disk_in_order LongerFirst (disk_of_geometry_and_blocks (geometry_of_ram_device device) (ram_blocks device))) longer }
+    requires longer { Breaks (disk_in_order LongerFirst (disk_of_geometry_and_blocks (geometry_of_ram_device device) (ram_blocks device))) longer }
     ensures broken { IfOk result (λ rule. BreaksInSomeOrder (disk_of_geometry_and_blocks (geometry_of_ram_device device) (ram_blocks device)) rule.violation) }
     ensures err { IfErr result (λ e. e ≡ Error.NoMemory) }
 {
     match mount_in_order(alloc, device, NameOrder::ShorterFirst) {
         // The image is accepted in neither order.
         Ok(_thread) => unreachable!(),
-        Err((device, error)) => match error {
-            MountError::Corrupt(shorter) => {
-                let violation = rule_to_tell(longer, shorter);
-                let rule = broken_rule(alloc, device, violation, shorter)?;
-                Ok(rule)
-            }
-            _ => Err(error.into()),
-        },
+        Err((device, error)) => rule_by_both_orders(alloc, device, longer, error),
+    }
+}
+
+// Returns the verdict on the image of a device whose mount met this error.
+fn judge_refused_image(
+    alloc: Global,
+    device: RamDevice,
+    error: MountError,
+) -> Result<ImageVerdict, Error>
+    requires refused { (violation : Violation) → error ≡ MountError.Corrupt violation → IsAcceptedInNoNameOrder (disk_of_geometry_and_blocks (geometry_of_ram_device device) (ram_blocks device)) }
+    requires longer { (violation : Violation) → error ≡ MountError.Corrupt violation → Breaks (disk_in_order LongerFirst (disk_of_geometry_and_blocks (geometry_of_ram_device device) (ram_blocks device))) violation }
+    requires no_fault { error ≢ MountError.Io }
+    ensures verdict { IfOk result (IsVerdictOnDisk (disk_of_geometry_and_blocks (geometry_of_ram_device device) (ram_blocks device))) }
+    ensures err { IfErr result (λ e. e ≡ Error.NoMemory) }
+{
+    match error {
+        MountError::Corrupt(violation) => {
+            let rule = broken_rule_of_device(alloc, device, violation)?;
+            Ok(ImageVerdict::Refused(rule))
+        }
+        error => Err(error.into()),
     }
 }
 
@@ -132,12 +170,6 @@ pub fn judge_image_on_device(alloc: Global, device: RamDevice) -> Result<ImageVe
 {
     match mount(alloc, device) {
         Ok(thread) => judge_thread(alloc, thread),
-        Err((device, error)) => match error {
-            MountError::Corrupt(violation) => {
-                let rule = broken_rule_of_device(alloc, device, violation)?;
-                Ok(ImageVerdict::Refused(rule))
-            }
-            _ => Err(error.into()),
-        },
+        Err((device, error)) => judge_refused_image(alloc, device, error),
     }
 }

@@ -1,11 +1,10 @@
 // The lines of files' lists.
 
-use crate::checked_lines::{push_labelled_number, push_text};
+use crate::checked_lines::{push_labelled_number, push_pair_message, push_text};
 use crate::entry_lines::{push_place, push_place_line};
 use crate::owned_parts::OwnedPair;
 use crate::places_in_pairs::{Place, ThreadSlots, all_places, place_at, slot_at};
 use crate::verdict::BrokenRule;
-use crate::violation_lines::push_pair_line;
 use lfs_ctz::walk;
 use lfs_device::{Error, RamDevice};
 use lfs_lookup::OwnedStruct;
@@ -72,7 +71,7 @@ fn push_pair_and_file(
     for pair in pairs {
         if pair.at.contains(&block) {
             push_text(text, ": in ")?;
-            push_pair_line(text, pair.at, " and in a file, ")?;
+            push_pair_message(text, pair.at, " and in a file, ")?;
             push_place(text, pairs, place)?;
             return Ok(true);
         }

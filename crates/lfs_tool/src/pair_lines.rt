@@ -1,9 +1,9 @@
 // The lines of a thread that can't be followed.
 
 use crate::checked_lines::{
-    push_labelled_number, push_quoted_name, push_slot_text, push_text, push_two_labelled_numbers,
+    push_labelled_number, push_pair_message, push_quoted_name, push_slot_text, push_text,
+    push_two_labelled_numbers,
 };
-use crate::violation_lines::push_pair_line;
 use lfs_device::{BlockDevice, Error, RamDevice, read_block};
 use lfs_pair::{Pair, fetch};
 use lfs_tag::{Content, ContentError, Log, Slot, is_revision_later_than};
@@ -119,7 +119,7 @@ fn push_log_flaw(
 ) -> Result<(), Error> {
     match Content::read(alloc, &Log::read(block)) {
         Ok(content) => push_first_incomplete_slot(text, pair, &content.slots)?,
-        Err(ContentError::Malformed) => push_pair_line(
+        Err(ContentError::Malformed) => push_pair_message(
             text,
             pair,
             ": its log has an entry that may not stand there",
@@ -145,6 +145,6 @@ pub(crate) fn push_no_content_line(
     let second = read_block(alloc, device, second)?;
     match current_block(&first, &second) {
         Some(block) => push_log_flaw(alloc, text, pair, block),
-        None => Ok(push_pair_line(text, pair, ": no commit with a right checksum")?),
+        None => Ok(push_pair_message(text, pair, ": no commit with a right checksum")?),
     }
 }

@@ -5,7 +5,8 @@ ghost use Rattle.std.specs.Prelude.{◌≡◌, IfErr, IfOk};
 
 use crate::check_result::GivenSizes;
 use crate::checked_lines::{
-    push_labelled_number, push_pair_text, push_text, push_wrong_superblock_number_text,
+    push_labelled_number, push_pair_message, push_pair_text, push_text,
+    push_wrong_superblock_number_text,
 };
 use crate::entry_lines::{
     push_branch_line, push_entry_line, push_names_line, push_place_line, push_two_paths_line,
@@ -30,16 +31,6 @@ const NO_SUPERBLOCK: &str = "superblock: the root directory doesn't begin with o
 const OTHER_FIRST_ENTRY: &str = ": its log doesn't begin with the superblock's name";
 
 const NO_PATH: &str = ": no path leads to its directory, and the sync bit is clear";
-
-// Adds a pair, and what is said of it.
-pub(crate) fn push_pair_line(
-    text: &mut Vec<u8>,
-    pair: [u32; 2],
-    says: &str,
-) -> Result<(), AllocError> {
-    push_pair_text(text, pair)?;
-    push_text(text, says)
-}
 
 fn push_out_of_range_line(
     text: &mut Vec<u8>,
@@ -70,7 +61,7 @@ fn push_superblock_numbers(
     slot: &OwnedSlot,
 ) -> Result<(), AllocError> {
     let Some(fields) = superblock_fields_of_struct(&slot.structure) else {
-        return push_pair_line(&mut rule.line, at, ", slot 0: no superblock's struct");
+        return push_pair_message(&mut rule.line, at, ", slot 0: no superblock's struct");
     };
     let given = given_sizes(geometry);
     let versions = geometry.profile.versions;
@@ -80,7 +71,7 @@ fn push_superblock_numbers(
         versions,
         &fields,
     );
-    push_pair_line(&mut rule.line, at, ", ")?;
+    push_pair_message(&mut rule.line, at, ", ")?;
     match rule.stated {
         Some(stated) => push_wrong_superblock_number_text(&mut rule.line, &given, stated),
         None => Ok(()),
@@ -128,7 +119,7 @@ fn push_other_superblock_line(
     pairs: &[OwnedPair],
     at: [u32; 2],
 ) -> Result<(), AllocError> {
-    push_pair_line(text, at, ", superblock: another one than in ")?;
+    push_pair_message(text, at, ", superblock: another one than in ")?;
     push_pair_text(text, first_with_slots(pairs).unwrap_or(at))
 }
 
@@ -213,10 +204,10 @@ fn push_plain_line(
 ) -> Result<bool, AllocError> {
     match violation {
         Violation::OutOfRange { pair } => push_out_of_range_line(text, pair, count)?,
-        Violation::OneBlock { pair } => push_pair_line(text, pair, ": one block twice")?,
+        Violation::OneBlock { pair } => push_pair_message(text, pair, ": one block twice")?,
         Violation::NoSuperblock => push_text(text, NO_SUPERBLOCK)?,
-        Violation::FirstEntry { pair } => push_pair_line(text, pair, OTHER_FIRST_ENTRY)?,
-        Violation::NoPath { pair } => push_pair_line(text, pair, NO_PATH)?,
+        Violation::FirstEntry { pair } => push_pair_message(text, pair, OTHER_FIRST_ENTRY)?,
+        Violation::NoPath { pair } => push_pair_message(text, pair, NO_PATH)?,
         _ => return Ok(false),
     }
     Ok(true)

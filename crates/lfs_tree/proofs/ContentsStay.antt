@@ -10,6 +10,7 @@ use Rattle.lfs_model.proofs.Counts.{each_counted, each_from_counted}
 use Rattle.lfs_model.proofs.Files.{Same, back_same, bytes_same, chain_same, data_same, list_same}
 use Rattle.lfs_model.proofs.Counts.{Each}
 use Rattle.std.proofs.lemmas.List.Elements.{recursion_from_All}
+use Rattle.lfs_ctz.specs.Known.{AreKnownListBlocks}
 use Rattle.lfs_ctz.specs.Growing.{GrowingList, AreLastBytesAtLocation, IsSameListOnLaterDisk, bytes_of_growing_list, data_of_list_blocks, blocks_kept_when_growing, block_after_full_blocks, unwritten_block_after_full_blocks, unwritten_block_of_list, growing_list_size_with_block_size}
 use Rattle.lfs_ctz.specs.declared.rest.RestLocation.{RestLocation}
 use Rattle.lfs_ctz.specs.declared.rest.RestLocation.TheVariants.{Closed, Shared, Handed, Held}
@@ -119,7 +120,7 @@ module _ (map later : BlockStateList) (d e : Blocks) (block_size : ℕ) (g : Gro
 
   pub hand_still : IsSameListOnLaterDisk d e g
   hand_still = record {
-    growing = record { chain = chain_same d e g.full g.head stay.count full_same hand.begun.growing.chain; stand = rest_still g.stand hand.own hand.begun.growing.stand };
+    growing = record { chain = chain_same d e g.full g.head stay.count full_same hand.begun.growing.chain; known = subst (λ (l : List ℕ). AreKnownListBlocks l g.known) (sym full_back) hand.begun.growing.known; stand = rest_still g.stand hand.own hand.begun.growing.stand };
     content = ap (λ (l : List ℕ). l ++ g.rest) (ap (data_of_list_blocks e) full_back ∙ data_same d e 0 (list_blocks_from_head d g.full g.head) full_same);
     kept = ap (λ (l : List ℕ). l ++ unwritten_block_of_list g) full_back;
     blocks = ap (λ (l : List ℕ). l ++ block_after_full_blocks g.stand) full_back;

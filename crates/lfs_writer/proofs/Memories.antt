@@ -129,6 +129,7 @@ held_pending g held = pending_held g.stand held.held
 pub held_growing : (disk : Blocks) (g : GrowingList) → HasAllBytesInBuffer g → HasGrowingListOnDisk disk g
 held_growing disk g held = record {
   chain = subst (λ n. AreListBlocks disk n g.head) (sym held.none) (none_chain disk g.head);
+  known = λ row lt small within. absurd (omega (arith, within, ap (λ n. length (list_blocks_from_head disk n g.head)) held.none));
   stand = never g.stand g.full held.held held.none disk g.head g.rest;
 }
 

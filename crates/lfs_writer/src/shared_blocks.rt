@@ -1,6 +1,6 @@
 // The blocks that two lists share.
 
-ghost use Rattle.std.specs.Prelude.{◌≡◌, ◌≤◌, ◌<◌, ◌+◌, ◌-◌, slice_index, IfOk, OnOk};
+ghost use Rattle.std.specs.Prelude.{◌≡◌, ◌≤◌, ◌<◌, ◌+◌, ◌-◌, min, slice_index, IfOk, OnOk};
 ghost use Rattle.lfs_device.specs.Calls.{ReadsOnly};
 ghost use Rattle.lfs_model.specs.History.{read_count_of_history};
 ghost use Rattle.lfs_model.specs.SkipLists.{AreListBlocks, list_blocks_from_head};
@@ -36,7 +36,8 @@ fn list_block_before_index<D: BlockDevice>(
 /// Returns how many blocks two lists share at their beginnings. Each list has so many blocks, up to
 /// its head.
 ///
-/// The call takes one read for each block that the lists don't share.
+/// The call takes one read for each block that the lists don't share, and none where one of them has
+/// no block.
 ///
 /// Errors: `Io` where the device failed.
 pub(crate) fn shared_block_count<D: BlockDevice>(
@@ -53,8 +54,12 @@ pub(crate) fn shared_block_count<D: BlockDevice>(
     ensures reports { ReportsNoErrorButIo D.BlockDevice dev.old dev.new result }
     ensures few { IfOk result (λ n. read_count_of_history (D.history dev.new) ≤ read_count_of_history (D.history dev.old)
         + count_of_unshared_blocks_in_both_lists (list_blocks_from_head (D.blocks dev.old) count head) (list_blocks_from_head (D.blocks dev.old) other_count other) n) }
+    ensures none { min count other_count ≡ 0 → read_count_of_history (D.history dev.new) ≡ read_count_of_history (D.history dev.old) }
 {
     let mut index = count.min(other_count);
+    if index == 0 {
+        return Ok(0);
+    }
     let mut block = list_block_before_index(dev, head, count, index)?;
     let mut twin = list_block_before_index(dev, other, other_count, index)?;
     'sharing: while index > 0 {

@@ -16,6 +16,11 @@ at_same d e count head index block same is some = is some ∙ ap (λ (x : Blocks
 pub returns-in_err-twin-clause-device : goal.returns-in_err-twin-clause-device
 returns-in_err-twin-clause-device g c = read_on g.D.BlockDevice c.list_block_before_index.ensures.device c.list_block_before_index-2.ensures.device
 
+pub returns-then-index-eq0-clause-shared : goal.returns-then-index-eq0-clause-shared
+returns-then-index-eq0-clause-shared g c =
+    let none = c.min-index.ensures in
+    is_shared (g.D.BlockDevice.blocks c.args.dev.now) c.args.count c.args.head c.args.other_count c.args.other c.requires.chain c.requires.other 0 (omega arith) (omega arith) (λ some. absurd (omega arith)) (λ low high. absurd (omega arith))
+
 pub sharing-init : goal.sharing-init
 sharing-init g c =
     let d : Blocks = g.D.BlockDevice.blocks c.args.dev.now in

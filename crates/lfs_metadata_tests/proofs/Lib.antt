@@ -1,3 +1,0 @@
-pub mod Looked
-pub mod Ready
-pub mod Tailed

@@ -1,4 +1,0 @@
-pub mod SessionAnswers
-pub mod Hands
-pub mod OperationView
-pub mod PerformedOperations

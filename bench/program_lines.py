@@ -4,7 +4,8 @@
 usage: program_lines.py [SCRIPT] [TOOL]
 
 SCRIPT is a built lfs_script, TOOL a built mklittlefs; without them those that `rt run` left in the crates' `out` are taken. Each row
-is run in a folder of its own: the words, standard input, and the status, output and errors that have to come. Run as root, a row
+is run in a folder of its own: the words, standard input, and the status, output and errors that have to come; tool_runs.py has more
+rows of mklittlefs, with the files that have to be there then. Run as root, a row
 with a file that can't be read is run as another user. Prints each row that differs, and how many didn't. Fails where one does.
 """
 import os
@@ -12,6 +13,8 @@ import shutil
 import subprocess
 import sys
 import tempfile
+
+import tool_runs
 
 HERE = os.path.dirname(os.path.abspath(__file__))
 FRESH = "fresh 4096 256 16\n"
@@ -107,6 +110,7 @@ def tool_rows(tool, folder):
     yield "the old image stays", (run(tool, ["-c", "both", *sizes, "x.img"], "", folder)[0], os.stat(folder + "/x.img").st_ino), (1, before)
     yield "a check", run(tool, ["--check", "x.img"], "", folder)[1].splitlines()[:3], ["ok", "files 1", "directories 0"]
     yield from limit_rows(tool, folder)
+    yield from tool_runs.rows(tool, folder)
 
 
 def limit_rows(tool, folder):

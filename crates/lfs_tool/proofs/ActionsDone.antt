@@ -11,8 +11,7 @@ use Rattle.lfs_lookup.specs.Items.{owned_struct_view}
 use Rattle.lfs_lookup.specs.Walk.{tree_item_view, tree_items_view}
 use Rattle.lfs_lookup.specs.declared.walks.TreeItem.{TreeItem}
 use Rattle.lfs_tool_folders.specs.Actions.{AddsAction}
-use Rattle.lfs_tool.specs.AmountsTold.{ProgressCall, amounts_of_tree_items, told_of_first_n_done}
-use Rattle.lfs_tool.specs.Unpackings.{HaveWellFormedSkipLists, HasDoneTheseFurtherUnpackingActions, IsToldOfBeginningOfTreeItems, unpacking_action_for_tree_entry, unpacking_actions_for_tree_entries}
+use Rattle.lfs_tool.specs.Unpackings.{HaveWellFormedSkipLists, HasDoneBeginningOfUnpackingActions, HasDoneTheseFurtherUnpackingActions, unpacking_action_for_tree_entry, unpacking_actions_for_tree_entries}
 
 list_of : (disk : Disk) (items : List TreeItem) (i : ℕ) (d : TreeItem) → HaveWellFormedSkipLists disk (tree_items_view items) → i < length items → IsSkipListIfCtzStruct disk (owned_struct_view (get_or items i d).structure)
 list_of disk [] i d h l = absurd (omega arith)
@@ -52,10 +51,10 @@ actions_take disk [] (suc i) = refl
 actions_take disk (x ∷ xs) zero = refl
 actions_take disk (x ∷ xs) (suc i) = ap (λ more. unpacking_action_for_tree_entry disk (tree_item_view x) ∷ more) (actions_take disk xs i)
 
-pub begun_item : (disk : Disk) (items : List TreeItem) (i : ℕ) (first mid last : Option (List UnpackingAction)) (old new : Option (List ProgressCall)) → HasDoneTheseFurtherUnpackingActions first mid (unpacking_actions_for_tree_entries disk (tree_items_view (take i items))) → last ≡ mid
-    → new ≡ told_of_first_n_done i (amounts_of_tree_items items) old → IsToldOfBeginningOfTreeItems disk items first last old new
-begun_item disk items i first mid last old new h same told =
-    (i, (subst (HasDoneTheseFurtherUnpackingActions first last) (sym (actions_take disk items i)) (subst (λ o. HasDoneTheseFurtherUnpackingActions first o (unpacking_actions_for_tree_entries disk (tree_items_view (take i items)))) (sym same) h), told))
+pub begun_item : (disk : Disk) (items : List TreeItem) (i : ℕ) (first mid last : Option (List UnpackingAction)) → HasDoneTheseFurtherUnpackingActions first mid (unpacking_actions_for_tree_entries disk (tree_items_view (take i items))) → last ≡ mid
+    → HasDoneBeginningOfUnpackingActions first last (unpacking_actions_for_tree_entries disk (tree_items_view items))
+begun_item disk items i first mid last h same =
+    (i, subst (HasDoneTheseFurtherUnpackingActions first last) (sym (actions_take disk items i)) (subst (λ o. HasDoneTheseFurtherUnpackingActions first o (unpacking_actions_for_tree_entries disk (tree_items_view (take i items)))) (sym same) h))
 
 pub at_error : {X E : Type 0} (r : Result X E) (P : Type 0) → P → OnErr r P
 at_error (Ok x) P h = tt

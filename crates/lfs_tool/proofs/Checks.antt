@@ -1,5 +1,5 @@
 -- What is checked of the bytes that were read.
-use Rattle.std.proofs.Common.{◌≡◌, ◌∙◌, ◌++◌, ◌<◌, ◌≤◌, ℕ, List, Option, Some, None, ap, append_assoc, arith, length, refl, subst, take}
+use Rattle.std.proofs.Common.{◌≡◌, ◌∙◌, ◌<◌, ◌≤◌, ℕ, List, Option, Some, None, ap, arith, length, refl, subst, take}
 use Rattle.std.specs.Prelude.{IfSome}
 use Rattle.std.proofs.lemmas.List.{length-take, take_all}
 use Rattle.lfs_tool.specs.declared.image_layout.ImageLayout.{ImageLayout}
@@ -19,10 +19,6 @@ number_or_none layout image None found none fits = λ short. none refl
 number_or_none layout image (Some number) found none fits = (fits, found)
 
 -- ---- bytes that were read
-
--- one text behind another
-pub onto : (before between after a b : List ℕ) → between ≡ before ++ a → after ≡ between ++ b → after ≡ before ++ (a ++ b)
-onto before between after a b first second = second ∙ ap (λ (x : List ℕ). x ++ b) first ∙ append_assoc before a b
 
 all_there : (bytes items : List ℕ) → items ≡ take most bytes → length items ≤ 268435456 → items ≡ bytes
 all_there bytes items read short = read ∙ take_all most bytes (omega (arith, ap length read, length-take most bytes))

@@ -1,6 +1,6 @@
 -- From a run of a source's operations to the image that it leaves.
-use Rattle.std.proofs.Common.{ℕ, ◌≡◌, ◌∙◌, ◌≤◌, ◌+◌, ◌*◌, ◌/◌, ◌%◌, List, [], ◌∷◌, length, Option, Some, None, ap, ap₂, arith, false, inr, subst, sym, flat_map}
-use Rattle.std.specs.Prelude.{Err, IfErr, IfSome, IsErrAnd, Ok, OnErr, Result, ◌≢◌}
+use Rattle.std.proofs.Common.{ℕ, ◌≡◌, ◌∙◌, ◌≤◌, ◌+◌, ◌*◌, ◌/◌, ◌%◌, List, length, Option, Some, None, ap, ap₂, arith, false, subst, sym, flat_map}
+use Rattle.std.specs.Prelude.{Err, IfErr, IfSome, IsErrAnd, Ok, Result, ◌≢◌}
 use Rattle.lfs_device.specs.declared.error.Error.{Error}
 use Rattle.lfs_device.specs.declared.error.Error.TheVariants.{NoMemory}
 use Rattle.std.proofs.lemmas.Nat.{div-mul-add, mod-mul-add}
@@ -15,8 +15,7 @@ use Rattle.lfs_model.specs.Disk.{Disk, SameGeometry, block_count, disk_in_order,
 use Rattle.lfs_model.specs.Fresh.{IsFreshDisk, empty_tree}
 use Rattle.lfs_model.specs.Geometry.{IsValidGeometry}
 use Rattle.lfs_model.specs.Headline.{IsDiskWritableAndRecovered, IsSessionHealthyWithDiskTree, session_after_operations}
-use Rattle.lfs_model.specs.Operations.{Operation, Reply}
-use Rattle.lfs_model.specs.Run.{AreSessionSteps, SystemState}
+use Rattle.lfs_model.specs.Run.{SystemState}
 use Rattle.lfs_model.specs.Session.{Session}
 use Rattle.lfs_model.specs.Source.{IsTreeMadeFromSource, TreeSource}
 use Rattle.lfs_model.specs.State.{HasFailed, Healthy, SessionHealth, is_remount_operation, session_after_mount}
@@ -31,11 +30,8 @@ use Rattle.lfs_model.proofs.Uniqueness.{one_thread}
 use Rattle.lfs_fs.specs.SessionView.{SessionView, system_state_of_session_view}
 use Rattle.lfs_tool_folders.specs.Entries.{AreAllEntriesOfSource}
 use Rattle.lfs_tool_folders.specs.declared.entries.SourceEntry.{SourceEntry}
-use Rattle.lfs_tool.specs.AmountsTold.{ProgressCall, amounts_of_entries, told_of_all_done}
 use Rattle.lfs_tool.specs.AppliedOperations.{AreOperationsApplied, IsFirstRefusalAmongOperations, copying_operations_of_entry, copying_operations_of_entries}
-use Rattle.lfs_tool.specs.MadeImages.{AreImageBytesOfEntries, IsToldOfCopyBeforeError, IsToldOfEntriesBeforeError, IsToldOfEntriesCopied, SessionBeginsOnFreshDisk, IsImageOfSource, RefusesCopyOfEntries}
-use Rattle.lfs_tool.specs.declared.errors.ToolError.{ToolError}
-use Rattle.lfs_tool.specs.declared.errors.ToolError.TheVariants.{Fs, Input, Output}
+use Rattle.lfs_tool.specs.MadeImages.{AreImageBytesOfEntries, SessionBeginsOnFreshDisk, IsImageOfSource, RefusesCopyOfEntries}
 use Rattle.lfs_tool.proofs.Growing.{carried_tree, tree_after}
 use Rattle.lfs_fs.proofs.StepShapes.{steps_keep_order, steps_keep_shape}
 use Rattle.lfs_tool.proofs.Refusing.{IsFromFresh, anywhere, comes, has_carried, no_remount}
@@ -145,16 +141,3 @@ refused (Err f) e g o from es is b h = λ other. record { from = from; begins = 
 
 pub passed : (g : Geometry) (o : NameOrder) (es slice : List SourceEntry) (image written : List ℕ) → slice ≡ es → written ≡ image → AreImageBytesOfEntries g o slice image → AreImageBytesOfEntries g o es written
 passed g o es slice image written same is l = subst (λ xs. AreImageBytesOfEntries g o es xs) (sym is) (subst (λ xs. AreImageBytesOfEntries g o xs image) same l)
-
-pub told_refused : {X : Type 0} (r : Result X Error) (e : Error) (g : Geometry) (o : NameOrder) (from : SystemState) (es : List SourceEntry) (old new : Option (List ProgressCall)) → IsErrAnd r (λ f. f ≡ e) → SessionBeginsOnFreshDisk g o from → IsToldOfEntriesBeforeError from es old new e
-    → IfErr r (IsToldOfCopyBeforeError g o es old new)
-told_refused (Ok x) e g o from es old new is b told = tt
-told_refused (Err f) e g o from es old new is b told = inr (from, (b, subst (IsToldOfEntriesBeforeError from es old new) (sym is) told))
-
--- what a follower was told of a whole image stays so where that can't be written
-pub told_copied : {X : Type 0} (P : Type 0) (r : Result X ToolError) (g : Geometry) (o : NameOrder) (known : Option TreeSource) (es : List SourceEntry) (old new : Option (List ProgressCall)) → OnErr r ((r ≡ Err Output) × P) → AreAllEntriesOfSource known es
-    → new ≡ told_of_all_done (amounts_of_entries es) old → IsToldOfEntriesCopied g o known old new r
-told_copied P (Ok x) g o known es old new only all told = (es, (all, told))
-told_copied P (Err Output) g o known es old new only all told = (es, (all, told))
-told_copied P (Err Input) g o known es old new only all told = let no : Err Input ≡ Err Output = only.0 in (cc)
-told_copied P (Err (Fs e)) g o known es old new only all told = let no : Err (Fs e) ≡ Err Output = only.0 in (cc)

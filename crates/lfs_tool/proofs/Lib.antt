@@ -6,7 +6,6 @@ pub mod ProfileCauses
 pub mod Counts
 pub mod WithoutAttributes
 pub mod NoWrongNumbers
-mod Placing
 pub mod ExcerptsAlike
 pub mod AcceptedAlike
 pub mod ListedAlike
@@ -16,7 +15,6 @@ mod Decimals
 mod KnownBytes
 pub mod Writers
 mod BlockReads
-mod BlockCounts
 mod Images
 mod Checks
 mod Mounts
@@ -32,7 +30,6 @@ mod Runs
 mod Refusing
 mod ImagesMade
 mod Walking
-pub mod AmountsTold
 pub mod PaddedBytes
 pub mod NewImageCalls
 pub mod WrittenParts

@@ -1,5 +1,5 @@
 -- In a run from a fresh disk in memory each error but want of memory is a refusal, the first.
-use Rattle.std.proofs.Common.{ℕ, suc, ◌≡◌, ◌≢◌, ◌∙◌, ◌+◌, ◌<◌, ◌++◌, ◌⊎◌, inl, inr, Bool, true, false, List, [], ◌∷◌, length, take, drop, get_or, Option, Some, None, refl, sym, ap, subst, add-one, append_assoc, arith, drop-cons, flat_map}
+use Rattle.std.proofs.Common.{ℕ, ◌≡◌, ◌≢◌, ◌∙◌, ◌+◌, ◌<◌, ◌++◌, ◌⊎◌, inl, inr, Bool, true, false, List, [], ◌∷◌, length, take, drop, get_or, Option, Some, None, refl, sym, ap, subst, add-one, append_assoc, arith, drop-cons, flat_map}
 use Rattle.std.proofs.lemmas.Grind.{flat_map-append}
 use Rattle.std.proofs.lemmas.List.{take-append-drop}
 use Rattle.std.proofs.lemmas.List.Elements.{recursion_from_All}
@@ -22,7 +22,6 @@ use Rattle.lfs_lookup.specs.Refusals as refusals
 use Rattle.lfs_tool_folders.specs.MemorySources.{optional_bytes_view}
 use Rattle.lfs_tool_folders.specs.declared.entries.SourceEntry.{SourceEntry}
 use Rattle.lfs_tool.specs.AppliedOperations.{AreOperationsApplied, IsRunOfOperationsEndedByError, IsHealthyWithoutOpenFile, IsFirstRefusalAmongOperations, file_or_directory_node_of_optional_bytes, copying_operations_of_entry}
-use Rattle.lfs_tool.specs.MadeImages.{StopsAtEntryAfter}
 use Rattle.lfs_tool.proofs.Runs.{ended_before, ended_on}
 use Rattle.lfs_tool.proofs.Stepping.{HasCarried, carried_from}
 
@@ -106,13 +105,3 @@ module _ (e : Error) (es : List SourceEntry) (i : ℕ) (d : SourceEntry) (from a
       (subst (λ xs. IsRunOfOperationsEndedByError e from xs to) (sym (parts es i d lt)) (ended_before e (flat_map copying_operations_of_entry (take i es) ++ copying_operations_of_entry (get_or es i d)) (flat_map copying_operations_of_entry (drop (i + 1) es)) from to
       (ended_on e (flat_map copying_operations_of_entry (take i es)) (copying_operations_of_entry (get_or es i d)) from at to c k)))
       (refused_in_entry e (get_or es i d) at to k none not_memory)
-
-  pub entry_refused : StopsAtEntryAfter i from es e
-  entry_refused = record {
-    entry = get_or es i d;
-    others = drop (suc i) es;
-    are = drop-cons es i d lt;
-    at = at;
-    carried = c;
-    first = λ not_memory. refusal_first e at to (copying_operations_of_entry (get_or es i d)) k (refused_in_entry e (get_or es i d) at to k none not_memory);
-  }

@@ -1,6 +1,6 @@
 -- What is done of an image that is unpacked.
 use Rattle.std.proofs.Common.{ℕ, ◌≡◌, ◌⊎◌, ◌∙◌, inl, inr, List, [], ◌∷◌, Option, Some, None, Result, Ok, Err, ap, ap₂, map, refl, subst, sym, take}
-use Rattle.std.specs.Prelude.{◌≢◌, IfErr, IfSome, OnErr, OnOk}
+use Rattle.std.specs.Prelude.{◌≢◌, IfErr, IfSome, OnErr}
 use Rattle.lfs_tool.specs.declared.image_layout.ImageLayout.{ImageLayout}
 use Rattle.lfs_model.specs.Disk.{Disk, IsImageOfWholeBlocks, disk_of_image, disk_in_order}
 use Rattle.lfs_model.specs.Listing.{UnpackingAction, PathAndNode, unpacking_action_of_node, unpacking_action_of_entry}
@@ -10,20 +10,14 @@ use Rattle.lfs_model.specs.Tree.{Node}
 use Rattle.lfs_model.specs.View.{HasDiskView, IsAcceptedImage, IsSkipListIfCtzStruct, view_of_disk}
 use Rattle.lfs_model.specs.declared.order.NameOrder.{NameOrder}
 use Rattle.lfs_model.specs.declared.order.NameOrder.TheVariants.{LongerFirst}
-use Rattle.lfs_model.proofs.ListSizes.{length-bytes_of_skip_list}
 use Rattle.lfs_device.specs.declared.error.Error.TheVariants.{Corrupt, Invalid, NoMemory}
 use Rattle.lfs_device.specs.declared.error.Error.{Error}
-use Rattle.lfs_lookup.specs.Items.{owned_struct_view}
-use Rattle.lfs_lookup.specs.Walk.{ArePathsAndStructsOfTreeEntries, ArePathsAndStructsOfWalk, PathAndStruct, IsPathAndStructOfTreeEntry, IsNodeOfStruct, tree_items_view}
-use Rattle.lfs_lookup.specs.declared.walks.TreeItem.{TreeItem}
-use Rattle.lfs_tool.specs.AmountsTold.{ProgressCall, amount_of_struct, amount_of_unpacking_action, amounts_of_tree_items, amounts_of_unpacking_actions, told_of_all_done, told_of_first_n_done}
+use Rattle.lfs_lookup.specs.Walk.{ArePathsAndStructsOfTreeEntries, ArePathsAndStructsOfWalk, PathAndStruct, IsPathAndStructOfTreeEntry, IsNodeOfStruct}
 use Rattle.lfs_tool.specs.declared.errors.ToolError.{ToolError}
 use Rattle.lfs_tool.specs.declared.errors.ToolError.TheVariants.{Fs, Output}
-use Rattle.lfs_tool.specs.declared.progress.FilesAndBytes.{FilesAndBytes}
 use Rattle.lfs_tool.specs.Listings.{RefusesToList}
-use Rattle.lfs_tool.specs.Unpackings.{HaveWellFormedSkipLists, FailsToUnpackDisk, FailsToUnpackImage, FailsToUnpackKnownImage, HasDoneBeginningOfUnpackingActions, HasDoneTheseFurtherUnpackingActions, HasBegunUnpackingDisk, HasBegunUnpackingImage, HasUnpackedDisk, HasUnpackedImage, IsToldOfActionsDone, IsToldOfBeginningOfActions, IsToldOfBeginningOfTreeItems, AreActionsUnpackingDisk, ReportsUnpackTargetFaults, AreActionsUnpackingImage, unpacking_action_for_tree_entry, unpacking_action_for_struct, unpacking_actions_for_tree_entries}
+use Rattle.lfs_tool.specs.Unpackings.{HaveWellFormedSkipLists, FailsToUnpackDisk, FailsToUnpackImage, FailsToUnpackKnownImage, HasDoneBeginningOfUnpackingActions, HasDoneTheseFurtherUnpackingActions, HasBegunUnpackingDisk, HasBegunUnpackingImage, HasUnpackedDisk, HasUnpackedImage, AreActionsUnpackingDisk, ReportsUnpackTargetFaults, AreActionsUnpackingImage, unpacking_action_for_tree_entry, unpacking_action_for_struct, unpacking_actions_for_tree_entries}
 use Rattle.lfs_tool.proofs.Images.{all_read, most, refuses_read}
-use Rattle.lfs_tool.proofs.Walked.{HasSizes}
 
 -- ---- what was found of a tree unpacks it
 
@@ -54,17 +48,6 @@ actions_shown disk [] (e ∷ es) s = absurd s
 actions_shown disk (p ∷ ps) [] s = absurd s
 actions_shown disk (p ∷ ps) (e ∷ es) s = ap₂ (λ a more. a ∷ more) (action_shown disk p e s.0) (actions_shown disk ps es s.1)
 
--- ---- what is told of it
-
-amount_shown : (disk : Disk) → HasSizes disk → (path : List ℕ) (struct : Struct) → IsSkipListIfCtzStruct disk struct → amount_of_unpacking_action (unpacking_action_for_struct disk path struct) ≡ amount_of_struct struct
-amount_shown disk sizes path (Inline bytes) list = refl
-amount_shown disk sizes path (Ctz head size) list = ap (λ (n : ℕ). let a : FilesAndBytes = record { files = 1; bytes = n } in a) (length-bytes_of_skip_list disk.blocks disk.block_size sizes.count head size sizes.enough sizes.divided list)
-amount_shown disk sizes path (Branch to) list = refl
-
-amounts_shown : (disk : Disk) → HasSizes disk → (items : List TreeItem) → HaveWellFormedSkipLists disk (tree_items_view items) → amounts_of_unpacking_actions (unpacking_actions_for_tree_entries disk (tree_items_view items)) ≡ amounts_of_tree_items items
-amounts_shown disk sizes [] lists = refl
-amounts_shown disk sizes (x ∷ xs) lists = ap₂ (λ a more. a ∷ more) (amount_shown disk sizes x.path.items (owned_struct_view x.structure) lists.0) (amounts_shown disk sizes xs lists.1)
-
 -- ---- of a disk
 
 module _ (disk now : Disk) (order : NameOrder) (ps : List Pair) (places : List PathAndStruct) (same : now ≡ disk_in_order order disk) (accepted : IsAcceptedImage (disk_in_order order disk) ps) (walked : ArePathsAndStructsOfWalk (disk_in_order order disk) ps places) where
@@ -78,50 +61,6 @@ module _ (disk now : Disk) (order : NameOrder) (ps : List Pair) (places : List P
 
   pub begun_of : (old new : Option (List UnpackingAction)) → HasDoneBeginningOfUnpackingActions old new (unpacking_actions_for_tree_entries now places) → HasBegunUnpackingDisk disk old new
   begun_of old new h = (unpacking_actions_for_tree_entries (disk_in_order order disk) places, (unpacks, subst (λ d. HasDoneBeginningOfUnpackingActions old new (unpacking_actions_for_tree_entries d places)) same h))
-
--- the order of names isn't in the sizes
-sizes_in_order : (disk : Disk) (order : NameOrder) → HasSizes disk → HasSizes (disk_in_order order disk)
-sizes_in_order disk order sizes = record { enough = sizes.enough; count = sizes.count; divided = sizes.divided }
-
--- what a follower was told of the items of an accepted disk
-module _ (disk now : Disk) (order : NameOrder) (ps : List Pair) (items : List TreeItem) (sizes : HasSizes disk) (same : now ≡ disk_in_order order disk) (accepted : IsAcceptedImage (disk_in_order order disk) ps) (walked : ArePathsAndStructsOfWalk (disk_in_order order disk) ps (tree_items_view items)) where
-  abbrev actions_of_items : List UnpackingAction
-  actions_of_items = unpacking_actions_for_tree_entries (disk_in_order order disk) (tree_items_view items)
-
-  amounts_same : amounts_of_tree_items items ≡ amounts_of_unpacking_actions actions_of_items
-  amounts_same = sym (amounts_shown (disk_in_order order disk) (sizes_in_order disk order sizes) items (lists_walked (disk_in_order order disk) (disk_in_order order disk) ps (tree_items_view items) refl walked))
-
-  told_begun : (was is : Option (List UnpackingAction)) (old new : Option (List ProgressCall)) → IsToldOfBeginningOfTreeItems now items was is old new → (actions : List UnpackingAction) × (AreActionsUnpackingDisk disk actions × IsToldOfBeginningOfActions was is old new actions)
-  told_begun was is old new (n, (h, told)) = (
-    actions_of_items,
-    (
-      unpacks disk now order ps (tree_items_view items) same accepted walked,
-      (
-        n,
-        (
-          subst (λ d. HasDoneTheseFurtherUnpackingActions was is (take n (unpacking_actions_for_tree_entries d (tree_items_view items)))) same h,
-          told ∙ ap (λ amounts. told_of_first_n_done n amounts old) amounts_same,
-        ),
-      ),
-    ),
-  )
-
-  pub told_of : {X : Type 0} (r : Result X ToolError) (was is : Option (List UnpackingAction)) (old new : Option (List ProgressCall)) (failed fails : ℕ) → OnOk r (new ≡ told_of_all_done (amounts_of_tree_items items) old)
-      → OnErr r (IsToldOfBeginningOfTreeItems now items was is old new) → ReportsUnpackTargetFaults failed fails r → IsToldOfActionsDone (AreActionsUnpackingDisk disk) was is old new r
-  told_of (Ok x) was is old new failed fails all begun reports =
-      (actions_of_items, (unpacks disk now order ps (tree_items_view items) same accepted walked, all ∙ ap (λ amounts. told_of_all_done amounts old) amounts_same))
-  told_of (Err Output) was is old new failed fails all begun reports = told_begun was is old new begun
-  told_of (Err (Fs NoMemory)) was is old new failed fails all begun reports = inr (told_begun was is old new begun)
-  told_of (Err e) was is old new failed fails all begun reports = absurd reports
-
--- what a follower was told of some actions it was told of others that are alike
-told_alike : {X : Type 0} (AreAll AreOther : List UnpackingAction → Type 0) → ((actions : List UnpackingAction) → AreAll actions → AreOther actions) → (r : Result X ToolError) (was is : Option (List UnpackingAction)) (old new : Option (List ProgressCall))
-    → IsToldOfActionsDone AreAll was is old new r → IsToldOfActionsDone AreOther was is old new r
-told_alike AreAll AreOther to (Ok x) was is old new (actions, (are, told)) = (actions, (to actions are, told))
-told_alike AreAll AreOther to (Err Output) was is old new (actions, (are, told)) = (actions, (to actions are, told))
-told_alike AreAll AreOther to (Err (Fs NoMemory)) was is old new (inl nothing) = inl nothing
-told_alike AreAll AreOther to (Err (Fs NoMemory)) was is old new (inr (actions, (are, told))) = inr (actions, (to actions are, told))
-told_alike AreAll AreOther to (Err e) was is old new told = told
 
 pub fails_begun : {X : Type 0} (disk : Disk) (old new : Option (List UnpackingAction)) (was now : ℕ) (r : Result X ToolError) (begun : Type 0) → OnErr r begun → (begun → HasBegunUnpackingDisk disk old new)
     → ReportsUnpackTargetFaults was now r → IfErr r (FailsToUnpackDisk disk old new)
@@ -143,11 +82,6 @@ pub done_image : (layout : ImageLayout) (image : List ℕ) (disk : Disk) (old ne
     → HasUnpackedDisk disk old new → HasUnpackedImage layout image old new
 done_image layout image disk old new is same (actions, (unpacked, h)) = (actions, (unpacks_image layout image disk actions is same unpacked, h))
 
-pub told_image : {X : Type 0} (layout : ImageLayout) (image : List ℕ) (disk : Disk) (r : Result X ToolError) (was now : Option (List UnpackingAction)) (old new : Option (List ProgressCall)) → IsImageOfWholeBlocks layout.block_size layout.page image → IsDiskOf layout image disk
-    → IsToldOfActionsDone (AreActionsUnpackingDisk disk) was now old new r → IsToldOfActionsDone (AreActionsUnpackingImage layout image) was now old new r
-told_image layout image disk r was now old new is same told =
-    told_alike (AreActionsUnpackingDisk disk) (AreActionsUnpackingImage layout image) (λ actions unpacked. unpacks_image layout image disk actions is same unpacked) r was now old new told
-
 begun_image : (layout : ImageLayout) (image : List ℕ) (disk : Disk) (old new : Option (List UnpackingAction)) → IsImageOfWholeBlocks layout.block_size layout.page image → IsDiskOf layout image disk
     → HasBegunUnpackingDisk disk old new → HasBegunUnpackingImage layout image old new
 begun_image layout image disk old new is same (actions, (unpacked, h)) = (actions, (unpacks_image layout image disk actions is same unpacked, h))
@@ -167,13 +101,6 @@ pub done_read : (known : Option (List ℕ)) (layout : ImageLayout) (items : List
     → HasUnpackedImage layout items old new → IfSome known (λ bytes. HasUnpackedImage layout bytes old new)
 done_read None layout items old new read h = tt
 done_read (Some bytes) layout items old new read h = subst (λ (i : List ℕ). HasUnpackedImage layout i old new) (all_read layout.block_size layout.page bytes items read h.1.0.0) h
-
-pub told_read : {X : Type 0} (known : Option (List ℕ)) (layout : ImageLayout) (items : List ℕ) (r : Result X ToolError) (was now : Option (List UnpackingAction)) (old new : Option (List ProgressCall)) → IfSome known (λ bytes. items ≡ take most bytes)
-    → IsToldOfActionsDone (AreActionsUnpackingImage layout items) was now old new r → IfSome known (λ bytes. IsToldOfActionsDone (AreActionsUnpackingImage layout bytes) was now old new r)
-told_read None layout items r was now old new read told = tt
-told_read (Some bytes) layout items r was now old new read told =
-    told_alike (AreActionsUnpackingImage layout items) (AreActionsUnpackingImage layout bytes)
-    (λ actions are. subst (λ (i : List ℕ). AreActionsUnpackingImage layout i actions) (all_read layout.block_size layout.page bytes items read are.0) are) r was now old new told
 
 begun_read : (known : Option (List ℕ)) (layout : ImageLayout) (items : List ℕ) (old new : Option (List UnpackingAction)) → IfSome known (λ bytes. items ≡ take most bytes)
     → HasBegunUnpackingImage layout items old new → IfSome known (λ bytes. HasBegunUnpackingImage layout bytes old new)

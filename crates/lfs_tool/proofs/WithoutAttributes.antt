@@ -1,17 +1,14 @@
 -- An image's rules say the same of pairs with attributes and without.
-use Rattle.std.proofs.Common.{ℕ, zero, suc, ◌≡◌, ◌+◌, ◌&&◌, ◌∙◌, inl, inr, not, Bool, true, false, cond, List, [], ◌∷◌, ◌++◌, map, drop, remove, filter, flat_map, option_and_then, option_map, Option, Some, None, refl, sym, ap, ap₂, subst, arith}
-use Rattle.std.specs.Prelude.{All, Any, slice_get, ◌==◌}
+use Rattle.std.proofs.Common.{ℕ, zero, suc, ◌≡◌, ◌+◌, ◌&&◌, ◌∙◌, not, Bool, true, false, cond, List, [], ◌∷◌, map, drop, remove, filter, option_and_then, option_map, Option, Some, None, refl, sym, ap, ap₂, subst, arith}
+use Rattle.std.specs.Prelude.{All, slice_get, ◌==◌}
 use Rattle.std.specs.List.{fold}
 use Rattle.std.proofs.lemmas.List.{drop-map, get_or-map, length-map, map-append}
-use Rattle.std.proofs.lemmas.List.Folds.{flat_map-map}
-use Rattle.std.proofs.lemmas.Option.{get_or_from_slice_get, same_Some, slice_get-map, slice_get_within}
-use Rattle.lfs_model.specs.Disk.{Disk}
+use Rattle.std.proofs.lemmas.Option.{get_or_from_slice_get, same_Some, slice_get_within}
 use Rattle.lfs_model.specs.Names.{Name, same_name}
-use Rattle.lfs_model.specs.Shown.{IsDirectoryAddressReachedBySomePath, IsPathToDirectory, all_slots_not_moved, directories_in_thread, entries_by_directory_in_thread, skip_list_blocks_of_struct, used_blocks}
+use Rattle.lfs_model.specs.Shown.{directories_in_thread, entries_by_directory_in_thread}
 use Rattle.lfs_model.specs.Slots.{Gstate, Slot, gstate_kind_of_set_move, gstate_xor, is_superblock, same_pair, zero_gstate}
-use Rattle.lfs_model.specs.Thread.{IsAddressOfDirectoryFirstPair, Pair, ThreadDirectory, blocks_of_pairs, directories_of_pairs, directories_with_pair_prepended, entries_not_moved, entries_of_directory, first_pair_address, gstate_of_pairs, has_no_slot_or_only_superblock, has_slots, has_superblock_in_first_nonempty_pair, is_hard_tail, may_superblock_chain_continue_after_pair, pair_count_before_root, pairs_from_first_with_slots, pairs_from_root_directory_on, root_directory_address_of_pairs, slots_not_moved, starts_with_superblock, starts_with_superblock_or_default_without_slots}
-use Rattle.lfs_model.specs.Tree.{EntriesByDirectory, Path, branch_address_of_struct, child_slot_of, directory_address_at_path, entry_of_name, names_of_directory_at_address, root_slot, slot_at_path}
-use Rattle.lfs_model.specs.View.{HasValidMoveOrNone, IsEntrySlotInThread, IsSomeSlotButNotSuperblock, first_pair_slots, first_slot_name}
+use Rattle.lfs_model.specs.Thread.{Pair, ThreadDirectory, directories_of_pairs, directories_with_pair_prepended, entries_not_moved, entries_of_directory, first_pair_address, gstate_of_pairs, has_no_slot_or_only_superblock, has_superblock_in_first_nonempty_pair, is_hard_tail, may_superblock_chain_continue_after_pair, pair_count_before_root, pairs_from_root_directory_on, root_directory_address_of_pairs, slots_not_moved, starts_with_superblock_or_default_without_slots}
+use Rattle.lfs_model.specs.Tree.{EntriesByDirectory, Path, branch_address_of_struct, child_slot_of, directory_address_at_path, entry_of_name, root_slot, slot_at_path}
 use Rattle.lfs_tool.specs.OwnedSlots.{pair_without_attributes, pairs_without_attributes, slot_without_attributes}
 
 -- ---- what a map makes of each element
@@ -22,23 +19,11 @@ of_each f P xs h k d l =
     let n = length-map xs f in
     subst P (get_or-map f xs k d (f d) l) (h k (f d) (omega (arith, n, l)))
 
--- P holds of what a map makes of one
-pub of_some : {X Y : Type 0} (f : X → Y) (P : Y → Type 0) (xs : List X) → Any P (map f xs) → Any (λ x. P (f x)) xs
-of_some f P [] (k, y, l, e, h) = absurd (omega (arith, l))
-of_some f P (x ∷ xs) (zero, y, l, e, h) = (zero, x, omega arith, refl, subst P (sym e) h)
-of_some f P (x ∷ xs) (suc k, y, l, e, h) =
-    let (j, z, m, same, holds) = of_some f P xs (k, y, omega (arith, l), e, h) in
-    (suc j, z, omega (arith, m), same, holds)
-
 -- what a map makes is made of an element
 pub before_map : {X Y : Type 0} (f : X → Y) (xs : List X) (i : ℕ) (y : Y) → slice_get (map f xs) i ≡ Some y → (x : X) × ((slice_get xs i ≡ Some x) × (f x ≡ y))
 before_map f [] i y e = absurd (cc)
 before_map f (x ∷ xs) zero y e = (x, (refl, same_Some (f x) y e))
 before_map f (x ∷ xs) (suc i) y e = before_map f xs i y e
-
--- P holds of one that a map makes
-pub some_of : {X Y : Type 0} (f : X → Y) (P : Y → Type 0) (xs : List X) → Any (λ x. P (f x)) xs → Any P (map f xs)
-some_of f P xs (k, x, l, e, h) = let n = length-map xs f in (k, f x, omega (arith, n, l), get_or-map f xs k x (f x) l ∙ ap f e, h)
 
 -- P holds of the element of that number
 pub holds_there : {X : Type 0} (P : X → Type 0) (xs : List X) (i : ℕ) (x : X) → All P xs → slice_get xs i ≡ Some x → P x
@@ -58,10 +43,6 @@ moves_alike (p ∷ ps) = ap (λ ms. p.content.move ∷ ms) (moves_alike ps)
 
 pub gstate_alike : (ps : List Pair) → gstate_of_pairs (pairs_without_attributes ps) ≡ gstate_of_pairs ps
 gstate_alike ps = ap (fold gstate_xor zero_gstate) (moves_alike ps)
-
-pub blocks_alike : (ps : List Pair) → blocks_of_pairs (pairs_without_attributes ps) ≡ blocks_of_pairs ps
-blocks_alike [] = refl
-blocks_alike (p ∷ ps) = ap (λ bs. p.at.0 ∷ p.at.1 ∷ bs) (blocks_alike ps)
 
 -- ---- the superblock's chain and the root
 
@@ -89,20 +70,6 @@ root_number_alike (p ∷ ps) =
 pub root_pairs_alike : (ps : List Pair) → pairs_from_root_directory_on (pairs_without_attributes ps) ≡ pairs_without_attributes (pairs_from_root_directory_on ps)
 root_pairs_alike ps = ap (λ n. drop n (pairs_without_attributes ps)) (root_number_alike ps) ∙ drop-map pair_without_attributes (pair_count_before_root ps) ps
 
-pub starts_alike : (slots : List Slot) → starts_with_superblock (map slot_without_attributes slots) ≡ starts_with_superblock slots
-starts_alike [] = refl
-starts_alike (s ∷ slots) = refl
-
-pub first_slots_alike : (ps : List Pair) → first_pair_slots (pairs_without_attributes ps) ≡ map slot_without_attributes (first_pair_slots ps)
-first_slots_alike [] = refl
-first_slots_alike (p ∷ ps) = refl
-
-pub root_starts_alike : (ps : List Pair) → starts_with_superblock (first_pair_slots (pairs_from_root_directory_on (pairs_without_attributes ps))) ≡ starts_with_superblock (first_pair_slots (pairs_from_root_directory_on ps))
-root_starts_alike ps =
-    ap (λ qs. starts_with_superblock (first_pair_slots qs)) (root_pairs_alike ps)
-    ∙ ap starts_with_superblock (first_slots_alike (pairs_from_root_directory_on ps))
-    ∙ starts_alike (first_pair_slots (pairs_from_root_directory_on ps))
-
 pub first_address_alike : (ps : List Pair) → first_pair_address (pairs_without_attributes ps) ≡ first_pair_address ps
 first_address_alike [] = refl
 first_address_alike (p ∷ ps) = refl
@@ -111,33 +78,6 @@ pub root_address_alike : (ps : List Pair) → root_directory_address_of_pairs (p
 root_address_alike ps = ap first_pair_address (root_pairs_alike ps) ∙ first_address_alike (pairs_from_root_directory_on ps)
 
 -- ---- the first pair that has a slot
-
-has_alike : (slots : List Slot) → has_slots (map slot_without_attributes slots) ≡ has_slots slots
-has_alike [] = refl
-has_alike (s ∷ slots) = refl
-
-pub with_slots_alike : (ps : List Pair) → pairs_from_first_with_slots (pairs_without_attributes ps) ≡ pairs_without_attributes (pairs_from_first_with_slots ps)
-with_slots_alike [] = refl
-with_slots_alike (p ∷ ps) = ap (λ b. cond b (pairs_without_attributes (p ∷ ps)) (pairs_from_first_with_slots (pairs_without_attributes ps))) (has_alike p.content.slots) ∙ go (has_slots p.content.slots) (with_slots_alike ps)
-  where
-    go : (b : Bool) → pairs_from_first_with_slots (pairs_without_attributes ps) ≡ pairs_without_attributes (pairs_from_first_with_slots ps)
-        → cond b (pairs_without_attributes (p ∷ ps)) (pairs_from_first_with_slots (pairs_without_attributes ps)) ≡ pairs_without_attributes (cond b (p ∷ ps) (pairs_from_first_with_slots ps))
-    go true e = refl
-    go false e = e
-
-pub with_slots_address_alike : (ps : List Pair) → first_pair_address (pairs_from_first_with_slots (pairs_without_attributes ps)) ≡ first_pair_address (pairs_from_first_with_slots ps)
-with_slots_address_alike ps = ap first_pair_address (with_slots_alike ps) ∙ first_address_alike (pairs_from_first_with_slots ps)
-
-name_of_first : (slots : List Slot) → option_map (λ s. s.name) (slice_get (map slot_without_attributes slots) 0) ≡ option_map (λ s. s.name) (slice_get slots 0)
-name_of_first [] = refl
-name_of_first (s ∷ slots) = refl
-
-first_name : (ps : List Pair) → first_slot_name (pairs_without_attributes ps) ≡ first_slot_name ps
-first_name [] = refl
-first_name (p ∷ ps) = name_of_first p.content.slots
-
-pub first_name_alike : (ps : List Pair) → first_slot_name (pairs_from_first_with_slots (pairs_without_attributes ps)) ≡ first_slot_name (pairs_from_first_with_slots ps)
-first_name_alike ps = ap first_slot_name (with_slots_alike ps) ∙ first_name (pairs_from_first_with_slots ps)
 
 -- ---- slots that aren't moved
 
@@ -162,19 +102,6 @@ others_alike (s ∷ slots) = go (not (is_superblock s)) (others_alike slots)
 
 pub entries_not_moved_alike : (g : Gstate) (p : Pair) → entries_not_moved g (pair_without_attributes p) ≡ map slot_without_attributes (entries_not_moved g p)
 entries_not_moved_alike g p = ap other_slots (not_moved_alike g p) ∙ others_alike (slots_not_moved g p)
-
-all_not_moved : (g : Gstate) (ps : List Pair) → flat_map (slots_not_moved g) (pairs_without_attributes ps) ≡ map slot_without_attributes (flat_map (slots_not_moved g) ps)
-all_not_moved g [] = refl
-all_not_moved g (p ∷ ps) = ap₂ (λ xs ys. xs ++ ys) (not_moved_alike g p) (all_not_moved g ps) ∙ sym (map-append slot_without_attributes (slots_not_moved g p) (flat_map (slots_not_moved g) ps))
-
-pub all_not_moved_alike : (ps : List Pair) → all_slots_not_moved (pairs_without_attributes ps) ≡ map slot_without_attributes (all_slots_not_moved ps)
-all_not_moved_alike ps = ap (λ g. flat_map (slots_not_moved g) (pairs_without_attributes ps)) (gstate_alike ps) ∙ all_not_moved (gstate_of_pairs ps) ps
-
-pub used_alike : (disk : Disk) (ps : List Pair) → used_blocks disk (pairs_without_attributes ps) ≡ used_blocks disk ps
-used_alike disk ps =
-    let owned : List Slot → List ℕ = λ slots. flat_map (λ (s : Slot). skip_list_blocks_of_struct disk s.struct) slots in
-    ap₂ (λ bs slots. bs ++ owned slots) (blocks_alike ps) (all_not_moved_alike ps)
-    ∙ ap (λ bs. blocks_of_pairs ps ++ bs) (flat_map-map (λ (s : Slot). skip_list_blocks_of_struct disk s.struct) slot_without_attributes (all_slots_not_moved ps))
 
 -- ---- directories
 
@@ -207,18 +134,6 @@ entries_of_alike (d ∷ ds) at = go (same_pair d.at at) (entries_of_alike ds at)
 
 pub entries_alike : (ps : List Pair) (at : ℕ × ℕ) → entries_by_directory_in_thread (pairs_without_attributes ps) at ≡ map slot_without_attributes (entries_by_directory_in_thread ps at)
 entries_alike ps at = ap (λ ds. entries_of_directory ds at) (directories_in_thread_alike ps) ∙ entries_of_alike (directories_in_thread ps) at
-
-names_of_slots : (slots : List Slot) → map (λ s. s.name) (map slot_without_attributes slots) ≡ map (λ s. s.name) slots
-names_of_slots [] = refl
-names_of_slots (s ∷ slots) = ap (λ names. s.name ∷ names) (names_of_slots slots)
-
-pub names_alike : (ps : List Pair) (at : ℕ × ℕ) → names_of_directory_at_address (entries_by_directory_in_thread (pairs_without_attributes ps)) at ≡ names_of_directory_at_address (entries_by_directory_in_thread ps) at
-names_alike ps at = ap (map (λ s. s.name)) (entries_alike ps at) ∙ names_of_slots (entries_by_directory_in_thread ps at)
-
-pub first_pair_with : (ps : List Pair) (at : ℕ × ℕ) → IsAddressOfDirectoryFirstPair (directories_in_thread (pairs_without_attributes ps)) at → IsAddressOfDirectoryFirstPair (directories_in_thread ps) at
-first_pair_with ps at h =
-    of_some directory_without_attributes (λ (d : ThreadDirectory). same_pair d.at at ≡ true) (directories_in_thread ps)
-    (subst (λ ds. IsAddressOfDirectoryFirstPair ds at) (directories_in_thread_alike ps) h)
 
 -- ---- paths
 
@@ -262,32 +177,4 @@ path_alike ps path =
     ap (λ root. directory_address_at_path (entries_by_directory_in_thread (pairs_without_attributes ps)) root path) (root_address_alike ps)
     ∙ directory_alike (entries_by_directory_in_thread (pairs_without_attributes ps)) (entries_by_directory_in_thread ps) (entries_alike ps) (root_directory_address_of_pairs ps) path
 
-pub path_without : (ps : List Pair) (path : Path) (at : ℕ × ℕ) → IsPathToDirectory ps path at → IsPathToDirectory (pairs_without_attributes ps) path at
-path_without ps path at h = path_alike ps path ∙ h
-
-pub path_with : (ps : List Pair) (path : Path) (at : ℕ × ℕ) → IsPathToDirectory (pairs_without_attributes ps) path at → IsPathToDirectory ps path at
-path_with ps path at h = sym (path_alike ps path) ∙ h
-
-pub reached_with : (ps : List Pair) (first : ℕ × ℕ) → IsDirectoryAddressReachedBySomePath (pairs_without_attributes ps) first → IsDirectoryAddressReachedBySomePath ps first
-reached_with ps first (path, at, (leads, same)) = (path, at, (path_with ps path at leads, same))
-
 -- ---- the move
-
-other_slot_with : (slots : List Slot) (id : ℕ) → IsSomeSlotButNotSuperblock (slice_get (map slot_without_attributes slots) id) → IsSomeSlotButNotSuperblock (slice_get slots id)
-other_slot_with slots id h = go (slice_get slots id) (subst IsSomeSlotButNotSuperblock (slice_get-map slot_without_attributes slots id) h)
-  where
-    go : (o : Option Slot) → IsSomeSlotButNotSuperblock (option_map slot_without_attributes o) → IsSomeSlotButNotSuperblock o
-    go None k = k
-    go (Some s) k = k
-
-entry_with : (ps : List Pair) (pair : ℕ × ℕ) (id : ℕ) → IsEntrySlotInThread (pairs_without_attributes ps) pair id → IsEntrySlotInThread ps pair id
-entry_with ps pair id h =
-    let (k, p, l, e, (same, slot)) = of_some pair_without_attributes (λ (q : Pair). (same_pair pair q.at ≡ true) × IsSomeSlotButNotSuperblock (slice_get q.content.slots id)) ps h in
-    (k, p, l, e, (same, other_slot_with p.content.slots id slot))
-
-pub move_with : (ps : List Pair) → HasValidMoveOrNone (pairs_without_attributes ps) (gstate_of_pairs (pairs_without_attributes ps)) → HasValidMoveOrNone ps (gstate_of_pairs ps)
-move_with ps h = go (subst (HasValidMoveOrNone (pairs_without_attributes ps)) (gstate_alike ps) h)
-  where
-    go : HasValidMoveOrNone (pairs_without_attributes ps) (gstate_of_pairs ps) → HasValidMoveOrNone ps (gstate_of_pairs ps)
-    go (inl none) = inl none
-    go (inr (kind, slot)) = inr (kind, entry_with ps (gstate_of_pairs ps).pair (gstate_of_pairs ps).id slot)

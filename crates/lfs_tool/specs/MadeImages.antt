@@ -1,5 +1,5 @@
 -- What is made of a source, and why nothing is.
-use Rattle.std.specs.Prelude.{ℕ, ◌≡◌, ◌≢◌, ◌⊎◌, ◌*◌, List, ◌∷◌, drop, length, take, Option, Result, Err, IfSome, IsErrOf}
+use Rattle.std.specs.Prelude.{ℕ, ◌≡◌, ◌*◌, List, length, Option, Result, Err, IfSome}
 use Rattle.std.specs.Io.KnownBytes.{Appends}
 use Rattle.lfs_model.specs.Disk.{IsImageOfWholeBlocks, block_count, disk_of_image}
 use Rattle.lfs_model.specs.Fresh.{IsFreshDisk, empty_tree}
@@ -16,15 +16,11 @@ use Rattle.lfs_model.specs.declared.order.NameOrder.{NameOrder}
 use Rattle.lfs_model.specs.Profile.{IsWritableImage}
 use Rattle.lfs_model.specs.Shown.{tree_on_disk}
 use Rattle.lfs_device.specs.declared.error.Error.{Error}
-use Rattle.lfs_device.specs.declared.error.Error.TheVariants.{Invalid, NoMemory}
 use Rattle.lfs_device.specs.declared.geometry.Geometry.{Geometry}
 use Rattle.lfs_tool.specs.declared.errors.ToolError.{ToolError}
-use Rattle.lfs_tool.specs.declared.errors.ToolError.TheVariants.{Fs, Input}
-use Rattle.lfs_tool.specs.AmountsTold.{ProgressCall, amounts_of_entries, told_of_all_done, told_of_first_n_done}
-use Rattle.lfs_tool.specs.RequestedSizes.{IsErrorWhereNoGeometryHasSizes, HasSizesOfCommandLine}
-use Rattle.lfs_tool_line.specs.declared.line.Line.{Line}
+use Rattle.lfs_tool.specs.declared.errors.ToolError.TheVariants.{Input}
 use Rattle.lfs_tool.specs.KnownBytes.{AppendsBeginningOfBytes}
-use Rattle.lfs_tool.specs.AppliedOperations.{AreOperationsApplied, IsFirstRefusalAmongOperations, copying_operations_of_entry, copying_operations_of_entries}
+use Rattle.lfs_tool.specs.AppliedOperations.{AreOperationsApplied, IsFirstRefusalAmongOperations, copying_operations_of_entries}
 use Rattle.lfs_tool_folders.specs.Entries.{AreAllEntriesOfSource, HasOneMoreFaultOrPropertyHolds, HasFolderWithBadNames}
 use Rattle.lfs_tool_folders.specs.declared.entries.SourceEntry.{SourceEntry}
 
@@ -90,37 +86,3 @@ RefusesCopyOfSource geometry order known e = (entries : List SourceEntry) × (Ar
 abbrev pub ReportsSourceFaults : {X : Type 0} → ℕ → ℕ → Option TreeSource → Result X ToolError → Type 0
 ReportsSourceFaults old new known (Err Input) = HasOneMoreFaultOrPropertyHolds old new (IfSome known HasFolderWithBadNames)
 ReportsSourceFaults old new known other = new ≡ old
-
--- ---- what a follower is told
-
--- The first n entries can be copied, and there is a next one. Unless memory ran out, the error is the first refusal of its operations.
-pub record StopsAtEntryAfter (n : ℕ) (from : SystemState) (entries : List SourceEntry) (e : Error) : Type 0 where
-  pub entry : SourceEntry
-  pub others : List SourceEntry
-  pub are : drop n entries ≡ entry ∷ others
-  pub at : SystemState
-  pub carried : AreOperationsApplied from (copying_operations_of_entries (take n entries)) at
-  pub first : e ≢ NoMemory → IsFirstRefusalAmongOperations at (copying_operations_of_entry entry) e
-
--- A follower was told of the whole, and of each entry that was copied before the error.
-abbrev pub IsToldOfEntriesBeforeError : SystemState → List SourceEntry → Option (List ProgressCall) → Option (List ProgressCall) → Error → Type 0
-IsToldOfEntriesBeforeError from entries old new e = (n : ℕ) × ((new ≡ told_of_first_n_done n (amounts_of_entries entries) old) × StopsAtEntryAfter n from entries e)
-
--- the same from a fresh disk of the geometry; or memory for that ran out, and it was told of nothing
-abbrev pub IsToldOfCopyBeforeError : Geometry → NameOrder → List SourceEntry → Option (List ProgressCall) → Option (List ProgressCall) → Error → Type 0
-IsToldOfCopyBeforeError geometry order entries old new e =
-    ((e ≡ NoMemory) × (new ≡ old)) ⊎ ((from : SystemState) × (SessionBeginsOnFreshDisk geometry order from × IsToldOfEntriesBeforeError from entries old new e))
-
--- A follower was told of the whole, and of each entry, also where the image can't be written. After a refusal it was told of those
--- that were copied before. It was told of nothing where the source wasn't read, and maybe where memory ran out.
-abbrev pub IsToldOfEntriesCopied : {X : Type 0} → Geometry → NameOrder → Option TreeSource → Option (List ProgressCall) → Option (List ProgressCall) → Result X ToolError → Type 0
-IsToldOfEntriesCopied geometry order known old new (Err Input) = new ≡ old
-IsToldOfEntriesCopied geometry order known old new (Err (Fs e)) =
-    ((e ≡ NoMemory) × (new ≡ old)) ⊎ ((entries : List SourceEntry) × (AreAllEntriesOfSource known entries × IsToldOfCopyBeforeError geometry order entries old new e))
-IsToldOfEntriesCopied geometry order known old new other = (entries : List SourceEntry) × (AreAllEntriesOfSource known entries × (new ≡ told_of_all_done (amounts_of_entries entries) old))
-
--- the same with the sizes of a command line; where no image has them, it was told of nothing
-abbrev pub IsToldOfRequestedImage : {X : Type 0} → Line → Option TreeSource → Option (List ProgressCall) → Option (List ProgressCall) → Result X ToolError → Type 0
-IsToldOfRequestedImage line known old new result =
-    ((g : Geometry) × (HasSizesOfCommandLine line g × IsToldOfEntriesCopied g line.order known old new result))
-    ⊎ (IsErrorWhereNoGeometryHasSizes line Invalid × IsErrOf result (Fs Invalid) × (new ≡ old))

@@ -10,12 +10,10 @@ use Rattle.lfs_device.specs.declared.error.Error.{Error}
 use Rattle.lfs_device.specs.declared.error.Error.TheVariants.{Corrupt, Invalid, NoMemory}
 use Rattle.lfs_tool.specs.declared.errors.ToolError.{ToolError}
 use Rattle.lfs_tool.specs.declared.errors.ToolError.TheVariants.{Fs, Output}
-use Rattle.lfs_tool.specs.AmountsTold.{ProgressCall, amounts_of_tree_items, amounts_of_unpacking_actions, told_of_all_done, told_of_first_n_done}
 use Rattle.lfs_tool.specs.Listings.{IsImageAcceptedInNeitherNameOrder, IsMountErrorOfDisk, RefusesToList}
 use Rattle.lfs_tool.specs.EitherOrder.{IsViewOfImageInSomeNameOrder, IsViewOfDiskInSomeNameOrder}
 use Rattle.lfs_lookup.specs.FileBytes.{file_bytes_of_struct}
-use Rattle.lfs_lookup.specs.Walk.{PathAndStruct, tree_items_view}
-use Rattle.lfs_lookup.specs.declared.walks.TreeItem.{TreeItem}
+use Rattle.lfs_lookup.specs.Walk.{PathAndStruct}
 
 -- the disk is accepted, and these actions unpack what it shows
 abbrev pub AreActionsUnpackingDisk : Disk → List UnpackingAction → Type 0
@@ -100,24 +98,3 @@ pub record FailsToUnpackKnownImage (layout : ImageLayout) (image : Option (List 
   pub refused : (f : Error) → e ≡ Fs f → IfSome image (λ bytes. RefusesToList layout bytes f)
   pub undone : e ≢ Output → e ≢ Fs NoMemory → new ≡ old
   pub begun : (new ≡ old) ⊎ IfSome image (λ bytes. HasBegunUnpackingImage layout bytes old new)
-
--- ---- what a follower is told
-
--- a beginning of the actions was done, and a follower was told of the whole, and of each that was done
-abbrev pub IsToldOfBeginningOfActions : Option (List UnpackingAction) → Option (List UnpackingAction) → Option (List ProgressCall) → Option (List ProgressCall) → List UnpackingAction → Type 0
-IsToldOfBeginningOfActions done_old done_new old new actions =
-    (n : ℕ) × (HasDoneTheseFurtherUnpackingActions done_old done_new (take n actions) × (new ≡ told_of_first_n_done n (amounts_of_unpacking_actions actions) old))
-
--- the same of what was found on the disk
-abbrev pub IsToldOfBeginningOfTreeItems : Disk → List TreeItem → Option (List UnpackingAction) → Option (List UnpackingAction) → Option (List ProgressCall) → Option (List ProgressCall) → Type 0
-IsToldOfBeginningOfTreeItems disk items done_old done_new old new =
-    (n : ℕ) × (HasDoneTheseFurtherUnpackingActions done_old done_new (take n (unpacking_actions_for_tree_entries disk (tree_items_view items))) × (new ≡ told_of_first_n_done n (amounts_of_tree_items items) old))
-
--- A follower was told of the whole, and of each action. After an error it was told of those that were done, or of nothing where
--- nothing was begun: then memory ran out, or the image isn't known to be good.
-abbrev pub IsToldOfActionsDone : {X : Type 0} → (List UnpackingAction → Type 0) → Option (List UnpackingAction) → Option (List UnpackingAction) → Option (List ProgressCall) → Option (List ProgressCall) → Result X ToolError → Type 0
-IsToldOfActionsDone AreAll done_old done_new old new (Ok x) = (actions : List UnpackingAction) × (AreAll actions × (new ≡ told_of_all_done (amounts_of_unpacking_actions actions) old))
-IsToldOfActionsDone AreAll done_old done_new old new (Err Output) = (actions : List UnpackingAction) × (AreAll actions × IsToldOfBeginningOfActions done_old done_new old new actions)
-IsToldOfActionsDone AreAll done_old done_new old new (Err (Fs NoMemory)) =
-    ((done_new ≡ done_old) × (new ≡ old)) ⊎ ((actions : List UnpackingAction) × (AreAll actions × IsToldOfBeginningOfActions done_old done_new old new actions))
-IsToldOfActionsDone AreAll done_old done_new old new (Err other) = new ≡ old

@@ -6,7 +6,7 @@ use Rattle.lfs_model.specs.View.{IsAcceptedImage}
 use Rattle.lfs_model.specs.declared.order.NameOrder.{NameOrder}
 use Rattle.lfs_model.specs.Violations.{Breaks}
 use Rattle.lfs_model.specs.declared.violations.Violation.{Violation}
-use Rattle.lfs_tool.specs.ImageSummaries.{HasAcceptedNameOrders, HasImageSummary, IsAcceptedInNameOrder}
+use Rattle.lfs_tool.specs.ImageSummaries.{HasAcceptedNameOrders, HasImageSummary}
 use Rattle.lfs_tool.specs.declared.verdict.AcceptedOrders.{AcceptedOrders}
 use Rattle.lfs_tool.specs.declared.verdict.ImageSummary.{ImageSummary}
 use Rattle.lfs_tool.specs.declared.verdict.ImageVerdict.{ImageVerdict}
@@ -23,10 +23,6 @@ pub record IsAcceptedWithSummary (disk : Disk) (summary : ImageSummary) (orders 
 -- it is accepted in neither order of names
 abbrev pub IsAcceptedInNoNameOrder : Disk → Type 0
 IsAcceptedInNoNameOrder disk = (order : NameOrder) (ps : List Pair) → ¬ IsAcceptedImage (disk_in_order order disk) ps
-
--- it is accepted in one of them
-abbrev pub IsAcceptedInSomeNameOrder : Disk → Type 0
-IsAcceptedInSomeNameOrder disk = (order : NameOrder) × IsAcceptedInNameOrder order disk
 
 -- it breaks the rule in one of them
 abbrev pub BreaksInSomeOrder : Disk → Violation → Type 0

@@ -10,14 +10,6 @@ watched_inner_stream w = w.inner
 abbrev pub watched_fault_count : {T : Type 0} → WatchedStream T → ℕ
 watched_fault_count w = w.faults.count
 
--- how many writes there were since the last flush
-abbrev pub unflushed_write_count : {T : Type 0} → WatchedStream T → ℕ
-unflushed_write_count w = w.pending.count
-
--- how many of its flushes succeeded
-abbrev pub flush_count : {T : Type 0} → WatchedStream T → ℕ
-flush_count w = w.flushes.count
-
 -- how many values it has shown
 abbrev pub written_value_count : {T : Type 0} → WatchedStream T → ℕ
 written_value_count w = w.shown.count

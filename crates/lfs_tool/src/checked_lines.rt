@@ -207,7 +207,7 @@ fn push_writable_line(text: &mut Vec<u8>, profile: WritingProfile) -> Result<(),
 }
 
 // Adds the lines of an accepted image.
-pub(crate) fn push_summary(
+fn push_summary(
     text: &mut Vec<u8>,
     summary: &ImageSummary,
     orders: AcceptedOrders,
@@ -333,7 +333,7 @@ fn push_no_image_of_given_sizes_text(
     )
 }
 
-pub(crate) fn push_unaccepted_reason(
+fn push_unaccepted_reason(
     text: &mut Vec<u8>,
     given: &GivenSizes,
     reason: &RefusalReason,
@@ -363,11 +363,8 @@ fn push_unaccepted_lines(
     Ok(())
 }
 
-// Adds the lines of a check's result.
-pub(crate) fn lines_of_check_result(
-    alloc: Global,
-    checked: &CheckResult,
-) -> Result<Vec<u8>, AllocError>
+/// Returns the lines of a check's result, as `check` writes them.
+pub fn lines_of_check_result(alloc: Global, checked: &CheckResult) -> Result<Vec<u8>, AllocError>
     ensures { IfOk result (λ text. text.items ≡ check_result_text checked.now) }
 {
     let mut text = Vec::new(alloc);

@@ -1,9 +1,8 @@
-ghost use Rattle.std.specs.Prelude.{◌≡◌, ◌≢◌, IfErr, IfOk, IsErrOf, OnOk};
+ghost use Rattle.std.specs.Prelude.{◌≡◌, ◌≢◌, IfErr, IfOk, IsErrOf, OnOk, false, true};
 ghost use Rattle.lfs_fs.specs.SessionView.{system_state_of_session_view};
-ghost use Rattle.lfs_tool.specs.AmountsTold.{amounts_of_entries, told_of_all_done};
 ghost use Rattle.lfs_tool.specs.NewImageDevice.{bytes_of_new_image_device};
 ghost use Rattle.lfs_tool.specs.Reports.{ReportsWriterFaults};
-ghost use Rattle.lfs_tool.specs.MadeImages.{AreImageBytesOfEntries, IsToldOfCopyBeforeError, IsToldOfEntriesCopied, SessionBeginsOnFreshDisk, RefusesCopyOfSource, HasWrittenBeginningOfImage, HasWrittenImageOfSource, RefusesCopyOfEntries, ReportsSourceFaults};
+ghost use Rattle.lfs_tool.specs.MadeImages.{AreImageBytesOfEntries, SessionBeginsOnFreshDisk, RefusesCopyOfSource, HasWrittenBeginningOfImage, HasWrittenImageOfSource, RefusesCopyOfEntries, ReportsSourceFaults};
 ghost use Rattle.lfs_tool_folders.specs.Entries.{AreAllEntriesOfSource};
 
 use crate::new_image_device::NewImageDevice;
@@ -17,7 +16,7 @@ use lfs_tool_folders::{Source, SourceEntry, SourceError, read_tree};
 use std::alloc::Global;
 
 // Reads all that the source has.
-pub(crate) fn read_source_entries<S: Source>(
+fn read_source_entries<S: Source>(
     alloc: Global,
     source: &mut S,
 ) -> Result<Vec<SourceEntry>, ToolError>
@@ -50,7 +49,7 @@ fn begin_session_on_fresh_disk(
 }
 
 // Makes the image that holds these entries.
-pub(crate) fn new_image_of_entries<F: FollowsProgress>(
+fn new_image_of_entries<F: FollowsProgress>(
     alloc: Global,
     geometry: Geometry,
     order: NameOrder,
@@ -58,8 +57,6 @@ pub(crate) fn new_image_of_entries<F: FollowsProgress>(
     progress: &mut F,
 ) -> Result<NewImageDevice, Error>
     ensures ok { IfOk result (λ d. AreImageBytesOfEntries geometry order entries.now (bytes_of_new_image_device d)) }
-    ensures told { OnOk result (F.told progress.new ≡ told_of_all_done (amounts_of_entries entries.now) (F.told progress.old)) }
-    ensures told_before { IfErr result (IsToldOfCopyBeforeError geometry order entries.now (F.told progress.old) (F.told progress.new)) }
     ensures err { IfErr result (λ e. e ≢ Error.NoMemory → RefusesCopyOfEntries geometry order entries.now e) }
 {
     let mut session = begin_session_on_fresh_disk(alloc, geometry, order)?;
@@ -67,13 +64,35 @@ pub(crate) fn new_image_of_entries<F: FollowsProgress>(
     Ok(session.unmount())
 }
 
+/// Returns whether an image of a geometry, with that order of names, has room for these entries.
+///
+/// # Errors
+/// - `NoMemory` where memory isn't granted.
+/// - Another error than `NoSpace` where one of the operations that copy the entries is refused for that.
+pub fn has_room_for_entries(
+    alloc: Global,
+    geometry: Geometry,
+    order: NameOrder,
+    entries: &[SourceEntry],
+) -> Result<bool, Error>
+    ensures room { IfOk result (λ has_room. has_room ≡ true → (image : _) × AreImageBytesOfEntries geometry order entries.now image) }
+    ensures small { IfOk result (λ has_room. has_room ≡ false → RefusesCopyOfEntries geometry order entries.now Error.NoSpace) }
+    ensures err { IfErr result (λ e. e ≢ Error.NoMemory → (e ≢ Error.NoSpace) × RefusesCopyOfEntries geometry order entries.now e) }
+{
+    match new_image_of_entries(alloc, geometry, order, entries, &mut ()) {
+        Ok(_image) => Ok(true),
+        Err(Error::NoSpace) => Ok(false),
+        Err(error) => Err(error),
+    }
+}
+
 /// Writes an image of a geometry that holds what a source has. The names in its directories have
 /// that order, and its limits are those of the geometry's profile. All of the source is read first.
 /// Its entries are then copied into an empty file system, depth first and in name order, the shorter
 /// names first. A folder is made. A file is opened to create it, its bytes are written at once, and
-/// it is closed. Nothing is written where one of these operations is refused. The writer is flushed
-/// once, when all is written. `progress` is told the files and bytes of the whole, and of each entry
-/// that is copied.
+/// it is closed. Nothing is written where one of these operations is refused. The writer is flushed,
+/// when all is written. `progress` is told the files and bytes of the whole, and of each entry that is
+/// copied.
 ///
 /// # Errors
 /// - `Input` where the source couldn't be read, or a name in a folder of it is given twice or isn't
@@ -82,8 +101,7 @@ pub(crate) fn new_image_of_entries<F: FollowsProgress>(
 ///   are free, `Fs(NameTooLong)` where a name is longer than the profile's limit, and `Fs(TooBig)` where
 ///   a file is.
 /// - `Fs(NoMemory)` where memory isn't granted.
-/// - `Output` where the writer failed. What was written is then a beginning of the image, and no flush has
-///   succeeded.
+/// - `Output` where the writer failed. What was written is then a beginning of the image.
 pub fn create<S: Source, W: ToolOutput, F: FollowsProgress>(
     alloc: Global,
     source: &mut S,
@@ -94,10 +112,7 @@ pub fn create<S: Source, W: ToolOutput, F: FollowsProgress>(
 ) -> Result<(), ToolError>
     ensures ok { OnOk result (HasWrittenImageOfSource geometry order (S.shown source.old) (W.contents out.old) (W.contents out.new)) }
 
-    // The follower is told of the whole, and of each entry that is copied.
-    ensures told { IsToldOfEntriesCopied geometry order (S.shown source.old) (F.told progress.old) (F.told progress.new) result }
-
-    // One flush succeeds, at the end, or the writer fails: then a beginning of the image may be written.
+    // Where the writer fails, a beginning of the image may be written.
     ensures writer { ReportsWriterFaults W.ToolOutput out.old out.new result }
     ensures beginning { IsErrOf result ToolError.Output
         → HasWrittenBeginningOfImage geometry order (S.shown source.old) (W.contents out.old) (W.contents out.new) }

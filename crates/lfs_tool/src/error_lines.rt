@@ -36,7 +36,7 @@ fn line_of_broken_limit(limit: Limit) -> &'static str
 fn write_line_and_return_status<E: ToolOutput>(err: &mut E, line: &str, status: u8) -> u8
     ensures status { result ≡ status }
     ensures beginning { AppendsBeginningOfBytes (E.contents err.old) (E.contents err.new) line.now }
-    ensures line { E.faults err.new ≡ E.faults err.old → Appends (E.contents err.old) (E.contents err.new) line.now × (E.pending err.new ≡ 0) }
+    ensures line { E.faults err.new ≡ E.faults err.old → Appends (E.contents err.old) (E.contents err.new) line.now }
 {
     let _ = write_bytes_and_flush(err, line.as_bytes());
     status
@@ -46,7 +46,7 @@ fn write_line_and_return_status<E: ToolOutput>(err: &mut E, line: &str, status: 
 fn write_error_line_and_return_status<E: ToolOutput>(err: &mut E, error: ToolError) -> u8
     ensures status { result ≡ tool_error_status error }
     ensures beginning { AppendsBeginningOfBytes (E.contents err.old) (E.contents err.new) (tool_error_line error) }
-    ensures line { E.faults err.new ≡ E.faults err.old → Appends (E.contents err.old) (E.contents err.new) (tool_error_line error) × (E.pending err.new ≡ 0) }
+    ensures line { E.faults err.new ≡ E.faults err.old → Appends (E.contents err.old) (E.contents err.new) (tool_error_line error) }
 {
     let line = error.error_line_text();
     write_line_and_return_status(err, line.as_str(), error.exit_status())
@@ -62,7 +62,7 @@ fn write_error_line_and_return_status<E: ToolOutput>(err: &mut E, error: ToolErr
 /// | 3 | input or output failed | `error: input` or `error: output`, to `err` |
 ///
 /// A failed write is ignored. The writer that gets nothing isn't called. Unless its writer failed,
-/// a line of the tool's own is written whole, or the parser's text is shown, and either is flushed.
+/// a line of the tool's own is written whole, or the parser's text is shown. Either is flushed.
 /// No promise is made of the parser's text.
 pub fn report<O: ToolOutput, E: ToolOutput>(fault: &Fault, out: &mut O, err: &mut E) -> u8
     ensures shown { IsFailureReportedWithStatus E.ToolOutput fault.now result err.old err.new }

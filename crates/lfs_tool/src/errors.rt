@@ -4,6 +4,7 @@ ghost use Rattle.lfs_tool.specs.Errors.{tool_error_line, tool_error_status};
 use crate::line_text::{LineText, line_text_of_library_error, line_text_of_str};
 use lfs_device::Error;
 use lfs_tool_line::LineError;
+use std::alloc::AllocError;
 
 /// The cause for which a call of the tool failed.
 #[derive(Clone, Copy, Debug, PartialEq, Eq, thiserror::Error)]
@@ -38,6 +39,18 @@ impl From<Error> for ToolError {
 
     fn from(error: Error) -> Self {
         ToolError::Fs(error)
+    }
+}
+
+impl From<AllocError> for ToolError {
+    ghost use Rattle.std.specs.Prelude.{◌≡◌};
+    ghost use Rattle.lfs_device.specs.declared.error.Error.TheVariants.{NoMemory};
+    ghost use Rattle.lfs_tool.specs.declared.errors.ToolError.TheVariants.{Fs};
+
+    ghost from_gives = { λ _ e. e ≡ Fs NoMemory };
+
+    fn from(_error: AllocError) -> Self {
+        ToolError::Fs(Error::NoMemory)
     }
 }
 

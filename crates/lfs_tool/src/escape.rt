@@ -33,8 +33,8 @@ fn push_escaped_byte(text: &mut Vec<u8>, byte: u8) -> Result<(), AllocError>
     Ok(())
 }
 
-// Adds the path as a list shows it.
-pub(crate) fn push_escaped_path(text: &mut Vec<u8>, path: &[u8]) -> Result<(), AllocError>
+/// Adds a path as a list shows it: `\` and each byte outside 0x20 to 0x7e as `\x` and two hexadecimal digits.
+pub fn push_escaped_path(text: &mut Vec<u8>, path: &[u8]) -> Result<(), AllocError>
     ensures { OnOk result (text.new.items ≡ text.old.items ++ escaped_text path.now) }
 {
     for byte in path {

@@ -46,7 +46,7 @@ pub fn check<R: ImageInput, W: ToolOutput>(
     ensures ok { IfOk result (λ accepted. IfSome (R.remaining image.old) (λ bytes.
         (checked : _) × (IsCheckResultOfBytes layout bytes checked × (accepted ≡ is_accepted_check_result checked) × Appends (W.contents out.old) (W.contents out.new) (check_result_text checked)))) }
 
-    // One flush succeeds, at the end, or the writer fails: then a beginning of the lines may be written.
+    // Where the writer fails, a beginning of the lines may be written.
     ensures writer { ReportsWriterFaults W.ToolOutput out.old out.new result }
     ensures beginning { IsErrOf result ToolError.Output → IfSome (R.remaining image.old) (λ bytes.
         (checked : _) × (IsCheckResultOfBytes layout bytes checked × AppendsBeginningOfBytes (W.contents out.old) (W.contents out.new) (check_result_text checked))) }

@@ -2,9 +2,7 @@
 
 ghost use Rattle.std.specs.Prelude.{◌≡◌};
 ghost use Rattle.lfs_model.specs.Disk.{default_profile};
-ghost use Rattle.lfs_tool.specs.ImageLayouts.{layout_of_line};
 
-use crate::Line;
 use lfs_device::Profile;
 
 /// The sizes of an image's blocks and pages in bytes, and what of the image is accepted. By the profile's limits it is also
@@ -36,17 +34,6 @@ impl ImageLayout {
             block_size: self.block_size,
             page: self.page,
             profile,
-        }
-    }
-
-    // Returns the layout that a command line gives.
-    pub(crate) fn of_line(line: &Line<'_>) -> ImageLayout
-        ensures { result ≡ layout_of_line line.now }
-    {
-        ImageLayout {
-            block_size: line.block_size,
-            page: line.page,
-            profile: line.profile,
         }
     }
 }

@@ -113,7 +113,7 @@ pub fn list<R: ImageInput, W: ToolOutput>(
     ensures ok { OnOk result (IfSome (R.remaining image.old) (λ bytes.
         (text : _) × (IsListingTextOfImage layout bytes text × Appends (W.contents out.old) (W.contents out.new) text))) }
 
-    // One flush succeeds, at the end, or the writer fails: then a beginning of the lines may be written.
+    // Where the writer fails, a beginning of the lines may be written.
     ensures writer { ReportsWriterFaults W.ToolOutput out.old out.new result }
     ensures beginning { IsErrOf result ToolError.Output → IfSome (R.remaining image.old) (λ bytes.
         (text : _) × (IsListingTextOfImage layout bytes text × AppendsBeginningOfBytes (W.contents out.old) (W.contents out.new) text)) }

@@ -7,9 +7,6 @@ ghost use Rattle.lfs_model.specs.State.{Healthy, session_after_mount};
 ghost use Rattle.lfs_model.specs.Tree.{FileNode};
 ghost use Rattle.lfs_fs.specs.FlagsView.{flags_view};
 ghost use Rattle.lfs_fs.specs.SessionView.{system_state_of_session_view};
-ghost use Rattle.lfs_tool.specs.AmountsTold.{amount_of_entry, amounts_of_entries, sum_with_amounts, told_of_all_done};
-ghost use Rattle.lfs_tool.specs.MadeImages.{IsToldOfEntriesBeforeError};
-ghost use Rattle.lfs_tool.specs.ProgressLines.{no_amount};
 ghost use Rattle.lfs_tool.specs.AppliedOperations.{AreOperationsApplied, AppliesOperationsUntilError, IsHealthyWithoutOpenFile, IsFirstRefusalAmongOperations, copying_operations_of_entry, copying_operations_of_entries};
 
 use crate::new_image_device::NewImageDevice;
@@ -60,9 +57,7 @@ fn copy_entry_into_session(
 }
 
 // Returns what an entry is of the whole.
-fn file_and_byte_counts_of_entry(entry: &SourceEntry) -> FilesAndBytes
-    ensures { result ≡ amount_of_entry entry.now }
-{
+fn file_and_byte_counts_of_entry(entry: &SourceEntry) -> FilesAndBytes {
     match &entry.bytes {
         Some(bytes) => FilesAndBytes {
             files: 1,
@@ -73,9 +68,7 @@ fn file_and_byte_counts_of_entry(entry: &SourceEntry) -> FilesAndBytes
 }
 
 // Returns the whole of all entries.
-fn file_and_byte_counts_of_entries(entries: &[SourceEntry]) -> FilesAndBytes
-    ensures { result ≡ sum_with_amounts no_amount (amounts_of_entries entries.now) }
-{
+fn file_and_byte_counts_of_entries(entries: &[SourceEntry]) -> FilesAndBytes {
     let mut whole = FilesAndBytes::none();
     for entry in entries {
         whole = whole.plus(file_and_byte_counts_of_entry(entry));
@@ -94,8 +87,6 @@ pub(crate) fn copy_entries_into_session<F: FollowsProgress>(
     requires mounts { (system_state_of_session_view session.old).state ≡ Healthy (session_after_mount empty_tree) }
     ensures carried { OnOk result (AreOperationsApplied (system_state_of_session_view session.old) (copying_operations_of_entries entries.now) (system_state_of_session_view session.new)) }
     ensures refused { IfErr result (λ e. e ≢ Error.NoMemory → IsFirstRefusalAmongOperations (system_state_of_session_view session.old) (copying_operations_of_entries entries.now) e) }
-    ensures told { OnOk result (F.told progress.new ≡ told_of_all_done (amounts_of_entries entries.now) (F.told progress.old)) }
-    ensures told_before { IfErr result (IsToldOfEntriesBeforeError (system_state_of_session_view session.old) entries.now (F.told progress.old) (F.told progress.new)) }
 {
     progress.begin(file_and_byte_counts_of_entries(entries));
     for entry in entries {

@@ -5,9 +5,7 @@ ghost use Rattle.lfs_device.specs.RamDevice.{ram_blocks, geometry_of_ram_device}
 ghost use Rattle.lfs_device.specs.Shown.{disk_of_geometry_and_blocks as shown};
 ghost use Rattle.lfs_model.specs.View.{IsSkipListIfCtzStruct};
 ghost use Rattle.lfs_tool_folders.specs.Actions.{AddsAction};
-ghost use Rattle.lfs_tool.specs.AmountsTold.{amount_of_tree_item, amounts_of_tree_items, sum_with_amounts, told_of_all_done};
-ghost use Rattle.lfs_tool.specs.ProgressLines.{no_amount};
-ghost use Rattle.lfs_tool.specs.Unpackings.{AreActionsUnpackingDisk, AreActionsUnpackingImage, HaveWellFormedSkipLists, FailsToUnpackDisk, FailsToUnpackImage, HasDoneTheseFurtherUnpackingActions, FailsToUnpackKnownImage, HasUnpackedDisk, HasUnpackedImage, IsToldOfActionsDone, IsToldOfBeginningOfTreeItems, ReportsUnpackTargetFaults, unpacking_action_for_tree_entry, unpacking_actions_for_tree_entries};
+ghost use Rattle.lfs_tool.specs.Unpackings.{HaveWellFormedSkipLists, FailsToUnpackDisk, FailsToUnpackImage, HasDoneBeginningOfUnpackingActions, HasDoneTheseFurtherUnpackingActions, FailsToUnpackKnownImage, HasUnpackedDisk, HasUnpackedImage, ReportsUnpackTargetFaults, unpacking_action_for_tree_entry, unpacking_actions_for_tree_entries};
 ghost use Rattle.lfs_thread.specs.Steps.{IsThreadOnlyRead};
 ghost use Rattle.lfs_lookup.specs.FileBytes.{file_bytes_of_struct};
 ghost use Rattle.lfs_lookup.specs.Items.{owned_struct_view};
@@ -84,9 +82,7 @@ fn put_tree_item<T: Target>(
 }
 
 // Returns what an item is of the whole.
-fn file_and_byte_counts_of_item(item: &TreeItem) -> FilesAndBytes
-    ensures { result ≡ amount_of_tree_item item.now }
-{
+fn file_and_byte_counts_of_item(item: &TreeItem) -> FilesAndBytes {
     match &item.structure {
         OwnedStruct::Inline(bytes) => FilesAndBytes {
             files: 1,
@@ -101,9 +97,7 @@ fn file_and_byte_counts_of_item(item: &TreeItem) -> FilesAndBytes
 }
 
 // Returns the whole of all items.
-fn file_and_byte_counts_of_items(items: &[TreeItem]) -> FilesAndBytes
-    ensures { result ≡ sum_with_amounts no_amount (amounts_of_tree_items items.now) }
-{
+fn file_and_byte_counts_of_items(items: &[TreeItem]) -> FilesAndBytes {
     let mut whole = FilesAndBytes::none();
     for item in items {
         whole = whole.plus(file_and_byte_counts_of_item(item));
@@ -122,9 +116,8 @@ fn put_tree_items<T: Target, F: FollowsProgress>(
     requires works { thread.old.failed ≡ false }
     requires lists { HaveWellFormedSkipLists thread.old.kept.disk (tree_items_view items.now) }
     ensures done { OnOk result (HasDoneTheseFurtherUnpackingActions (T.done target.old) (T.done target.new) (unpacking_actions_for_tree_entries thread.old.kept.disk (tree_items_view items.now))) }
-    ensures begun { OnErr result (IsToldOfBeginningOfTreeItems thread.old.kept.disk items.now (T.done target.old) (T.done target.new) (F.told progress.old) (F.told progress.new)) }
+    ensures begun { OnErr result (HasDoneBeginningOfUnpackingActions (T.done target.old) (T.done target.new) (unpacking_actions_for_tree_entries thread.old.kept.disk (tree_items_view items.now))) }
     ensures reports { ReportsUnpackTargetFaults (T.faults target.old) (T.faults target.new) result }
-    ensures told { OnOk result (F.told progress.new ≡ told_of_all_done (amounts_of_tree_items items.now) (F.told progress.old)) }
 {
     progress.begin(file_and_byte_counts_of_items(items));
     for item in items {
@@ -142,7 +135,6 @@ fn unpack_ram_device<T: Target, F: FollowsProgress>(
     progress: &mut F,
 ) -> Result<(), ToolError>
     ensures done { OnOk result (HasUnpackedDisk (shown (geometry_of_ram_device device) (ram_blocks device)) (T.done target.old) (T.done target.new)) }
-    ensures told { IsToldOfActionsDone (AreActionsUnpackingDisk (shown (geometry_of_ram_device device) (ram_blocks device))) (T.done target.old) (T.done target.new) (F.told progress.old) (F.told progress.new) result }
     ensures failed { IfErr result (FailsToUnpackDisk (shown (geometry_of_ram_device device) (ram_blocks device)) (T.done target.old) (T.done target.new)) }
     ensures output { IsThisErrorExactlyIfOneCallFailed ToolError.Output (T.faults target.old) (T.faults target.new) result }
 {
@@ -162,7 +154,6 @@ fn unpack_image<T: Target, F: FollowsProgress>(
 ) -> Result<(), ToolError>
     requires { length image.items < 2 ^ 32 }
     ensures done { OnOk result (HasUnpackedImage layout image.items (T.done target.old) (T.done target.new)) }
-    ensures told { IsToldOfActionsDone (AreActionsUnpackingImage layout image.items) (T.done target.old) (T.done target.new) (F.told progress.old) (F.told progress.new) result }
     ensures failed { IfErr result (FailsToUnpackImage layout image.items (T.done target.old) (T.done target.new)) }
     ensures output { IsThisErrorExactlyIfOneCallFailed ToolError.Output (T.faults target.old) (T.faults target.new) result }
 {
@@ -197,9 +188,6 @@ pub fn unpack<R: ImageInput, T: Target, F: FollowsProgress>(
     progress: &mut F,
 ) -> Result<(), ToolError>
     ensures done { OnOk result (IfSome (R.remaining image.old) (λ bytes. HasUnpackedImage layout bytes (T.done target.old) (T.done target.new))) }
-
-    // The follower is told of the whole, and of each action that is done.
-    ensures told { IfSome (R.remaining image.old) (λ bytes. IsToldOfActionsDone (AreActionsUnpackingImage layout bytes) (T.done target.old) (T.done target.new) (F.told progress.old) (F.told progress.new) result) }
 
     // Nothing is done, or a beginning of the actions, where the target failed or memory ran out.
     ensures failed { IfErr result (FailsToUnpackKnownImage layout (R.remaining image.old) (T.done target.old) (T.done target.new)) }

@@ -6,37 +6,31 @@ use std::fmt::Display;
 use std::io;
 use std::io::{ErrorKind, Read, Write};
 
-/// A reader or a writer of std, with counts of what its calls did. A call that a signal interrupted
-/// is made again, and is no failure.
+/// A reader or a writer of std that counts its failed calls and what it has shown. A call that a signal
+/// interrupted is made again, and is no failure.
 ///
-/// std's traits have no word for a call that failed, nor for a flush. So four facts are read in
-/// the code here, and not proved: that std's call is made, that a failure is counted only where the
-/// call failed, that a flush is one, and that std's flush is called only where one is counted. Callers
+/// std's traits have no word for a call that failed. So two facts are read in the code here, and not
+/// proved: that std's call is made, and that a failure is counted only where the call failed. Callers
 /// know a `WatchedStream` by `ImageInput` and `ToolOutput`, and can't count anything without a call.
 #[derive(Drop)]
 pub struct WatchedStream<T> {
     inner: T,
-    // The failed calls, the writes since the last flush, the flushes, and the values that were shown.
+    // The failed calls, and the values that were shown.
     faults: Tally,
-    pending: Tally,
-    flushes: Tally,
     shown: Tally,
 }
 
 impl<T> WatchedStream<T> {
-    ghost use Rattle.lfs_tool.specs.WatchedStreams.{flush_count, unflushed_write_count, watched_fault_count, watched_inner_stream};
+    ghost use Rattle.lfs_tool.specs.WatchedStreams.{watched_fault_count, watched_inner_stream};
 
     /// Makes a reader or a writer of which no call was made yet.
     pub fn new(inner: T) -> WatchedStream<T>
         ensures inner { watched_inner_stream result ≡ inner }
         ensures faults { watched_fault_count result ≡ 0 }
-        ensures flushes { (unflushed_write_count result ≡ 0) × (flush_count result ≡ 0) }
     {
         WatchedStream {
             inner,
             faults: Tally::none(),
-            pending: Tally::none(),
-            flushes: Tally::none(),
             shown: Tally::none(),
         }
     }
@@ -81,15 +75,11 @@ impl<R: Read> ImageInput for WatchedStream<R> {
 }
 
 impl<W: Write> ToolOutput for WatchedStream<W> {
-    ghost use Rattle.lfs_tool.specs.WatchedStreams.{watched_fault_count, flush_count, watched_inner_stream, unflushed_write_count, written_value_count};
+    ghost use Rattle.lfs_tool.specs.WatchedStreams.{watched_fault_count, watched_inner_stream, written_value_count};
 
     ghost contents = { λ w. W.contents (watched_inner_stream w) };
 
     ghost faults = { watched_fault_count };
-
-    ghost pending = { unflushed_write_count };
-
-    ghost flushes = { flush_count };
 
     ghost shown = { written_value_count };
 
@@ -101,10 +91,7 @@ impl<W: Write> ToolOutput for WatchedStream<W> {
                     self.faults = self.faults.one_more();
                     return Err(io::Error::from(ErrorKind::WriteZero));
                 }
-                Ok(n) => {
-                    self.pending = self.pending.one_more();
-                    return Ok(n);
-                }
+                Ok(n) => return Ok(n),
                 Err(error) if error.kind() == ErrorKind::Interrupted => {}
                 Err(error) => {
                     self.faults = self.faults.one_more();
@@ -120,11 +107,7 @@ impl<W: Write> ToolOutput for WatchedStream<W> {
     fn flush(&mut self) -> io::Result<()> {
         for _ in 0..u64::MAX {
             match self.inner.flush() {
-                Ok(()) => {
-                    self.pending = Tally::none();
-                    self.flushes = self.flushes.one_more();
-                    return Ok(());
-                }
+                Ok(()) => return Ok(()),
                 Err(error) if error.kind() == ErrorKind::Interrupted => {}
                 Err(error) => {
                     self.faults = self.faults.one_more();

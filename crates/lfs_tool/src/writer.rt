@@ -5,20 +5,14 @@ ghost use Rattle.std.specs.Io.KnownBytes.{Appends, Keeps, WriteAppends};
 use std::fmt::Display;
 use std::io;
 
-/// A sink for the bytes of an image, or lines. A contract sees how many of its calls have failed,
-/// how many flushes succeeded, and whether anything was written since.
+/// A sink for the bytes of an image, or lines. A contract sees how many of its calls have failed, and how many
+/// values it has shown.
 pub trait ToolOutput {
     // The bytes that it has, where they are known.
     ghost contents: { Self → Option (List ℕ) } = { λ _. None };
 
     // How many calls have failed.
     ghost faults: { Self → ℕ };
-
-    // How many writes there were since the last flush.
-    ghost pending: { Self → ℕ };
-
-    // How many flushes have succeeded.
-    ghost flushes: { Self → ℕ };
 
     // How many values it has shown.
     ghost shown: { Self → ℕ };
@@ -30,17 +24,14 @@ pub trait ToolOutput {
         ensures bound { WritesAtMost result buf.now }
         ensures bytes { WriteAppends (contents self.old) (contents self.new) result buf.now }
         ensures ok { IfOk result (λ n. (0 < n) × (faults self.new ≡ faults self.old)) }
-        ensures pending { OnOk result (pending self.new ≡ suc (pending self.old)) }
-        ensures unflushed { flushes self.new ≡ flushes self.old }
         ensures fault { OnErr result (faults self.new ≡ suc (faults self.old)) };
 
     /// Flushes the bytes that were written. An error is a failure.
     fn flush(&mut self) -> io::Result<()>
         ensures bytes { Keeps (contents self.old) (contents self.new) }
         ensures ok { OnOk result (faults self.new ≡ faults self.old) }
-        ensures flushed { OnOk result ((pending self.new ≡ 0) × (flushes self.new ≡ suc (flushes self.old))) }
         ensures shown { shown self.new ≡ shown self.old }
-        ensures fault { OnErr result ((faults self.new ≡ suc (faults self.old)) × (flushes self.new ≡ flushes self.old)) };
+        ensures fault { OnErr result (faults self.new ≡ suc (faults self.old)) };
 
     /// Writes the text of a value, and flushes it. An error is a failure, and a part may be written
     /// then.
@@ -48,6 +39,5 @@ pub trait ToolOutput {
         ensures text { OnOk result (IfSome (D.output value.now) (Appends (contents self.old) (contents self.new))) }
         ensures ok { OnOk result (faults self.new ≡ faults self.old) }
         ensures shown { OnOk result (shown self.new ≡ suc (shown self.old)) }
-        ensures flushed { OnOk result ((pending self.new ≡ 0) × (flushes self.new ≡ suc (flushes self.old))) }
-        ensures fault { OnErr result ((faults self.new ≡ suc (faults self.old)) × (flushes self.new ≡ flushes self.old)) };
+        ensures fault { OnErr result (faults self.new ≡ suc (faults self.old)) };
 }

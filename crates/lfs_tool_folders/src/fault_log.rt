@@ -15,8 +15,8 @@ pub struct PathFault {
     pub words: Vec<u8>,
 }
 
-/// Keeps the first fault that is noted, or that memory ran out where one was to be noted. `LoggedFaults`
-/// takes it from here. No contract says what a log has.
+/// Keeps the first fault that is noted, or that memory ran out where one was to be noted. No contract says
+/// what a log has.
 #[derive(Drop)]
 pub struct FaultLog {
     first: RefCell<Result<Option<PathFault>, AllocError>>,
@@ -64,8 +64,11 @@ impl FaultLog {
         }
     }
 
-    // Returns what is noted, and forgets it. `LoggedFaults` calls it.
-    pub(crate) fn take(&self) -> Result<Option<PathFault>, AllocError> {
+    /// Returns what is noted, and forgets it.
+    ///
+    /// # Errors
+    /// Where memory ran out as the first fault was to be noted.
+    pub fn take(&self) -> Result<Option<PathFault>, AllocError> {
         match self.first.try_replace(Ok(None)) {
             Ok(first) => first,
             Err(_) => Ok(None),

@@ -4,12 +4,10 @@
 #![tactic(auto)]
 
 mod entries;
-mod fault_answers;
 mod fault_log;
 mod file_bytes;
 mod file_limits;
 mod full_path;
-mod logged_faults;
 mod names;
 mod new_image;
 mod path_state;
@@ -24,10 +22,8 @@ mod temporary_files;
 mod zeros;
 
 pub use entries::{SourceEntry, read_tree};
-pub use fault_answers::FaultAnswers;
 pub use fault_log::{FaultLog, PathFault};
 pub use file_limits::FileLimits;
-pub use logged_faults::LoggedFaults;
 pub use new_image::NewImage;
 pub use source::{ListedName, Source, SourceError, SourceKind};
 pub use source_folder::Folder;

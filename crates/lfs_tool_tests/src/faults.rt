@@ -1,11 +1,9 @@
-// What is noted in a log of faults is what the places answer, once, and the first alone.
+// Of what is noted in a log of faults the first is taken, once.
 
-use lfs_device::Error;
-use lfs_tool::{Places, RealPlaces};
 use lfs_tool_folders::{FaultLog, PathFault};
 use std::alloc::{AllocError, Global};
+use std::fs;
 use std::test::Fail;
-use std::{fs, io};
 
 // What is noted, one behind the other.
 #[derive(Clone, Copy)]
@@ -16,7 +14,7 @@ enum Note {
     Lost,
 }
 
-// Which of them is answered.
+// Which of them is taken.
 const NOTES: [(&[Note], Option<Note>); 6] = [
     (&[], None),
     (&[Note::Missing("none/a")], Some(Note::Missing("none/a"))),
@@ -43,41 +41,39 @@ fn note_in_log(rt: &HostRuntime, log: &FaultLog, note: Note) {
     }
 }
 
-// The answer that tells of this note.
-fn expected_answer(
+// What is taken then.
+fn expected_fault(
     alloc: Global,
     note: Option<Note>,
-) -> Result<Result<Option<PathFault>, Error>, AllocError> {
+) -> Result<Result<Option<PathFault>, AllocError>, AllocError> {
     match note {
         Some(Note::Missing(path)) => Ok(Ok(Some(PathFault {
             path: path.as_bytes().to_vec(alloc)?,
             words: b"No such file or directory (os error 2)".to_vec(alloc)?,
         }))),
-        Some(Note::Lost) => Ok(Err(Error::NoMemory)),
+        Some(Note::Lost) => Ok(Err(AllocError)),
         None => Ok(Ok(None)),
     }
 }
 
-// Whether the places answer so, and then that no fault is known.
-fn are_faults_answered(
+// Whether this is taken from the log, and then nothing.
+fn is_taken_once(
     rt: &HostRuntime,
     notes: &[Note],
-    answered: Option<Note>,
+    taken: Option<Note>,
 ) -> Result<bool, AllocError> {
-    let mut log = FaultLog::new();
+    let log = FaultLog::new();
     for note in notes {
         note_in_log(rt, &log, *note);
     }
-    let terminal = None::<(io::Stderr, HostRuntime)>;
-    let mut places = RealPlaces::new(rt, &mut log, io::empty(), io::sink(), terminal);
-    let expected = expected_answer(rt.alloc(), answered)?;
-    Ok(places.fault() == expected && places.fault() == Ok(None))
+    let expected = expected_fault(rt.alloc(), taken)?;
+    Ok(log.take() == expected && log.take() == Ok(None))
 }
 
 #[test]
-fn places_answer_the_first_noted_fault(rt: HostRuntime) -> Result<(), Fail> {
-    for (notes, answered) in NOTES {
-        assert!(rt; are_faults_answered(&rt, notes, answered)?);
+fn first_noted_fault_is_taken(rt: HostRuntime) -> Result<(), Fail> {
+    for (notes, taken) in NOTES {
+        assert!(rt; is_taken_once(&rt, notes, taken)?);
     }
     Ok(())
 }

@@ -13,23 +13,15 @@ mod faults;
 #[cfg(test)]
 mod faulty_streams;
 #[cfg(test)]
-mod files;
-#[cfg(test)]
 mod images;
 #[cfg(test)]
 mod lines;
-#[cfg(test)]
-mod memory;
-#[cfg(test)]
-mod profile_runs;
 #[cfg(test)]
 mod profiles;
 #[cfg(test)]
 mod progress;
 #[cfg(test)]
 mod sources;
-#[cfg(test)]
-mod streams;
 #[cfg(test)]
 mod texts;
 #[cfg(test)]

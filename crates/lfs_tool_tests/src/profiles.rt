@@ -65,29 +65,33 @@ const OTHER_NUMBERS: &[u8] = &[
 
 // The first two blocks of an image of littlefs 2.11. A file was made in version 2.0, and written twice in version 2.1.
 // Both times the pair was compacted.
-pub(crate) const FIRMWARE_FIRST: &[u8] =
+const FIRMWARE_FIRST: &[u8] =
     b"\x02\0\0\0\xf0\x0f\xff\xf7littlefs\x0f\xe0\x04\x09a \0\0\x1dxxxxxxxxxxxxxxxxxxxxxxxxxxxx\0\0\x04\x04\
     \x01\0\x02\0\0\x10\0\0\x10\0\0\0\xff\0\0\0\xff\xff\xff\x7f\xfe\x03\0\0\
     \x7f\xef\xfc\x10\x10\0\0\0\xe59L\xc0\x0f\xf0\0\x07\x13W\xe4\x1b\xff\xff\xff\xff\xff\xff\xff\xff\xff\xff\xff\
     p\x1f\xf8\x13yyyyyyyyyyyyyyyyyyyyyyyyyyyy\x7f\xef\xf8\x14\x10\0\0\0\xe59L\xc0\x0f\xf0\0\x18\xcb\xd9\xed!";
 
-pub(crate) const FIRMWARE_SECOND: &[u8] =
-    b"\x03\0\0\0\xf0\x0f\xff\xf7littlefs\x0f\xe0\x04\x09a \0\x04\x19\
+const FIRMWARE_SECOND: &[u8] = b"\x03\0\0\0\xf0\x0f\xff\xf7littlefs\x0f\xe0\x04\x09a \0\x04\x19\
     \x01\0\x02\0\0\x10\0\0\x10\0\0\0\xff\0\0\0\xff\xff\xff\x7f\xfe\x03\0\0\0\0\x04\x04\
     zzzzzzzzzzzzzzzzzzzzzzzzzzzz\x7f\xef\xf8\x14 \0\0\0\xf4T\x93\0\x0f\xf0\0\x17-\xcf\xe9\x16";
 
 // The first two blocks of an image that littlefs 2.11 has formatted in version 2.1.
-pub(crate) const FORMATTED_FIRST: &[u8] =
+const FORMATTED_FIRST: &[u8] =
     b"\0\0\0\0\xf0\x0f\xff\xf7littlefs/\xe0\0\x10\x01\0\x02\0\0\x10\0\0\x10\0\0\0\xff\0\0\0\xff\xff\xff\x7f\xfe\x03\0\0\
     \x7f\xef\xfc\x10\0\x01\0\0\xdeWW\x01\x0f\xf0\0\xcc\x89\x1e\xc4\x82";
 
-pub(crate) const FORMATTED_SECOND: &[u8] =
+const FORMATTED_SECOND: &[u8] =
     b"\x01\0\0\0\xf0\x0f\xff\xf7littlefs/\xe0\0\x10\x01\0\x02\0\0\x10\0\0\x10\0\0\0\xff\0\0\0\xff\xff\xff\x7f\xfe\x03\0\0\
     \x7f\xef\xfc\x10\0\x01\0\0\xdeWW\x01\x0f\xf0\0\xcc\x06\x90\x17H";
 
 const FIRMWARE_BLOCKS: &[(usize, BlockFilling<'static>)] = &[
     (0, BlockFilling::Bytes(FIRMWARE_FIRST)),
     (1, BlockFilling::Bytes(FIRMWARE_SECOND)),
+];
+
+const FORMATTED_BLOCKS: &[(usize, BlockFilling<'static>)] = &[
+    (0, BlockFilling::Bytes(FORMATTED_FIRST)),
+    (1, BlockFilling::Bytes(FORMATTED_SECOND)),
 ];
 
 // The second pair of a superblock's chain, with a superblock of version 2.1, one of 2.0, and one with another limit.
@@ -118,7 +122,7 @@ type Row<'a> = (
 const LATER_FILE: &str =
     "ok\nfiles 1\ndirectories 0\nused 2 of 16 blocks\nfree 14\norder either\nversion 2.1\nrecover no\nwritable yes\n";
 
-const CHECKED: [Row<'static>; 21] = [
+const CHECKED: [Row<'static>; 23] = [
     // versions
     (&[], &[], ALSO, FRESH),
     (
@@ -179,6 +183,18 @@ const CHECKED: [Row<'static>; 21] = [
         "corrupt\npair 0 1, superblock: version 2.1\n",
     ),
     (&[], FIRMWARE_BLOCKS, ALSO, LATER_FILE),
+    (
+        &[],
+        FORMATTED_BLOCKS,
+        DEFAULT,
+        "corrupt\nsuperblock: version 2.1\n",
+    ),
+    (
+        &[],
+        FORMATTED_BLOCKS,
+        ALSO,
+        "ok\nfiles 0\ndirectories 0\nused 2 of 16 blocks\nfree 14\norder either\nversion 2.1\nrecover no\nwritable yes\n",
+    ),
     // limits
     (
         &[(0x2010_0018, SHORT_NAMES)],

@@ -29,7 +29,7 @@ pub(crate) fn memory_source_of_items(
 }
 
 // Whether these are the entries of a source, in this order.
-pub(crate) fn is_source_read_as_items<S: Source>(
+fn is_source_read_as_items<S: Source>(
     alloc: Global,
     source: &mut S,
     wanted: Items<'_>,

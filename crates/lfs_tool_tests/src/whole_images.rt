@@ -1,7 +1,6 @@
 // Images that are written whole or not at all.
 
 use crate::disk::{DiskFiles, DiskHabit, MemoryFileSystem, PathKind};
-use crate::files::{is_program_answer_as_expected, program_words};
 use lfs_tool_folders::NewImage;
 use std::alloc::Global;
 use std::fs::Files;
@@ -164,59 +163,6 @@ fn images_that_are_dropped_leave_the_old_one(rt: HostRuntime) -> Result<(), Fail
     let found = disk.bytes_of_named_node(rt.alloc(), PATH)?;
     assert!(rt; found.as_ref().map(|bytes| bytes.as_slice()) == Some(OLD));
     assert_eq!(rt; disk.count(), 1);
-    Ok(())
-}
-
-// The program makes the image of an empty folder: 16 blocks of 1,024 bytes, of which two are used.
-const WORDS: &[&str] = &[
-    "-c",
-    "source",
-    "-b",
-    "1024",
-    "-p",
-    "128",
-    "-s",
-    "16384",
-    "--explain",
-    PATH,
-];
-
-// How many bytes are free, what the file system does, the status, and what is shown.
-const PROGRAM_RUNS: [(usize, DiskHabit, u8, &str); 9] = [
-    (0, DiskHabit::Plain, 3, FULL),
-    (2047, DiskHabit::Plain, 3, FULL),
-    (2048, DiskHabit::Plain, 3, FULL),
-    (2049, DiskHabit::Plain, 3, FULL),
-    (16383, DiskHabit::Plain, 3, FULL),
-    (16384, DiskHabit::Plain, 0, ""),
-    (16384, DiskHabit::NoNewNames, 0, ""),
-    (16383, DiskHabit::NoNewPlaces, 3, FULL),
-    (32768, DiskHabit::NoNewPlaces, 0, ""),
-];
-
-const FULL: &str = "error: output\nout/image: no storage space\n";
-
-// An old image stays where there is no room for all of the new one, also where only its unused blocks lack it.
-#[test]
-fn images_without_room_for_their_end_leave_the_old_one(rt: HostRuntime) -> Result<(), Fail> {
-    for (room, habit, status, err) in PROGRAM_RUNS {
-        let disk = disk_with_old_image(rt.alloc(), Some(PathKind::File), room, habit)?;
-        let files = DiskFiles {
-            alloc: rt.alloc(),
-            disk: &disk,
-        };
-        let words = program_words(rt.alloc(), WORDS)?;
-        assert!(rt;
-            is_program_answer_as_expected(&files, Ok(words), status, "", err),
-            "{room} {habit:?}"
-        );
-        let found = disk.bytes_of_named_node(rt.alloc(), PATH)?;
-        let is_old = found.as_ref().map(|bytes| bytes.as_slice()) == Some(OLD);
-        assert_eq!(rt; is_old, status == 3, "{room} {habit:?}");
-        let len = found.as_ref().map(|bytes| bytes.len());
-        assert_eq!(rt; len == Some(16384), status == 0, "{room} {habit:?}");
-        assert_eq!(rt; disk.count(), 1, "{room} {habit:?}");
-    }
     Ok(())
 }
 

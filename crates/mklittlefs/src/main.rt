@@ -2,8 +2,20 @@
 //! mklittlefs: makes an image of a littlefs file system from a folder, unpacks one into a folder, lists one, or checks one.
 #![tactic(auto)]
 
-use lfs_tool::{FaultLog, RealPlaces, WatchedStream, run_and_return_exit_status};
-use std::io::IsTerminal;
+mod blocks;
+mod explain;
+mod files;
+mod progress;
+#[cfg(test)]
+mod progress_tests;
+mod run;
+#[cfg(test)]
+mod run_tests;
+
+use crate::files::Host;
+use crate::run::run_words_and_return_exit_status;
+use lfs_tool::WatchedStream;
+use lfs_tool_folders::FaultLog;
 use std::process::ExitCode;
 use std::{env, io};
 
@@ -13,32 +25,11 @@ fn read_command_line_words(rt: &HostRuntime) -> io::Result<Vec<String>> {
     Ok(words)
 }
 
-// Returns the terminal and the clock of the line that says how far the work is, where standard error is a
-// terminal.
-fn progress_terminal_and_clock(rt: &HostRuntime) -> Option<(io::Stderr, HostRuntime)> {
-    if rt.stderr().is_terminal() {
-        Some((rt.stderr(), *rt))
-    } else {
-        None
-    }
-}
-
 fn main(rt: HostRuntime) -> ExitCode {
+    let log = FaultLog::new();
+    let host = Host { rt: &rt, log: &log };
     let mut out = WatchedStream::new(rt.stdout());
     let mut err = WatchedStream::new(rt.stderr());
-    let mut log = FaultLog::new();
-    let mut places = RealPlaces::new(
-        &rt,
-        &mut log,
-        rt.stdin(),
-        rt.stdout(),
-        progress_terminal_and_clock(&rt),
-    );
-    ExitCode::from(run_and_return_exit_status(
-        rt.alloc(),
-        &mut places,
-        read_command_line_words(&rt),
-        &mut out,
-        &mut err,
-    ))
+    let words = read_command_line_words(&rt);
+    ExitCode::from(run_words_and_return_exit_status(host, words, &mut out, &mut err))
 }

@@ -1,12 +1,11 @@
-use Rattle.std.proofs.Common.{List, ap, ◌≡◌, ◌∙◌, inr, subst, sym}
+use Rattle.std.proofs.Common.{List, ap, ◌≡◌, ◌∙◌, subst, sym}
 use Rattle.std.proofs.lemmas.Result.{IfOk-weaker}
 use Rattle.lfs_tool_folders.specs.declared.entries.SourceEntry.{SourceEntry}
-use Rattle.lfs_tool.specs.AmountsTold.{amounts_of_entries, told_of_all_done}
 use Rattle.lfs_tool.specs.Excerpt.{bytes_padded_to_size}
 use Rattle.lfs_tool.specs.NewImageDevice.{bytes_of_new_image_device}
-use Rattle.lfs_tool.specs.MadeImages.{IsToldOfCopyBeforeError, RefusesCopyOfEntries}
+use Rattle.lfs_tool.specs.MadeImages.{RefusesCopyOfEntries}
 use Rattle.lfs_tool.proofs.Writers.{reports_written}
-use Rattle.lfs_tool.proofs.ImagesMade.{made, passed, told_copied}
+use Rattle.lfs_tool.proofs.ImagesMade.{made, passed}
 use Rattle.lfs_tool.proofs.Walking.{carry_over}
 use Rattle.lfs_tool.proofs.creation.create.Goals as goal
 
@@ -20,7 +19,7 @@ returns-in-Ok-clause-ok g c =
     c.write_padded_bytes_and_flush.ensures.ok
 
 pub returns-in-Ok-clause-writer : goal.returns-in-Ok-clause-writer
-returns-in-Ok-clause-writer g c = reports_written g.W.ToolOutput _ _ c.write_padded_bytes_and_flush.result c.write_padded_bytes_and_flush.ensures.kept c.write_padded_bytes_and_flush.ensures.flushed c.write_padded_bytes_and_flush.ensures.failed
+returns-in-Ok-clause-writer g c = reports_written g.W.ToolOutput _ _ c.write_padded_bytes_and_flush.result c.write_padded_bytes_and_flush.ensures.kept c.write_padded_bytes_and_flush.ensures.failed
 
 pub returns-in-Ok-clause-beginning : goal.returns-in-Ok-clause-beginning
 returns-in-Ok-clause-beginning g c = λ _.
@@ -36,21 +35,3 @@ returns-clause-refused g c = λ e is not_memory.
     let refused : RefusesCopyOfEntries c.args.geometry c.args.order entries c.in-Err.error =
     subst (λ (es : List SourceEntry). RefusesCopyOfEntries c.args.geometry c.args.order es c.in-Err.error) c.as_slice.ensures.value (c.in-Err.ensures.err (λ x. not_memory (sym error ∙ x))) in
     (entries, (c.in_ok-entries.ensures.entries, (carry_over (g.S.Source.shown c.args.source.now) entries c.in_ok-entries.ensures.entries, subst (RefusesCopyOfEntries c.args.geometry c.args.order entries) error refused)))
-
-pub returns-in-Ok-clause-told : goal.returns-in-Ok-clause-told
-returns-in-Ok-clause-told g c =
-    let entries = c.in_ok-entries.entries.items in
-    let old = g.F.FollowsProgress.told c.args.progress.now in
-    let new = g.F.FollowsProgress.told c.new_image_of_entries.new.progress in
-    told_copied _ c.write_padded_bytes_and_flush.result c.args.geometry c.args.order (g.S.Source.shown c.args.source.now) entries old new c.write_padded_bytes_and_flush.ensures.failed c.in_ok-entries.ensures.entries
-    (subst (λ (es : List SourceEntry). new ≡ told_of_all_done (amounts_of_entries es) old) c.as_slice.ensures.value c.in-Ok.ensures.told)
-
-pub returns-clause-told : goal.returns-clause-told
-returns-clause-told g c =
-    inr (
-      c.in_ok-entries.entries.items,
-      (
-        c.in_ok-entries.ensures.entries,
-        subst (λ (es : List SourceEntry). IsToldOfCopyBeforeError c.args.geometry c.args.order es (g.F.FollowsProgress.told c.args.progress.now) (g.F.FollowsProgress.told c.new_image_of_entries.new.progress) c.in-Err.error) c.as_slice.ensures.value c.in-Err.ensures.told_before,
-      ),
-    )

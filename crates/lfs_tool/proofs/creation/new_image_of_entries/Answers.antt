@@ -1,7 +1,7 @@
 use Rattle.std.proofs.Common.{refl}
 use Rattle.lfs_fs.specs.SessionView.{system_state_of_session_view}
 use Rattle.lfs_tool.specs.NewImageDevice.{bytes_of_new_image_device}
-use Rattle.lfs_tool.proofs.ImagesMade.{left, refused, told_refused}
+use Rattle.lfs_tool.proofs.ImagesMade.{left, refused}
 use Rattle.lfs_tool.proofs.creation.new_image_of_entries.Goals as goal
 
 pub returns-in_err-copy_entries_into_session-clause-err : goal.returns-in_err-copy_entries_into_session-clause-err
@@ -13,8 +13,3 @@ pub returns-clause-ok : goal.returns-clause-ok
 returns-clause-ok g c =
     left c.args.geometry c.args.order (system_state_of_session_view c.in_ok-session.session) (system_state_of_session_view c.copy_entries_into_session.new.session) c.args.entries.now c.unmount.result (bytes_of_new_image_device c.unmount.result) c.in_ok-session.ensures.begins c.in_ok-copy_entries_into_session.ensures.carried
     c.unmount.ensures.disk refl
-
-pub returns-in_err-copy_entries_into_session-clause-told_before : goal.returns-in_err-copy_entries_into_session-clause-told_before
-returns-in_err-copy_entries_into_session-clause-told_before g c =
-    told_refused c.from_residual-in_err-copy_entries_into_session.result c.in_err-copy_entries_into_session.field-0.0 c.args.geometry c.args.order (system_state_of_session_view c.in_ok-session.session) c.args.entries.now _ _ c.from_residual-in_err-copy_entries_into_session.ensures.1
-    c.in_ok-session.ensures.begins c.in_err-copy_entries_into_session.ensures.told_before

@@ -18,4 +18,4 @@ returns-clause-beginning g c = λ failed.
     with_lines (g.R.ImageInput.remaining c.args.image.now) c.args.layout c.in_ok-text.text.items P c.in_ok-text.ensures.ok (subst P c.as_slice.ensures.value c.write_bytes_and_flush.ensures.beginning)
 
 pub returns-clause-writer : goal.returns-clause-writer
-returns-clause-writer g c = reports_written g.W.ToolOutput _ _ c.write_bytes_and_flush.result c.write_bytes_and_flush.ensures.kept c.write_bytes_and_flush.ensures.flushed c.write_bytes_and_flush.ensures.failed
+returns-clause-writer g c = reports_written g.W.ToolOutput _ _ c.write_bytes_and_flush.result c.write_bytes_and_flush.ensures.kept c.write_bytes_and_flush.ensures.failed

@@ -6,6 +6,5 @@ pub loop-at-preserved : goal.loop-at-preserved
 loop-at-preserved g c = record {
   within = search rules;
   same = search rules;
-  unflushed = search rules;
   written = appends_more _ _ _ c.loop-at.at c.in-Ok.n c.args.bytes.now c.loop-at.invariant.written c.in-Ok.ensures.bytes;
 }

@@ -6,7 +6,6 @@ abbrev pub invariant-loop-at : goal.invariant-loop-at
 invariant-loop-at g l = record {
   within : l.at ≤ length l.bytes;
   same : g.W.ToolOutput.faults l.out ≡ g.W.ToolOutput.faults l.initial.out;
-  unflushed : g.W.ToolOutput.flushes l.out ≡ g.W.ToolOutput.flushes l.initial.out;
   written : Appends (g.W.ToolOutput.contents l.initial.out) (g.W.ToolOutput.contents l.out) (take l.at l.bytes);
 }
 

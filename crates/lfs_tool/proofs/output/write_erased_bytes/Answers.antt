@@ -19,6 +19,5 @@ loop-written-preserved g c =
     record {
       within = omega (arith, c.min-n.ensures, c.loop-written.invariant.within);
       same = search rules;
-      unflushed = search rules;
       written = erased_more _ mid new c.loop-written.written c.min-n.result c.loop-written.invariant.written (subst (Appends mid new) (take-replicate c.min-n.result 65536 255 (omega (arith, c.min-n.ensures))) c.in_ok-write_bytes.ensures.ok);
     }

@@ -6,7 +6,6 @@ abbrev pub invariant-loop-written : goal.invariant-loop-written
 invariant-loop-written g l = record {
   within : l.written ≤ l.count;
   same : g.W.ToolOutput.faults l.out ≡ g.W.ToolOutput.faults l.initial.out;
-  unflushed : g.W.ToolOutput.flushes l.out ≡ g.W.ToolOutput.flushes l.initial.out;
   written : Appends (g.W.ToolOutput.contents l.initial.out) (g.W.ToolOutput.contents l.out) (replicate l.written 255);
 }
 

@@ -1,7 +1,5 @@
-use Rattle.std.proofs.Common.{◌∙◌, arith, take}
-use Rattle.lfs_tool.specs.AmountsTold.{amount_of_tree_item, amounts_of_tree_items}
+use Rattle.std.proofs.Common.{◌∙◌}
 use Rattle.lfs_tool.proofs.ActionsDone.{at_error, begun_item, done_item, list_at, only_trans}
-use Rattle.lfs_tool.proofs.AmountsTold.{told_begun, told_end, told_next}
 use Rattle.lfs_tool.proofs.unpacked_images.put_tree_items.Goals as goal
 
 pub put_tree_item-requires-clause-list : goal.put_tree_item-requires-clause-list
@@ -11,8 +9,7 @@ put_tree_item-requires-clause-list g c =
 pub returns-in_err-put_tree_item-clause-begun : goal.returns-in_err-put_tree_item-clause-begun
 returns-in_err-put_tree_item-clause-begun g c =
     at_error c.from_residual.result _
-    (begun_item c.args.thread.now.kept.disk c.args.items.now c.loop-item.item-index _ (g.T.Target.done c.loop-item.target) _ _ _ c.loop-item.invariant.2 c.in_err-put_tree_item.ensures.undone
-    (told_begun (amounts_of_tree_items c.args.items.now) (take c.loop-item.item-index (amounts_of_tree_items c.args.items.now)) _ _ _ _ c.begin.ensures.told c.file_and_byte_counts_of_items.ensures c.loop-item.invariant.4))
+    (begun_item c.args.thread.now.kept.disk c.args.items.now c.loop-item.item-index _ (g.T.Target.done c.loop-item.target) _ c.loop-item.invariant.2 c.in_err-put_tree_item.ensures.undone)
 
 pub loop-item-preserved : goal.loop-item-preserved
 loop-item-preserved g c =
@@ -23,10 +20,4 @@ loop-item-preserved g c =
       done_item c.args.thread.now.kept.disk c.loop-item.thread.kept.disk c.args.items.now c.loop-item.item-index c.item-item.result _ (g.T.Target.done c.loop-item.target) _
           before.1.disk c.loop-item-test.true c.item-item.is before.2 e.done,
       e.reports ∙ before.3,
-      told_next amount_of_tree_item c.args.items.now c.loop-item.item-index _ c.item-item.result _ (g.F.FollowsProgress.told c.loop-item.progress) _ c.loop-item-test.true c.item-item.is c.file_and_byte_counts_of_item.ensures c.add.ensures.told before.4,
     )
-
-pub returns-clause-told : goal.returns-clause-told
-returns-clause-told g c =
-    told_begun (amounts_of_tree_items c.args.items.now) (amounts_of_tree_items c.args.items.now) _ _ _ _ c.begin.ensures.told c.file_and_byte_counts_of_items.ensures
-    (told_end amount_of_tree_item c.args.items.now c.loop-item.item-index _ _ (omega arith) c.loop-item.invariant.4)

@@ -1,14 +1,10 @@
 use Rattle.std.proofs.lemmas.Result.{IfErr-weaker, on_ok_weaker}
-use Rattle.lfs_tool.proofs.Unpacks.{done_read, fails_known, told_read}
+use Rattle.lfs_tool.proofs.Unpacks.{done_read, fails_known}
 use Rattle.lfs_tool.proofs.unpacked_images.unpack.Goals as goal
 
 pub returns-clause-done : goal.returns-clause-done
 returns-clause-done g c =
     on_ok_weaker c.unpack_image.result (λ h. done_read (g.R.ImageInput.remaining c.args.image.now) c.args.layout c.in_ok-bytes.bytes.items _ _ c.in_ok-bytes.ensures.bytes h) c.unpack_image.ensures.done
-
-pub returns-clause-told : goal.returns-clause-told
-returns-clause-told g c =
-    told_read (g.R.ImageInput.remaining c.args.image.now) c.args.layout c.in_ok-bytes.bytes.items c.unpack_image.result _ _ _ _ c.in_ok-bytes.ensures.bytes c.unpack_image.ensures.told
 
 pub returns-clause-failed : goal.returns-clause-failed
 returns-clause-failed g c =

@@ -3,7 +3,7 @@ use Rattle.lfs_device.specs.RamDevice.{ram_blocks, geometry_of_ram_device}
 use Rattle.lfs_device.specs.Shown.{disk_of_geometry_and_blocks as shown}
 use Rattle.lfs_device.specs.declared.ram.RamDevice.{RamDevice}
 use Rattle.lfs_model.specs.Disk.{Disk}
-use Rattle.lfs_tool.proofs.Unpacks.{done_image, fails_image, told_image}
+use Rattle.lfs_tool.proofs.Unpacks.{done_image, fails_image}
 use Rattle.lfs_tool.proofs.unpacked_images.unpack_image.Goals as goal
 
 -- the disk that a device in memory shows
@@ -14,11 +14,6 @@ pub returns-in-Ok-clause-done : goal.returns-in-Ok-clause-done
 returns-in-Ok-clause-done g c =
     let d = c.in-Ok.ensures in
     on_ok_weaker c.unpack_ram_device.result (λ h. done_image c.args.layout c.args.image.items (disk_in c.in-Ok.device) _ _ d.image d.disk h) c.unpack_ram_device.ensures.done
-
-pub returns-in-Ok-clause-told : goal.returns-in-Ok-clause-told
-returns-in-Ok-clause-told g c =
-    let d = c.in-Ok.ensures in
-    told_image c.args.layout c.args.image.items (disk_in c.in-Ok.device) c.unpack_ram_device.result _ _ _ _ d.image d.disk c.unpack_ram_device.ensures.told
 
 pub returns-in-Ok-clause-failed : goal.returns-in-Ok-clause-failed
 returns-in-Ok-clause-failed g c =

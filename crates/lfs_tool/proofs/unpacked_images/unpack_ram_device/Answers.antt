@@ -1,15 +1,11 @@
-use Rattle.std.proofs.Common.{◌≡◌, subst, sym}
-use Rattle.std.proofs.lemmas.Result.{on_err_weaker, on_ok_weaker}
+use Rattle.std.proofs.Common.{List, subst, sym}
+use Rattle.std.proofs.lemmas.Result.{on_ok_weaker}
 use Rattle.lfs_device.specs.RamDevice.{ram_blocks, geometry_of_ram_device}
 use Rattle.lfs_device.specs.Shown.{disk_of_geometry_and_blocks as shown}
-use Rattle.lfs_model.proofs.Cuts.{HasBlocksOfCountAndSize-cut}
 use Rattle.lfs_lookup.specs.Walk.{tree_items_view}
 use Rattle.lfs_lookup.specs.declared.walks.TreeItem.{TreeItem}
-use Rattle.std.proofs.Common.{List}
-use Rattle.lfs_tool.specs.AmountsTold.{amounts_of_tree_items, told_of_all_done}
-use Rattle.lfs_tool.specs.Unpackings.{HaveWellFormedSkipLists, HasDoneBeginningOfUnpackingActions, HasDoneTheseFurtherUnpackingActions, IsToldOfBeginningOfTreeItems, unpacking_actions_for_tree_entries}
-use Rattle.lfs_tool.proofs.Unpacks.{begun_of, done_of, fails_begun, lists_walked, told_of}
-use Rattle.lfs_tool.proofs.Walked.{HasSizes}
+use Rattle.lfs_tool.specs.Unpackings.{HaveWellFormedSkipLists, HasDoneBeginningOfUnpackingActions, HasDoneTheseFurtherUnpackingActions, unpacking_actions_for_tree_entries}
+use Rattle.lfs_tool.proofs.Unpacks.{begun_of, done_of, fails_begun, lists_walked}
 use Rattle.lfs_tool.proofs.unpacked_images.unpack_ram_device.Goals as goal
 
 pub put_tree_items-requires-clause-lists : goal.put_tree_items-requires-clause-lists
@@ -27,24 +23,6 @@ returns-in-Ok-clause-done g c =
     done_of (shown (geometry_of_ram_device c.args.device) (ram_blocks c.args.device)) c.in-Ok.thread.kept.disk c.in-Ok.thread.kept.disk.order c.in-Ok.thread.kept.pairs (tree_items_view c.in-Ok.items.items) h.disk_is h.accepted h.walked old new
     (subst (λ (items : List TreeItem). HasDoneTheseFurtherUnpackingActions old new (unpacking_actions_for_tree_entries c.in-Ok.thread.kept.disk (tree_items_view items))) c.deref.ensures.value all)) c.put_tree_items.ensures.done
 
-pub returns-in-Ok-clause-told : goal.returns-in-Ok-clause-told
-returns-in-Ok-clause-told g c =
-    let h = c.in-Ok.ensures.items in
-    let d = c.args.device in
-    let sizes : HasSizes (shown (geometry_of_ram_device d) (ram_blocks d)) = record {
-      enough = d.geometry.valid.no_smaller;
-      count = d.geometry.block_count;
-      divided = HasBlocksOfCountAndSize-cut d.geometry.block_size d.geometry.block_count d.bytes.items d.size;
-    } in
-    let was = g.T.Target.done c.args.target.now in
-    let done = g.T.Target.done c.put_tree_items.new.target in
-    let old = g.F.FollowsProgress.told c.args.progress.now in
-    let new = g.F.FollowsProgress.told c.put_tree_items.new.progress in
-    told_of (shown (geometry_of_ram_device d) (ram_blocks d)) c.in-Ok.thread.kept.disk c.in-Ok.thread.kept.disk.order c.in-Ok.thread.kept.pairs c.in-Ok.items.items sizes h.disk_is h.accepted h.walked c.put_tree_items.result was done old new _ _
-    (on_ok_weaker c.put_tree_items.result (λ told. subst (λ (items : List TreeItem). new ≡ told_of_all_done (amounts_of_tree_items items) old) c.deref.ensures.value told) c.put_tree_items.ensures.told)
-    (on_err_weaker c.put_tree_items.result (λ begun. subst (λ (items : List TreeItem). IsToldOfBeginningOfTreeItems c.in-Ok.thread.kept.disk items was done old new) c.deref.ensures.value begun) c.put_tree_items.ensures.begun)
-    c.put_tree_items.ensures.reports
-
 pub returns-in-Ok-clause-failed : goal.returns-in-Ok-clause-failed
 returns-in-Ok-clause-failed g c =
     let h = c.in-Ok.ensures.items in
@@ -52,4 +30,4 @@ returns-in-Ok-clause-failed g c =
     let new = g.T.Target.done c.put_tree_items.new.target in
     fails_begun (shown (geometry_of_ram_device c.args.device) (ram_blocks c.args.device)) old new _ _ c.put_tree_items.result _ c.put_tree_items.ensures.begun (λ begun.
     begun_of (shown (geometry_of_ram_device c.args.device) (ram_blocks c.args.device)) c.in-Ok.thread.kept.disk c.in-Ok.thread.kept.disk.order c.in-Ok.thread.kept.pairs (tree_items_view c.in-Ok.items.items) h.disk_is h.accepted h.walked old new
-    (subst (λ (items : List TreeItem). HasDoneBeginningOfUnpackingActions old new (unpacking_actions_for_tree_entries c.in-Ok.thread.kept.disk (tree_items_view items))) c.deref.ensures.value (begun.0, begun.1.0))) c.put_tree_items.ensures.reports
+    (subst (λ (items : List TreeItem). HasDoneBeginningOfUnpackingActions old new (unpacking_actions_for_tree_entries c.in-Ok.thread.kept.disk (tree_items_view items))) c.deref.ensures.value begun)) c.put_tree_items.ensures.reports

@@ -3,7 +3,7 @@ use Rattle.std.proofs.KnownBytes.{Keeps-refl, Keeps-trans}
 use Rattle.lfs_tool.proofs.watched_stream.WatchedStreamToolOutput.flush.Goals as goal
 
 pub loop-init : goal.loop-init
-loop-init g c = record { kept = Keeps-refl _; shown = refl; flushes = refl; same = refl }
+loop-init g c = record { kept = Keeps-refl _; shown = refl; same = refl }
 
 pub returns-in-Ok-clause-bytes : goal.returns-in-Ok-clause-bytes
 returns-in-Ok-clause-bytes g c = Keeps-trans _ _ _ c.loop.invariant.kept c.flush.ensures.bytes
@@ -12,4 +12,4 @@ pub returns-in-Err-2-clause-bytes : goal.returns-in-Err-2-clause-bytes
 returns-in-Err-2-clause-bytes g c = Keeps-trans _ _ _ c.loop.invariant.kept c.flush.ensures.bytes
 
 pub loop-preserved : goal.loop-preserved
-loop-preserved g c = record { kept = Keeps-trans _ _ _ c.loop.invariant.kept c.flush.ensures.bytes; shown = c.loop.invariant.shown; flushes = c.loop.invariant.flushes; same = c.loop.invariant.same }
+loop-preserved g c = record { kept = Keeps-trans _ _ _ c.loop.invariant.kept c.flush.ensures.bytes; shown = c.loop.invariant.shown; same = c.loop.invariant.same }

@@ -6,6 +6,5 @@ abbrev pub invariant-loop : goal.invariant-loop
 invariant-loop g l = record {
   kept : Keeps (g.W.Write.contents l.initial.self.inner) (g.W.Write.contents l.self.inner);
   shown : l.self.shown.count ≡ l.initial.self.shown.count;
-  flushes : l.self.flushes.count ≡ l.initial.self.flushes.count;
   same : l.self.faults.count ≡ l.initial.self.faults.count;
 }

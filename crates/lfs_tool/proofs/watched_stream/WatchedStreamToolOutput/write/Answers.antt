@@ -4,7 +4,7 @@ use Rattle.lfs_tool.proofs.KnownBytes.{appends_behind, keeps_behind}
 use Rattle.lfs_tool.proofs.watched_stream.WatchedStreamToolOutput.write.Goals as goal
 
 pub loop-init : goal.loop-init
-loop-init g c = record { kept = Keeps-refl _; pending = refl; flushes = refl; same = refl }
+loop-init g c = record { kept = Keeps-refl _; same = refl }
 
 pub returns-in-Ok-eq0-clause-bytes : goal.returns-in-Ok-eq0-clause-bytes
 returns-in-Ok-eq0-clause-bytes g c =
@@ -17,4 +17,4 @@ pub returns-in-Err-2-clause-bytes : goal.returns-in-Err-2-clause-bytes
 returns-in-Err-2-clause-bytes g c = Keeps-trans _ _ _ c.loop.invariant.kept c.in-Err-2.ensures.bytes
 
 pub loop-preserved : goal.loop-preserved
-loop-preserved g c = record { kept = Keeps-trans _ _ _ c.loop.invariant.kept c.in-Err.ensures.bytes; pending = c.loop.invariant.pending; flushes = c.loop.invariant.flushes; same = c.loop.invariant.same }
+loop-preserved g c = record { kept = Keeps-trans _ _ _ c.loop.invariant.kept c.in-Err.ensures.bytes; same = c.loop.invariant.same }

@@ -5,7 +5,5 @@ use Rattle.lfs_tool.proofs.watched_stream.WatchedStreamToolOutput.write.Given as
 abbrev pub invariant-loop : goal.invariant-loop
 invariant-loop g l = record {
   kept : Keeps (g.W.Write.contents l.initial.self.inner) (g.W.Write.contents l.self.inner);
-  pending : l.self.pending.count ≡ l.initial.self.pending.count;
-  flushes : l.self.flushes.count ≡ l.initial.self.flushes.count;
   same : l.self.faults.count ≡ l.initial.self.faults.count;
 }

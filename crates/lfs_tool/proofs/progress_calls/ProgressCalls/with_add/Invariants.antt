@@ -1,6 +1,0 @@
-use Rattle.std.proofs.Common.{◌∷◌}
-use Rattle.lfs_tool.specs.AmountsTold.{AddCalled}
-use Rattle.lfs_tool.proofs.progress_calls.ProgressCalls.with_add.Given as goal
-
-abbrev pub ghost-with_calls_chosen_by_proof : goal.ghost-with_calls_chosen_by_proof
-ghost-with_calls_chosen_by_proof a = AddCalled a._call.now ∷ a._before.now.calls

@@ -1,0 +1,171 @@
+// Why a command line wasn't carried out: the lines of --explain.
+
+use crate::blocks::{EnoughBlocks, enough_blocks_for_entries};
+use crate::files::{Host, OldImage, is_standard_stream, open_image};
+use crate::run::{folder_of_line, geometry_of_line, layout_of_line};
+use lfs_device::Error;
+use lfs_tool::{
+    CheckResult, Fault, ImageInput, Line, Mode, RefusalReason, ToolError, ToolOutput, WrongNumber,
+    check_result_of_image, lines_of_check_result, push_escaped_path, report, write_bytes_and_flush,
+};
+use lfs_tool_folders::{SourceError, read_tree};
+use lfs_tool_line::Sizes;
+use std::io::Write;
+
+// The most bytes that an image has.
+const IMAGE_MAX: u32 = 268_435_456;
+
+// The version 2.1, as a superblock has it.
+const LATER_VERSION: u32 = 0x0002_0001;
+
+// Opens the line's image once more. Standard input can't be read twice.
+fn open_image_again<'a>(host: Host<'a>, line: &Line<'a>) -> Result<OldImage<'a>, ToolError> {
+    if is_standard_stream(line.image) {
+        return Err(ToolError::Input);
+    }
+    open_image(host, line.image)
+}
+
+// The fault that a file, a folder or a stream met.
+fn path_fault_line(host: Host<'_>) -> Result<Vec<u8>, ToolError> {
+    let mut text = Vec::new(host.alloc());
+    if let Some(fault) = host.log.take()? {
+        push_escaped_path(&mut text, &fault.path)?;
+        text.extend_from_slice(b": ")?;
+        push_escaped_path(&mut text, &fault.words)?;
+        text.extend_from_slice(b"\n")?;
+    }
+    Ok(text)
+}
+
+// How many bytes the line's image has, or one more than it may have.
+fn size_of_image(host: Host<'_>, line: &Line<'_>) -> Result<usize, ToolError> {
+    if let Mode::Create(_) = line.mode {
+        return Ok(line.size as usize);
+    }
+    let most = IMAGE_MAX as usize + 1;
+    let mut image = open_image_again(host, line)?;
+    let mut buffer = [0u8; 65536];
+    let mut size = 0usize;
+    for _ in 0..most {
+        match image.read(&mut buffer) {
+            Ok(0) => break,
+            Ok(n) => size = size.saturating_add(n),
+            Err(_) => return Err(ToolError::Input),
+        }
+        if size >= most {
+            break;
+        }
+    }
+    Ok(size.min(most))
+}
+
+// The rule that the sizes break.
+fn size_rule_line(host: Host<'_>, line: &Line<'_>) -> Result<Vec<u8>, ToolError> {
+    let sizes = Sizes {
+        size: size_of_image(host, line)?,
+        block_size: line.block_size,
+        page: line.page,
+    };
+    let mut text = Vec::new(host.alloc());
+    if let Some(rule) = sizes.broken_rule() {
+        sizes.push_broken_rule_line(&mut text, rule)?;
+    }
+    Ok(text)
+}
+
+// The wrong number of a superblock, where that is why an image isn't accepted.
+fn wrong_number_of_check_result(checked: &CheckResult) -> Option<WrongNumber> {
+    match checked {
+        CheckResult::Accepted { .. } => None,
+        CheckResult::Refused { reason, .. } => match reason {
+            RefusalReason::WrongNumber(stated) => Some(*stated),
+            RefusalReason::Broken(rule) => rule.stated,
+            RefusalReason::NoImage => None,
+        },
+    }
+}
+
+// What a check says of the image. For version 2.1 it says which option reads it.
+fn check_lines(host: Host<'_>, line: &Line<'_>) -> Result<Vec<u8>, ToolError> {
+    let mut image = open_image_again(host, line)?;
+    let checked = check_result_of_image(host.alloc(), &mut image, layout_of_line(line))?;
+    let mut text = lines_of_check_result(host.alloc(), &checked)?;
+    if wrong_number_of_check_result(&checked) == Some(WrongNumber::Version(LATER_VERSION)) {
+        let _end = text.pop();
+        text.extend_from_slice(b"; --also-2.1 reads it\n")?;
+    }
+    Ok(text)
+}
+
+// How many blocks the image of a folder takes.
+fn needed_blocks_line(host: Host<'_>, line: &Line<'_>, folder: &str) -> Result<Vec<u8>, ToolError> {
+    let blocks = geometry_of_line(line)?.block_count;
+    let mut source = folder_of_line(host, line, folder, IMAGE_MAX)?;
+    let entries = match read_tree(host.alloc(), &mut source) {
+        Ok(entries) => entries,
+        Err(SourceError::Fault) => return Err(ToolError::Input),
+        Err(SourceError::NoMemory) => return Err(ToolError::Fs(Error::NoMemory)),
+    };
+    let mut text = Vec::new(host.alloc());
+    let written = match enough_blocks_for_entries(host, line, entries.as_slice(), blocks) {
+        Ok(EnoughBlocks::Count(count)) => {
+            writeln!(text, "{blocks} blocks are too few, it takes {count}")
+        }
+        Ok(EnoughBlocks::Given) => {
+            writeln!(
+                text,
+                "{blocks} blocks are enough for what the folder has by now"
+            )
+        }
+        Ok(EnoughBlocks::NoImage) => {
+            writeln!(text, "{blocks} blocks are too few, and no image has enough")
+        }
+        Err(error) => writeln!(
+            text,
+            "{blocks} blocks were too few, how many it takes isn't known: {}",
+            ToolError::Fs(error)
+        ),
+    };
+    match written {
+        Ok(()) => Ok(text),
+        Err(_) => Err(ToolError::Fs(Error::NoMemory)),
+    }
+}
+
+// The lines that say why a line ended in this error.
+fn explanation_lines(
+    host: Host<'_>,
+    line: &Line<'_>,
+    error: ToolError,
+) -> Result<Vec<u8>, ToolError> {
+    match error {
+        ToolError::Input | ToolError::Output => path_fault_line(host),
+        ToolError::Fs(Error::Invalid) => size_rule_line(host, line),
+        ToolError::Fs(Error::Corrupt) => check_lines(host, line),
+        ToolError::Fs(Error::NoSpace) => match line.mode {
+            Mode::Create(folder) => needed_blocks_line(host, line, folder),
+            _ => Ok(Vec::new(host.alloc())),
+        },
+        ToolError::Fs(_) => Ok(Vec::new(host.alloc())),
+    }
+}
+
+/// Writes why a line ended in this error, or the error that comes in place of that. A failed write is ignored.
+pub(crate) fn write_explanation<O: ToolOutput, E: ToolOutput>(
+    host: Host<'_>,
+    line: &Line<'_>,
+    error: ToolError,
+    out: &mut O,
+    err: &mut E,
+) {
+    match explanation_lines(host, line, error) {
+        Ok(text) => {
+            let _ = write_bytes_and_flush(err, text.as_slice());
+        }
+        Err(error) => {
+            let _ = write_bytes_and_flush(err, b"not explained: ");
+            let _ = report(&Fault::Tool(error), out, err);
+        }
+    }
+}

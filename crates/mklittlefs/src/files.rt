@@ -1,0 +1,146 @@
+// The image at a path of the command line: a file, or for `-` a standard stream.
+
+use lfs_device::Error;
+use lfs_tool::{ToolError, WatchedStream};
+use lfs_tool_folders::{FaultLog, NewImage};
+use std::alloc::Global;
+use std::fs::File;
+use std::io;
+use std::io::{BufReader, ErrorKind, Read, Stdin, Stdout, Write};
+
+// How many bytes of an image are read at once.
+const READ_AHEAD: usize = 65_536;
+
+/// The system, and the log in which it is noted what files, folders and streams meet.
+#[derive(Clone, Copy)]
+pub(crate) struct Host<'a> {
+    pub(crate) rt: &'a HostRuntime,
+    pub(crate) log: &'a FaultLog,
+}
+
+impl<'a> Host<'a> {
+    pub(crate) fn alloc(self) -> Global {
+        self.rt.alloc()
+    }
+
+    // Notes the error of a call at a path. A call that a signal interrupted has none.
+    fn note_error<T>(self, path: &str, called: &io::Result<T>) {
+        if let Err(error) = called {
+            if error.kind() != ErrorKind::Interrupted {
+                self.log.note(self.alloc(), path.as_bytes(), error);
+            }
+        }
+    }
+}
+
+/// Returns whether a path names a standard stream.
+pub(crate) fn is_standard_stream(path: &str) -> bool {
+    path == "-"
+}
+
+// ---- an image that is read
+
+#[derive(Drop)]
+enum ReadStream {
+    File(File),
+    Standard(Stdin),
+}
+
+#[derive(Drop)]
+pub(crate) struct NotedReader<'a> {
+    stream: ReadStream,
+    path: &'a str,
+    host: Host<'a>,
+}
+
+impl Read for NotedReader<'_> {
+    fn read(&mut self, buf: &mut [u8]) -> io::Result<usize> {
+        let read = match &mut self.stream {
+            ReadStream::File(file) => file.read(buf),
+            ReadStream::Standard(stream) => stream.read(buf),
+        };
+        self.host.note_error(self.path, &read);
+        read
+    }
+}
+
+pub(crate) type OldImage<'a> = WatchedStream<BufReader<NotedReader<'a>>>;
+
+/// Opens the image at a path, to read it.
+pub(crate) fn open_image<'a>(host: Host<'a>, path: &'a str) -> Result<OldImage<'a>, ToolError> {
+    let stream = if is_standard_stream(path) {
+        ReadStream::Standard(host.rt.stdin())
+    } else {
+        let file = File::open(host.rt, path);
+        host.note_error(path, &file);
+        match file {
+            Ok(file) => ReadStream::File(file),
+            Err(_) => return Err(ToolError::Input),
+        }
+    };
+    let reader = NotedReader { stream, path, host };
+    match BufReader::with_capacity(host.alloc(), READ_AHEAD, reader) {
+        Ok(reader) => Ok(WatchedStream::new(reader)),
+        Err(_) => Err(ToolError::Fs(Error::NoMemory)),
+    }
+}
+
+// ---- an image that is made
+
+#[derive(Drop)]
+enum WrittenStream<'a> {
+    File(NewImage<'a, HostRuntime>),
+    Standard(Stdout),
+}
+
+#[derive(Drop)]
+pub(crate) struct NotedWriter<'a> {
+    stream: WrittenStream<'a>,
+    path: &'a str,
+    host: Host<'a>,
+}
+
+impl Write for NotedWriter<'_> {
+    fn write(&mut self, buf: &[u8]) -> io::Result<usize> {
+        let written = match &mut self.stream {
+            WrittenStream::File(file) => file.write(buf),
+            WrittenStream::Standard(stream) => stream.write(buf),
+        };
+        self.host.note_error(self.path, &written);
+        written
+    }
+
+    fn flush(&mut self) -> io::Result<()> {
+        let flushed = match &mut self.stream {
+            WrittenStream::File(file) => file.flush(),
+            WrittenStream::Standard(stream) => stream.flush(),
+        };
+        self.host.note_error(self.path, &flushed);
+        flushed
+    }
+}
+
+impl<'a> NotedWriter<'a> {
+    /// The image that is to stand at a path. Nothing is written yet.
+    pub(crate) fn new(host: Host<'a>, path: &'a str) -> Result<NotedWriter<'a>, ToolError> {
+        let stream = if is_standard_stream(path) {
+            WrittenStream::Standard(host.rt.stdout())
+        } else {
+            WrittenStream::File(NewImage::new(host.alloc(), host.rt, path)?)
+        };
+        Ok(NotedWriter { stream, path, host })
+    }
+
+    /// Puts an image at its path that is whole and flushed. One that is dropped before leaves what was there.
+    pub(crate) fn place(self) -> Result<(), ToolError> {
+        let NotedWriter { stream, path, host } = self;
+        if let WrittenStream::File(file) = stream {
+            let placed = file.place();
+            host.note_error(path, &placed);
+            if placed.is_err() {
+                return Err(ToolError::Output);
+            }
+        }
+        Ok(())
+    }
+}

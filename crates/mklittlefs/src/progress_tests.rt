@@ -1,0 +1,114 @@
+// The line that says how far a work is, at a terminal and a clock of the test's own.
+
+use crate::progress::Progress;
+use lfs_tool::{FilesAndBytes, FollowsProgress};
+use std::cell::Cell;
+use std::fs::File;
+use std::io::{ErrorKind, Write};
+use std::test::Fail;
+use std::time::{Clock, Duration};
+use std::{fs, io};
+
+// A terminal: a file, which takes so many bytes yet.
+#[derive(Drop)]
+struct LimitedTerminal {
+    file: File,
+    room: usize,
+}
+
+impl Write for LimitedTerminal {
+    fn write(&mut self, buf: &[u8]) -> io::Result<usize> {
+        let n = buf.len().min(self.room);
+        if n == 0 {
+            return Err(io::Error::from(ErrorKind::BrokenPipe));
+        }
+        let taken = self.file.write(&buf[..n])?;
+        self.room = self.room.saturating_sub(taken);
+        Ok(taken)
+    }
+
+    fn flush(&mut self) -> io::Result<()> {
+        Ok(())
+    }
+}
+
+// A clock that goes on by so many milliseconds at each look, and fails without a step.
+#[derive(Drop)]
+struct TickingClock {
+    now: Cell<u64>,
+    step: u64,
+}
+
+impl Clock for TickingClock {
+    fn monotonic(&self) -> io::Result<Duration> {
+        if self.step == 0 {
+            return Err(io::Error::from(ErrorKind::Unsupported));
+        }
+        self.now.set(self.now.get().saturating_add(self.step));
+        Ok(Duration::from_millis(self.now.get()))
+    }
+
+    fn since_1970(&self) -> io::Result<Duration> {
+        Err(io::Error::from(ErrorKind::Unsupported))
+    }
+}
+
+// A look at the clock takes so many milliseconds, so many files of 4 bytes are done, the terminal takes so
+// many bytes, and gets these.
+const LINES: [(u64, usize, usize, &str); 8] = [
+    // not for a second
+    (100, 4, 999, ""),
+    (500, 1, 999, ""),
+    // from then on, and then at most five times a second
+    (500, 2, 999, "\r\x1b[K2 of 2 files, 8 of 8 bytes\r\x1b[K"),
+    (
+        100,
+        12,
+        999,
+        "\r\x1b[K10 of 12 files, 40 of 48 bytes\r\x1b[K",
+    ),
+    (
+        400,
+        3,
+        999,
+        "\r\x1b[K2 of 3 files, 8 of 12 bytes\r\x1b[K3 of 3 files, 12 of 12 bytes\r\x1b[K",
+    ),
+    // also before the first file is done
+    (2000, 0, 999, "\r\x1b[K0 of 0 files, 0 of 0 bytes\r\x1b[K"),
+    // a write that fails, and a clock
+    (2000, 3, 5, "\r\x1b[K0"),
+    (0, 3, 999, ""),
+];
+
+// Does so many files, with a terminal at this file.
+fn write_progress_lines(rt: &HostRuntime, row: (u64, usize, usize)) -> io::Result<()> {
+    let (step, files, room) = row;
+    let file = File::create(rt, "shown")?;
+    let clock = TickingClock {
+        now: Cell::new(0),
+        step,
+    };
+    let mut progress = Progress::new(LimitedTerminal { file, room }, clock);
+    progress.begin(FilesAndBytes {
+        files,
+        bytes: files.saturating_mul(4),
+    });
+    for _ in 0..files {
+        progress.add(FilesAndBytes { files: 1, bytes: 4 });
+    }
+    Ok(())
+}
+
+#[test]
+fn progress_lines_are_shown_when_due(rt: HostRuntime) -> Result<(), Fail> {
+    for (step, files, room, text) in LINES {
+        write_progress_lines(&rt, (step, files, room))?;
+        let shown = fs::read(&rt, "shown")?;
+        assert!(rt;
+            shown.as_slice() == text.as_bytes(),
+            "{step} {files} {room}"
+        );
+    }
+    fs::remove_file(&rt, "shown")?;
+    Ok(())
+}

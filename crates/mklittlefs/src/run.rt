@@ -1,0 +1,141 @@
+// What a command line requests.
+
+use crate::explain::write_explanation;
+use crate::files::{Host, NotedWriter, open_image};
+use crate::progress::progress_at_terminal;
+use lfs_device::{Error, Geometry};
+use lfs_tool::{
+    Fault, ImageLayout, Line, LineError, Mode, ToolError, ToolOutput, WatchedStream, check, create,
+    geometry_of_image_sizes, list, read_line, report, unpack,
+};
+use lfs_tool_folders::{FileLimits, Folder, TargetFolder};
+use std::io;
+use std::io::ErrorKind;
+
+/// The layout of a line's image.
+pub(crate) fn layout_of_line(line: &Line<'_>) -> ImageLayout {
+    ImageLayout::new(line.block_size, line.page).with_profile(line.profile)
+}
+
+/// The geometry of the image that a line makes.
+pub(crate) fn geometry_of_line(line: &Line<'_>) -> Result<Geometry, ToolError> {
+    let geometry = geometry_of_image_sizes(line.size, line.block_size, line.page)?;
+    Ok(geometry.with_profile(line.profile))
+}
+
+/// The folder of which an image of at most so many bytes is made.
+pub(crate) fn folder_of_line<'a>(
+    host: Host<'a>,
+    line: &Line<'_>,
+    path: &str,
+    size: u32,
+) -> Result<Folder<'a, HostRuntime>, ToolError> {
+    let limits = FileLimits {
+        image: u64::from(size),
+        file: u64::from(line.profile.file_max.min(2_147_483_647)),
+    };
+    let folder = Folder::with_file_limits(host.rt, host.log, path, limits)?;
+    Ok(folder)
+}
+
+// Makes the image of a folder, and puts it in its place once it is whole. Sizes that no image has are refused before
+// the folder is read.
+fn create_image(host: Host<'_>, line: &Line<'_>, folder: &str) -> Result<(), ToolError> {
+    let geometry = geometry_of_line(line)?;
+    let mut source = folder_of_line(host, line, folder, line.size)?;
+    let mut image = WatchedStream::new(NotedWriter::new(host, line.image)?);
+    let mut progress = progress_at_terminal(host.rt);
+    let created = create(
+        host.alloc(),
+        &mut source,
+        geometry,
+        line.order,
+        &mut image,
+        &mut progress,
+    );
+    drop(progress);
+    created?;
+    image.into_inner().place()
+}
+
+// Unpacks the image into a folder.
+fn unpack_image(host: Host<'_>, line: &Line<'_>, folder: &str) -> Result<(), ToolError> {
+    let mut image = open_image(host, line.image)?;
+    let mut target = TargetFolder::new(host.rt, host.log, folder)?;
+    let mut progress = progress_at_terminal(host.rt);
+    unpack(
+        host.alloc(),
+        &mut image,
+        layout_of_line(line),
+        &mut target,
+        &mut progress,
+    )
+}
+
+// Does what a line requests. Returns false where an image was checked that isn't accepted, and else true.
+fn run_mode<W: ToolOutput>(
+    host: Host<'_>,
+    line: &Line<'_>,
+    out: &mut W,
+) -> Result<bool, ToolError> {
+    match line.mode {
+        Mode::List => {
+            let mut image = open_image(host, line.image)?;
+            list(host.alloc(), &mut image, layout_of_line(line), out)?;
+        }
+        Mode::Check => {
+            let mut image = open_image(host, line.image)?;
+            return check(host.alloc(), &mut image, layout_of_line(line), out);
+        }
+        Mode::Create(folder) => create_image(host, line, folder)?,
+        Mode::Unpack(folder) => unpack_image(host, line, folder)?,
+    }
+    Ok(true)
+}
+
+// Does what a line requests, and returns the status. An error is shown, with its cause where the line requests that.
+fn run_line_and_return_exit_status<O: ToolOutput, E: ToolOutput>(
+    host: Host<'_>,
+    line: &Line<'_>,
+    out: &mut O,
+    err: &mut E,
+) -> u8 {
+    match run_mode(host, line, out) {
+        Ok(true) => 0,
+        Ok(false) => 1,
+        Err(error) => {
+            let status = report(&Fault::Tool(error), out, err);
+            if line.explain {
+                write_explanation(host, line, error, out, err);
+            }
+            status
+        }
+    }
+}
+
+// The cause for which there are no words: memory ran out, or a word is no text.
+fn fault_of_words(error: &io::Error) -> Fault {
+    if error.kind() == ErrorKind::OutOfMemory {
+        Fault::Tool(ToolError::Fs(Error::NoMemory))
+    } else {
+        Fault::Line(LineError::NotUtf8)
+    }
+}
+
+/// Runs the program on the words of its command line, or on the cause for which there are none. Returns the status with
+/// which it ends.
+pub(crate) fn run_words_and_return_exit_status<O: ToolOutput, E: ToolOutput>(
+    host: Host<'_>,
+    words: io::Result<Vec<String>>,
+    out: &mut O,
+    err: &mut E,
+) -> u8 {
+    let words = match words {
+        Ok(words) => words,
+        Err(error) => return report(&fault_of_words(&error), out, err),
+    };
+    match read_line(host.alloc(), words.as_slice()) {
+        Ok(line) => run_line_and_return_exit_status(host, &line, out, err),
+        Err(error) => report(&Fault::Line(error), out, err),
+    }
+}

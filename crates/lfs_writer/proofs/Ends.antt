@@ -100,6 +100,13 @@ used_kept a b c bs keeps released = record {
   stays = λ k used. released.stays k (keeps.states k (λ free. let both : Some Free ≡ Some Used = sym free ∙ used in cc) ∙ used);
 }
 
+pub used_kept_on : (a b c : BlockStateList) → ChangesOnlyFreeBlocksInMap a b → KeepsUsedBlocksInMap b c → KeepsUsedBlocksInMap a c
+used_kept_on a b c keeps later = record {
+  count = later.count ∙ keeps.count;
+  used = later.used ∙ keeps.used;
+  stays = λ k used. later.stays k (keeps.states k (λ free. let both : Some Free ≡ Some Used = sym free ∙ used in cc) ∙ used);
+}
+
 pub none_chain : (d : Blocks) (head : ℕ) → AreListBlocks d 0 head
 unfolding IsDistinct
 none_chain d head = record { in_range = λ k x l. absurd (omega (arith, l)); distinct = tt; pointers = λ i k l less. absurd (omega (arith, l)) }

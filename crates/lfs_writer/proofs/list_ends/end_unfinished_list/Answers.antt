@@ -10,7 +10,7 @@ use Rattle.lfs_writer.proofs.Owning.{ends_over}
 use Rattle.lfs_writer.proofs.Spared.{after_release}
 use Rattle.lfs_writer.specs.Bases.{list_blocks_by_head_and_size}
 use Rattle.lfs_writer.proofs.Called.{apart_end, apart_on, used_of, used_read}
-use Rattle.lfs_writer.proofs.Ends.{base_end, ends_by, used_kept}
+use Rattle.lfs_writer.proofs.Ends.{base_end, ends_by, used_kept, used_kept_on}
 use Rattle.lfs_writer.proofs.Flights.{begun_flying}
 use Rattle.lfs_writer.proofs.Handed.{extended_hand}
 use Rattle.lfs_writer.proofs.list_ends.end_unfinished_list.Goals as goal
@@ -42,6 +42,9 @@ pub returns-clause-device : goal.returns-clause-device
 returns-clause-device g c =
     used_read g.D.BlockDevice (used_of g.D.BlockDevice c.args.hand.list c.requires.going.list.begun.marked
     (apart_on g.D.BlockDevice c.in_ok-append_remaining_bytes_of_base_list.ensures.extended.grown.apart c.append_remaining_bytes_of_base_list.ensures.device (apart_end g.D.BlockDevice _ c.finish.ensures.device))) c.release_base_list_blocks_from_index.ensures.device
+
+pub returns-in_err-release_base_list_blocks_from_index-clause-map : goal.returns-in_err-release_base_list_blocks_from_index-clause-map
+returns-in_err-release_base_list_blocks_from_index-clause-map g c = used_kept_on _ _ _ c.append_remaining_bytes_of_base_list.ensures.map c.release_base_list_blocks_from_index.ensures.map
 
 pub returns-clause-map : goal.returns-clause-map
 returns-clause-map g c = used_kept _ _ _ _ c.append_remaining_bytes_of_base_list.ensures.map c.in_ok-release_base_list_blocks_from_index.ensures.released

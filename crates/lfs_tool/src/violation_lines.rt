@@ -1,7 +1,7 @@
 // The line that says which rule an image breaks, and where. Names, and what else the line tells, are
 // looked for in the image once more.
 
-ghost use Rattle.std.specs.Prelude.{◌≡◌, IfErr, IfOk};
+ghost use Rattle.std.specs.Prelude.{◌≡◌, IfErr, IfOk, false};
 
 use crate::check_result::GivenSizes;
 use crate::checked_lines::{
@@ -177,7 +177,9 @@ fn push_thread_line(
     rule: &mut BrokenRule,
     mut thread: Thread<RamDevice>,
     other: Violation,
-) -> Result<(), Error> {
+) -> Result<(), Error>
+    requires { thread.failed ≡ false }
+{
     let geometry = thread.geometry();
     let state = thread.state();
     let pairs = owned_pairs_of_thread(alloc, &mut thread)?;

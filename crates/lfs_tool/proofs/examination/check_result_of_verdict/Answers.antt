@@ -16,7 +16,7 @@ returns-in-Some-Refused c layout image stated judged given =
     let e = c.in-Some-Refused in
     let outer = e.is in
     let inner = e.field-0-is in
-    let is : c.args.verdict ≡ Some (verdict.Refused e.finding) = cc in
+    let is : c.args.verdict ≡ Some (verdict.Refused e.rule) = cc in
     let j = subst (IsVerdictOnBytes layout image) is judged in
     c.refused_check_result.ensures layout image (λ image_is. j.1.0) stated (λ is. (subst (IsWrongNumberIfAny layout image) is stated, (j.0, j.1.1))) given
 

@@ -21,13 +21,6 @@ pub returns-in-Ok-clause-verdict : goal.returns-in-Ok-clause-verdict
 returns-in-Ok-clause-verdict c =
     IfOk-weaker c.judge_thread.result _ _ (λ v h. subst (λ (d : Disk). IsVerdictOnDisk (disk_in_order LongerFirst d) v) c.in-Ok.ensures.mounted.disk_is h) c.judge_thread.ensures.verdict
 
-pub finding_on_refused_device-requires : goal.finding_on_refused_device-requires
-finding_on_refused_device-requires c =
-    let e = c.in-Err-default-Corrupt in
-    λ order ps a. e.ensures.corrupt e.field-0-1-is order ps (subst (λ (d : Disk). IsAcceptedImage (disk_in_order order d) ps) e.ensures.back.disk a)
-
-pub returns-in_ok-finding-in-Err-default-Corrupt-clause-verdict : goal.returns-in_ok-finding-in-Err-default-Corrupt-clause-verdict
-returns-in_ok-finding-in-Err-default-Corrupt-clause-verdict c =
-    let e = c.in-Err-default-Corrupt in
-    let found = c.in_ok-finding-in-Err-default-Corrupt in
-    (e.ensures.corrupt e.field-0-1-is, subst (λ (d : Disk). IsTrueFindingOfDisk d found.finding) e.ensures.back.disk found.ensures.found)
+pub judge_refused_image-requires-clause-refused : goal.judge_refused_image-requires-clause-refused
+judge_refused_image-requires-clause-refused c = λ is order ps a.
+    c.in-Err.ensures.corrupt is order ps (subst (λ (d : Disk). IsAcceptedImage (disk_in_order order d) ps) c.in-Err.ensures.back.disk a)

@@ -140,8 +140,12 @@ impl<'a, R: Files + AllocGlobal> Script<'a, R> {
         let (start, end) = range_of_block_bytes(geometry.block_size, block, offset, more.len());
         let answer = match bytes.as_mut_slice().get_mut(start..end) {
             Some(place) => {
-                place.copy_from_slice(more);
-                Answer::Reply(Reply::Done)
+                if place.len() == more.len() {
+                    place.copy_from_slice(more);
+                    Answer::Reply(Reply::Done)
+                } else {
+                    Answer::Error(Error::Invalid)
+                }
             }
             None => Answer::Error(Error::Invalid),
         };

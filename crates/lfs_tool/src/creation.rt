@@ -68,7 +68,7 @@ fn new_image_of_entries<F: FollowsProgress>(
 ///
 /// # Errors
 /// - `NoMemory` where memory isn't granted.
-/// - Another error than `NoSpace` where one of the operations that copy the entries is refused for that.
+/// - Another error where one of the operations that copy the entries is refused for that.
 pub fn has_room_for_entries(
     alloc: Global,
     geometry: Geometry,
@@ -77,7 +77,7 @@ pub fn has_room_for_entries(
 ) -> Result<bool, Error>
     ensures room { IfOk result (λ has_room. has_room ≡ true → (image : _) × AreImageBytesOfEntries geometry order entries.now image) }
     ensures small { IfOk result (λ has_room. has_room ≡ false → RefusesCopyOfEntries geometry order entries.now Error.NoSpace) }
-    ensures err { IfErr result (λ e. e ≢ Error.NoMemory → (e ≢ Error.NoSpace) × RefusesCopyOfEntries geometry order entries.now e) }
+    ensures err { IfErr result (λ e. e ≢ Error.NoMemory → RefusesCopyOfEntries geometry order entries.now e) }
 {
     match new_image_of_entries(alloc, geometry, order, entries, &mut ()) {
         Ok(_image) => Ok(true),

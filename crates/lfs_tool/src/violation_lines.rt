@@ -20,6 +20,7 @@ use crate::roots::root_pair_index;
 use crate::superblock_limits::superblock_fields_of_struct;
 use crate::superblocks::wrong_number_in_superblock_fields;
 use crate::verdict::BrokenRule;
+use crate::wrong_number::WrongNumber;
 use lfs_device::{BlockDevice, Error, Geometry, RamDevice};
 use lfs_model::Violation;
 use lfs_tag::MoveState;
@@ -53,29 +54,26 @@ fn given_sizes(geometry: &Geometry) -> GivenSizes {
     }
 }
 
-// Adds what is wrong with the numbers of a superblock, which is in slot 0 of a pair.
-fn push_superblock_numbers(
+// Returns which number of a superblock's struct is wrong for the image.
+fn wrong_number_of_slot(geometry: &Geometry, slot: &OwnedSlot) -> Option<WrongNumber> {
+    let Some(fields) = superblock_fields_of_struct(&slot.structure) else {
+        return None;
+    };
+    let count = geometry.block_count as usize;
+    let versions = geometry.profile.versions;
+    wrong_number_in_superblock_fields(geometry.block_size, count, versions, &fields)
+}
+
+// Adds the number of a pair's superblock that is wrong.
+fn push_wrong_number(
     rule: &mut BrokenRule,
     geometry: &Geometry,
     at: [u32; 2],
-    slot: &OwnedSlot,
+    stated: WrongNumber,
 ) -> Result<(), AllocError> {
-    let Some(fields) = superblock_fields_of_struct(&slot.structure) else {
-        return push_pair_message(&mut rule.line, at, ", slot 0: no superblock's struct");
-    };
-    let given = given_sizes(geometry);
-    let versions = geometry.profile.versions;
-    rule.stated = wrong_number_in_superblock_fields(
-        given.block_size,
-        given.blocks,
-        versions,
-        &fields,
-    );
+    rule.stated = Some(stated);
     push_pair_message(&mut rule.line, at, ", ")?;
-    match rule.stated {
-        Some(stated) => push_wrong_superblock_number_text(&mut rule.line, &given, stated),
-        None => Ok(()),
-    }
+    push_wrong_superblock_number_text(&mut rule.line, &given_sizes(geometry), stated)
 }
 
 // Adds what is wrong with the first superblock of the thread.
@@ -100,7 +98,10 @@ fn push_superblock_line(
             " isn't the name of a superblock",
         );
     }
-    push_superblock_numbers(rule, geometry, at, slot)
+    match wrong_number_of_slot(geometry, slot) {
+        Some(stated) => push_wrong_number(rule, geometry, at, stated),
+        None => push_pair_message(&mut rule.line, at, ", slot 0: no superblock's struct"),
+    }
 }
 
 // Returns the address of the first pair that has a slot.
@@ -113,14 +114,21 @@ fn first_with_slots(pairs: &[OwnedPair]) -> Option<[u32; 2]> {
     None
 }
 
-// Adds that a superblock differs from the one of the first pair that has a slot.
+// Adds which number of a pair's superblock is wrong, or that it differs from the one of the first pair that
+// has a slot.
 fn push_other_superblock_line(
-    text: &mut Vec<u8>,
+    rule: &mut BrokenRule,
+    geometry: &Geometry,
     pairs: &[OwnedPair],
     at: [u32; 2],
 ) -> Result<(), AllocError> {
-    push_pair_message(text, at, ", superblock: another one than in ")?;
-    push_pair_text(text, first_with_slots(pairs).unwrap_or(at))
+    if let Some(slot) = slot_at(pairs, place_at(pairs, at, 0)) {
+        if let Some(stated) = wrong_number_of_slot(geometry, slot) {
+            return push_wrong_number(rule, geometry, at, stated);
+        }
+    }
+    push_pair_message(&mut rule.line, at, ", superblock: another one than in ")?;
+    push_pair_text(&mut rule.line, first_with_slots(pairs).unwrap_or(at))
 }
 
 // Adds the line of a rule of directories. In the other order of names the image breaks the rule `other`.
@@ -148,7 +156,7 @@ fn push_slot_line(
     match rule.violation {
         Violation::Superblock { pair } => push_superblock_line(rule, geometry, pairs, pair),
         Violation::OtherSuperblock { pair } => {
-            push_other_superblock_line(&mut rule.line, pairs, pair)
+            push_other_superblock_line(rule, geometry, pairs, pair)
         }
         Violation::Entry { pair, slot } => {
             push_entry_line(&mut rule.line, pairs, place_at(pairs, pair, slot))

@@ -169,7 +169,7 @@ const REFUSED: [Row<'static>; 14] = [
             2,
             BlockFilling::Commit(&[(0x0ff0_0008, b"littlefs"), (0x2010_0018, LARGER)]),
         )],
-        "corrupt\npair 2 3, superblock: another one than in pair 0 1\n",
+        "corrupt\npair 2 3, superblock: block count 17, given 16\n",
     ),
     (
         &[(0x2010_0017, &[0; 23])],

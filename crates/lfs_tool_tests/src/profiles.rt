@@ -166,7 +166,7 @@ const CHECKED: [Row<'static>; 23] = [
         &[(HARD_TAIL, PAIR)],
         OTHER_ROOT,
         ALSO,
-        "corrupt\npair 0 1, superblock: another one than in pair 2 3\n",
+        "corrupt\npair 2 3, superblock: another one than in pair 0 1\n",
     ),
     // a superblock's struct that doesn't stand behind its name
     (

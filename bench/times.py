@@ -1,15 +1,15 @@
 #!/usr/bin/env python3
 """Runs the gate and prints the first part of docs/TIMES.md: the processor seconds of each crate, for its code, its tests and its edits.
 
-usage: bench/times.py [LOG [CRATE..]]     at the top of the repository; what the gate prints goes to LOG (gate.log)
+usage: bench/times.py [--anew] [LOG [CRATE..]]     at the top of the repository; what the gate prints goes to LOG (gate.log)
 
 What it prints takes the place of docs/TIMES.md up to that page's first heading of the second level.
 
 With names of crates the gate runs in a copy that has only these and what they stand on, which is proved too and counts.
 `taskset -c 0,1 bench/times.py ..` shows what it takes on two processors.
 
-The figures stay in LOG.json. A part that the gate has kept from an earlier run takes no time, and its figure of then is printed; so a
-run after a change, or one crate after the other, gives the table of the whole. Remove the file, and have nothing kept, for one run alone.
+With --anew the gate proves and tries all in this one run. Without it the figures stay in LOG.json: a part that the gate has kept from
+an earlier run takes no time, and its figure of then is printed. So a run after a change gives the table of the whole.
 
 A check of the prover is a process, with one beside it for each further job. Twice a second their time so far is read from /proc, so
 each counts half a second too little at most. An edit's check runs in a folder of its own, and a check of tests has the word --test; so
@@ -69,11 +69,11 @@ def seen(process):
     return (named, words[words.index("--crate-name") + 1], part), (int(fields[11]) + int(fields[12])) / TICK
 
 
-def measured(log, folder):
+def measured(log, folder, anew):
     """The gate's last line, its wall time, the processor seconds of all its processes, and each crate's by part."""
     spent, began, before = {}, time.monotonic(), taken_by_children()
     with open(log, "w") as out:
-        gate = subprocess.Popen(["rt", "ci"], cwd=folder, stdout=out, stderr=subprocess.STDOUT, stdin=subprocess.DEVNULL)
+        gate = subprocess.Popen(["rt", "ci"] + ["--anew"] * anew, cwd=folder, stdout=out, stderr=subprocess.STDOUT, stdin=subprocess.DEVNULL)
         while gate.poll() is None:
             for process in descendants(gate.pid):
                 if found := seen(process):
@@ -144,10 +144,11 @@ def table(totals, counts):
 
 
 def main():
-    log = sys.argv[1] if len(sys.argv) > 1 else "gate.log"
+    anew = sys.argv[1:2] == ["--anew"]
+    log, *crates = sys.argv[1 + anew:] or ["gate.log"]
     with tempfile.TemporaryDirectory() as room:
-        last, wall, whole, totals = measured(log, copy_with(sys.argv[2:], room) if sys.argv[2:] else ".")
-    totals = remembered(totals, f"{log}.json")
+        last, wall, whole, totals = measured(log, copy_with(crates, room) if crates else ".", anew)
+    totals = totals if anew else remembered(totals, f"{log}.json")
     sums = {part: sum(it[part] for it in totals.values()) / 60 for part in PARTS}
     print("# Times\n")
     print("Printed by `bench/times.py`, which runs the gate: the processor seconds of each crate's checks, from nothing. On a machine that does other work they are upper bounds.\n")

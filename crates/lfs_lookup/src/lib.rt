@@ -10,6 +10,7 @@ mod by_path;
 mod bytes;
 mod directory;
 mod entry;
+mod escape;
 mod file_bytes;
 mod file_contents;
 mod found_entries;
@@ -37,6 +38,7 @@ pub use directory::{
     items_of_pair_without_moved_slot,
 };
 pub use entry::{FileOrDirectory, FileStorage, entry_of_struct};
+pub use escape::push_escaped_path;
 pub use file_bytes::read_file_bytes_of_struct;
 pub use file_contents::{FileContents, FoundFile, find_file_contents_at_path};
 pub use found_entries::{FoundAttribute, FoundNode, Listing, Node, NodeAndEmptiness};

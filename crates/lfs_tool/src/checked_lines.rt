@@ -8,10 +8,10 @@ ghost use Rattle.lfs_tool.specs.declared.verdict.WritingProfile.TheVariants.{Emp
 ghost use Rattle.lfs_tool.specs.CheckedLines.{inline_limit_text, other_limit_text, used_and_free_blocks_text, labelled_number_line, no_image_text, accepted_name_orders_line, order_and_superblock_text, pair_text, unaccepted_reason_text, needs_recovery_line, slot_text, wrong_superblock_number_text, summary_text, used_blocks_line, check_result_text, writable_line, writing_profile_text};
 
 use crate::check_result::{CheckResult, GivenSizes, RefusalReason};
-use crate::escape::push_escaped_path;
 use crate::superblock_lines::push_superblock_lines_if_told_of;
 use crate::verdict::{AcceptedOrders, ImageSummary, OtherLimit, WritingProfile};
 use crate::wrong_number::WrongNumber;
+use lfs_lookup::push_escaped_path;
 use std::alloc::{AllocError, Global};
 use std::io::Write;
 

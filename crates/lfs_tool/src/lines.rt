@@ -4,8 +4,7 @@ ghost use Rattle.std.specs.Prelude.{◌≡◌, ◌++◌, IfOk, None, OnOk, Some}
 ghost use Rattle.lfs_tool.specs.Listings.{listing_line_of_tree_entry, listing_line_of_path, listing_lines_of_tree_entries};
 ghost use Rattle.lfs_lookup.specs.Walk.{tree_item_view, tree_items_view};
 
-use crate::escape::push_escaped_path;
-use lfs_lookup::{OwnedStruct, TreeItem};
+use lfs_lookup::{OwnedStruct, TreeItem, push_escaped_path};
 use std::alloc::{AllocError, Global};
 use std::io::Write;
 

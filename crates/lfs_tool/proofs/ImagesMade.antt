@@ -6,9 +6,8 @@ use Rattle.lfs_device.specs.declared.error.Error.TheVariants.{NoMemory}
 use Rattle.std.proofs.lemmas.Nat.{div-mul-add, mod-mul-add}
 use Rattle.lfs_device.specs.Shown as device
 use Rattle.lfs_device.specs.declared.geometry.Geometry.{Geometry}
-use Rattle.lfs_tool.specs.ExcerptShape.{length-padded}
-use Rattle.lfs_tool.specs.NewImageDevice.{blocks_of_new_image_device, bytes_of_new_image_device, geometry_of_new_image_device}
-use Rattle.lfs_tool.specs.declared.new_image_device.NewImageDevice.{NewImageDevice}
+use Rattle.lfs_device.specs.RamDevice.{geometry_of_ram_device, ram_blocks, ram_bytes}
+use Rattle.lfs_device.specs.declared.ram.RamDevice.{RamDevice}
 use Rattle.lfs_model.specs.Blocks.{cut}
 use Rattle.lfs_model.specs.Content.{content_of_pair_at}
 use Rattle.lfs_model.specs.Disk.{Disk, SameGeometry, block_count, disk_in_order, disk_of_image}
@@ -38,7 +37,7 @@ use Rattle.lfs_tool.proofs.Refusing.{IsFromFresh, anywhere, comes, has_carried, 
 
 -- ---- the geometry
 
-pub begins : (g : Geometry) (o : NameOrder) (d : NewImageDevice) (h : SessionView) → geometry_of_new_image_device d ≡ g → IsFreshDisk h.tree.disk → (system_state_of_session_view h).state ≡ Healthy (session_after_mount empty_tree) → SameGeometry (disk_in_order o (device.disk_of_geometry_and_blocks (geometry_of_new_image_device d) (blocks_of_new_image_device d))) h.tree.disk
+pub begins : (g : Geometry) (o : NameOrder) (d : RamDevice) (h : SessionView) → geometry_of_ram_device d ≡ g → IsFreshDisk h.tree.disk → (system_state_of_session_view h).state ≡ Healthy (session_after_mount empty_tree) → SameGeometry (disk_in_order o (device.disk_of_geometry_and_blocks (geometry_of_ram_device d) (ram_blocks d))) h.tree.disk
     → SessionBeginsOnFreshDisk g o (system_state_of_session_view h)
 begins g o d h is fresh state same = record {
   fresh = fresh;
@@ -46,7 +45,7 @@ begins g o d h is fresh state same = record {
   page = same.page ∙ ap (λ (x : Geometry). x.page) is;
   order_is = same.order;
   profile = same.profile ∙ ap (λ (x : Geometry). x.profile) is;
-  count = same.count ∙ length-cut (geometry_of_new_image_device d).block_size (geometry_of_new_image_device d).block_count (bytes_of_new_image_device d) ∙ ap (λ (x : Geometry). x.block_count) is;
+  count = same.count ∙ length-cut (geometry_of_ram_device d).block_size (geometry_of_ram_device d).block_count (ram_bytes d) ∙ ap (λ (x : Geometry). x.block_count) is;
   mounts = state;
 }
 
@@ -64,26 +63,26 @@ some_bytes : (g : Geometry) → 1 ≤ g.block_size
 some_bytes g = let least : 1024 ≤ g.block_size = g.valid.no_smaller in omega (arith, least)
 
 -- what the run left in the device
-pub left : (g : Geometry) (o : NameOrder) (from to : SystemState) (es : List SourceEntry) (d : NewImageDevice) (bytes : List ℕ) → SessionBeginsOnFreshDisk g o from → AreOperationsApplied from (copying_operations_of_entries es) to
-    → disk_in_order to.disk.order (device.disk_of_geometry_and_blocks (geometry_of_new_image_device d) (blocks_of_new_image_device d)) ≡ to.disk
-    → bytes ≡ bytes_of_new_image_device d → AreImageBytesOfEntries g o es bytes
+pub left : (g : Geometry) (o : NameOrder) (from to : SystemState) (es : List SourceEntry) (d : RamDevice) (bytes : List ℕ) → SessionBeginsOnFreshDisk g o from → AreOperationsApplied from (copying_operations_of_entries es) to
+    → disk_in_order to.disk.order (device.disk_of_geometry_and_blocks (geometry_of_ram_device d) (ram_blocks d)) ≡ to.disk
+    → bytes ≡ ram_bytes d → AreImageBytesOfEntries g o es bytes
 left g o from to es d bytes b c shown is =
     let same = steps_keep_shape (copying_operations_of_entries es) c.replies from to c.session_steps in
-    let size : (geometry_of_new_image_device d).block_size ≡ g.block_size = ap (λ (k : Disk). k.block_size) shown ∙ same.block_size ∙ b.block_size in
-    let page : (geometry_of_new_image_device d).page ≡ g.page = ap (λ (k : Disk). k.page) shown ∙ same.page ∙ b.page in
+    let size : (geometry_of_ram_device d).block_size ≡ g.block_size = ap (λ (k : Disk). k.block_size) shown ∙ same.block_size ∙ b.block_size in
+    let page : (geometry_of_ram_device d).page ≡ g.page = ap (λ (k : Disk). k.page) shown ∙ same.page ∙ b.page in
     let none = each_joined (λ op. is_remount_operation op ≡ false) copying_operations_of_entry es (each_always (λ e. Each (λ op. is_remount_operation op ≡ false) (copying_operations_of_entry e)) no_remount es) in
     let order : to.disk.order ≡ o = steps_keep_order (copying_operations_of_entries es) c.replies from to none c.session_steps ∙ b.order_is in
-    let profile : (geometry_of_new_image_device d).profile ≡ g.profile = ap (λ (k : Disk). k.profile) shown ∙ same.profile ∙ b.profile in
-    let count : (geometry_of_new_image_device d).block_count ≡ g.block_count = sym (length-cut (geometry_of_new_image_device d).block_size (geometry_of_new_image_device d).block_count (bytes_of_new_image_device d)) ∙ ap block_count shown ∙ same.count ∙ b.count in
-    let len : length bytes ≡ g.block_size * g.block_count = ap length is ∙ length-padded (d.geometry.block_size * d.geometry.block_count) d.bytes.items d.within ∙ ap₂ (λ x y. x * y) size count in
-    let blocks : (geometry_of_new_image_device d).block_count ≡ length bytes / g.block_size = count ∙ sym (count_of g.block_size g.block_count bytes (some_bytes g) len) in
+    let profile : (geometry_of_ram_device d).profile ≡ g.profile = ap (λ (k : Disk). k.profile) shown ∙ same.profile ∙ b.profile in
+    let count : (geometry_of_ram_device d).block_count ≡ g.block_count = sym (length-cut (geometry_of_ram_device d).block_size (geometry_of_ram_device d).block_count (ram_bytes d)) ∙ ap block_count shown ∙ same.count ∙ b.count in
+    let len : length bytes ≡ g.block_size * g.block_count = ap length is ∙ d.size ∙ ap₂ (λ x y. x * y) size count in
+    let blocks : (geometry_of_ram_device d).block_count ≡ length bytes / g.block_size = count ∙ sym (count_of g.block_size g.block_count bytes (some_bytes g) len) in
     record {
       from = from;
       begins = b;
       to = to;
       carried = c;
       len = len;
-      disk = sym shown ∙ (λ j. record { block_size = size j; page = page j; order = order j; profile = profile j; blocks = cut (size j) (geometry_of_new_image_device d).block_count (bytes_of_new_image_device d) })
+      disk = sym shown ∙ (λ j. record { block_size = size j; page = page j; order = order j; profile = profile j; blocks = cut (size j) (geometry_of_ram_device d).block_count (ram_bytes d) })
           ∙ ap₂ (λ n xs. record { block_size = g.block_size; page = g.page; order = o; profile = g.profile; blocks = cut g.block_size n xs }) blocks (sym is);
     }
 

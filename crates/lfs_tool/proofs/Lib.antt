@@ -30,6 +30,3 @@ mod Runs
 mod Refusing
 mod ImagesMade
 mod Walking
-pub mod PaddedBytes
-pub mod NewImageCalls
-pub mod WrittenParts

@@ -24,6 +24,3 @@ pub mod MadeImages
 pub mod CheckResults
 pub mod CheckedLines
 pub mod SuperblockLines
-pub mod NewImageBytes
-pub mod NewImageDevice
-pub mod NewImageShape

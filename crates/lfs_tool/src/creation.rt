@@ -1,15 +1,14 @@
 ghost use Rattle.std.specs.Prelude.{◌≡◌, ◌≢◌, IfErr, IfOk, IsErrOf, OnOk, false, true};
+ghost use Rattle.lfs_device.specs.RamDevice.{ram_bytes};
 ghost use Rattle.lfs_fs.specs.SessionView.{system_state_of_session_view};
-ghost use Rattle.lfs_tool.specs.NewImageDevice.{bytes_of_new_image_device};
 ghost use Rattle.lfs_tool.specs.Reports.{ReportsWriterFaults};
 ghost use Rattle.lfs_tool.specs.MadeImages.{AreImageBytesOfEntries, SessionBeginsOnFreshDisk, RefusesCopyOfSource, HasWrittenBeginningOfImage, HasWrittenImageOfSource, RefusesCopyOfEntries, ReportsSourceFaults};
 ghost use Rattle.lfs_tool_folders.specs.Entries.{AreAllEntriesOfSource};
 
-use crate::new_image_device::NewImageDevice;
-use crate::output::write_padded_bytes_and_flush;
+use crate::output::write_bytes_and_flush;
 use crate::source_entries::copy_entries_into_session;
 use crate::{FollowsProgress, ToolError, ToolOutput};
-use lfs_device::{Error, Geometry};
+use lfs_device::{Error, Geometry, RamDevice};
 use lfs_fs::{Session, format_ordered};
 use lfs_model::NameOrder;
 use lfs_tool_folders::{Source, SourceEntry, SourceError, read_tree};
@@ -36,11 +35,11 @@ fn begin_session_on_fresh_disk(
     alloc: Global,
     geometry: Geometry,
     order: NameOrder,
-) -> Result<Session<NewImageDevice>, Error>
+) -> Result<Session<RamDevice>, Error>
     ensures begins { IfOk result (λ s. SessionBeginsOnFreshDisk geometry order (system_state_of_session_view s)) }
     ensures err { IfErr result (λ e. e ≡ Error.NoMemory) }
 {
-    let device = NewImageDevice::new(alloc, geometry)?;
+    let device = RamDevice::blank(alloc, geometry)?;
     match format_ordered(alloc, device, order) {
         Ok(session) => Ok(session),
         // The device had no fault, so memory ran out.
@@ -55,8 +54,8 @@ fn new_image_of_entries<F: FollowsProgress>(
     order: NameOrder,
     entries: &[SourceEntry],
     progress: &mut F,
-) -> Result<NewImageDevice, Error>
-    ensures ok { IfOk result (λ d. AreImageBytesOfEntries geometry order entries.now (bytes_of_new_image_device d)) }
+) -> Result<RamDevice, Error>
+    ensures ok { IfOk result (λ d. AreImageBytesOfEntries geometry order entries.now (ram_bytes d)) }
     ensures err { IfErr result (λ e. e ≢ Error.NoMemory → RefusesCopyOfEntries geometry order entries.now e) }
 {
     let mut session = begin_session_on_fresh_disk(alloc, geometry, order)?;
@@ -123,7 +122,7 @@ pub fn create<S: Source, W: ToolOutput, F: FollowsProgress>(
 {
     let entries = read_source_entries(alloc, source)?;
     match new_image_of_entries(alloc, geometry, order, entries.as_slice(), progress) {
-        Ok(image) => write_padded_bytes_and_flush(out, image.bytes_in_memory(), image.size()),
+        Ok(image) => write_bytes_and_flush(out, image.bytes()),
         Err(error) => Err(ToolError::Fs(error)),
     }
 }

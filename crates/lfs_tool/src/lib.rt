@@ -24,7 +24,6 @@ mod line_text;
 mod lines;
 mod list_lines;
 mod listings;
-mod new_image_device;
 mod output;
 mod owned_pairs;
 mod owned_parts;

@@ -9,10 +9,9 @@ ghost use Rattle.lfs_fs.specs.FlagsView.{flags_view};
 ghost use Rattle.lfs_fs.specs.SessionView.{system_state_of_session_view};
 ghost use Rattle.lfs_tool.specs.AppliedOperations.{AreOperationsApplied, AppliesOperationsUntilError, IsHealthyWithoutOpenFile, IsFirstRefusalAmongOperations, copying_operations_of_entry, copying_operations_of_entries};
 
-use crate::new_image_device::NewImageDevice;
 use crate::{FilesAndBytes, FollowsProgress};
 use bitflags::Flags;
-use lfs_device::Error;
+use lfs_device::{Error, RamDevice};
 use lfs_fs::{OpenFlags, Session};
 use lfs_tool_folders::SourceEntry;
 use std::alloc::Global;
@@ -29,7 +28,7 @@ fn flags_for_new_file() -> OpenFlags
 // Makes a file with these bytes.
 fn create_file_in_session(
     alloc: Global,
-    session: &mut Session<NewImageDevice>,
+    session: &mut Session<RamDevice>,
     path: &[u8],
     bytes: &[u8],
 ) -> Result<(), Error>
@@ -44,7 +43,7 @@ fn create_file_in_session(
 // Makes a file with its bytes, or a folder without names.
 fn copy_entry_into_session(
     alloc: Global,
-    session: &mut Session<NewImageDevice>,
+    session: &mut Session<RamDevice>,
     entry: &SourceEntry,
 ) -> Result<(), Error>
     requires { IsHealthyWithoutOpenFile (system_state_of_session_view session.old) }
@@ -79,7 +78,7 @@ fn file_and_byte_counts_of_entries(entries: &[SourceEntry]) -> FilesAndBytes {
 // Copies the entries in order, up to the first that is refused.
 pub(crate) fn copy_entries_into_session<F: FollowsProgress>(
     alloc: Global,
-    session: &mut Session<NewImageDevice>,
+    session: &mut Session<RamDevice>,
     entries: &[SourceEntry],
     progress: &mut F,
 ) -> Result<(), Error>

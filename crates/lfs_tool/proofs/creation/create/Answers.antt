@@ -1,8 +1,7 @@
 use Rattle.std.proofs.Common.{List, ap, ◌≡◌, ◌∙◌, subst, sym}
 use Rattle.std.proofs.lemmas.Result.{IfOk-weaker}
 use Rattle.lfs_tool_folders.specs.declared.entries.SourceEntry.{SourceEntry}
-use Rattle.lfs_tool.specs.Excerpt.{bytes_padded_to_size}
-use Rattle.lfs_tool.specs.NewImageDevice.{bytes_of_new_image_device}
+use Rattle.lfs_device.specs.RamDevice.{ram_bytes}
 use Rattle.lfs_tool.specs.MadeImages.{RefusesCopyOfEntries}
 use Rattle.lfs_tool.proofs.Writers.{reports_written}
 use Rattle.lfs_tool.proofs.ImagesMade.{made, passed}
@@ -13,20 +12,20 @@ pub returns-in-Ok-clause-ok : goal.returns-in-Ok-clause-ok
 returns-in-Ok-clause-ok g c =
     let entries = c.in_ok-entries.entries.items in
     let all = c.in_ok-entries.ensures.entries in
-    let l = passed c.args.geometry c.args.order entries c.as_slice.result.now (bytes_of_new_image_device c.in-Ok.image) (bytes_padded_to_size c.size.result c.bytes_in_memory.result.now) c.as_slice.ensures.value (ap (bytes_padded_to_size c.size.result) c.bytes_in_memory.ensures ∙ sym c.size.ensures.bytes) c.in-Ok.ensures.ok in
-    IfOk-weaker c.write_padded_bytes_and_flush.result _ _
-    (λ _ appends. (entries, (all, (carry_over (g.S.Source.shown c.args.source.now) entries all, ((bytes_padded_to_size c.size.result c.bytes_in_memory.result.now), (l, (made c.args.geometry c.args.order (g.S.Source.shown c.args.source.now) entries (bytes_padded_to_size c.size.result c.bytes_in_memory.result.now) all l, appends)))))))
-    c.write_padded_bytes_and_flush.ensures.ok
+    let l = passed c.args.geometry c.args.order entries c.as_slice.result.now (ram_bytes c.in-Ok.image) c.bytes.result.now c.as_slice.ensures.value c.bytes.ensures.bytes c.in-Ok.ensures.ok in
+    IfOk-weaker c.write_bytes_and_flush.result _ _
+    (λ _ appends. (entries, (all, (carry_over (g.S.Source.shown c.args.source.now) entries all, (c.bytes.result.now, (l, (made c.args.geometry c.args.order (g.S.Source.shown c.args.source.now) entries c.bytes.result.now all l, appends)))))))
+    c.write_bytes_and_flush.ensures.ok
 
 pub returns-in-Ok-clause-writer : goal.returns-in-Ok-clause-writer
-returns-in-Ok-clause-writer g c = reports_written g.W.ToolOutput _ _ c.write_padded_bytes_and_flush.result c.write_padded_bytes_and_flush.ensures.kept c.write_padded_bytes_and_flush.ensures.failed
+returns-in-Ok-clause-writer g c = reports_written g.W.ToolOutput _ _ c.write_bytes_and_flush.result c.write_bytes_and_flush.ensures.kept c.write_bytes_and_flush.ensures.failed
 
 pub returns-in-Ok-clause-beginning : goal.returns-in-Ok-clause-beginning
 returns-in-Ok-clause-beginning g c = λ _.
     let entries = c.in_ok-entries.entries.items in
     let all = c.in_ok-entries.ensures.entries in
-    let l = passed c.args.geometry c.args.order entries c.as_slice.result.now (bytes_of_new_image_device c.in-Ok.image) (bytes_padded_to_size c.size.result c.bytes_in_memory.result.now) c.as_slice.ensures.value (ap (bytes_padded_to_size c.size.result) c.bytes_in_memory.ensures ∙ sym c.size.ensures.bytes) c.in-Ok.ensures.ok in
-    ((bytes_padded_to_size c.size.result c.bytes_in_memory.result.now), (made c.args.geometry c.args.order (g.S.Source.shown c.args.source.now) entries (bytes_padded_to_size c.size.result c.bytes_in_memory.result.now) all l, c.write_padded_bytes_and_flush.ensures.beginning))
+    let l = passed c.args.geometry c.args.order entries c.as_slice.result.now (ram_bytes c.in-Ok.image) c.bytes.result.now c.as_slice.ensures.value c.bytes.ensures.bytes c.in-Ok.ensures.ok in
+    (c.bytes.result.now, (made c.args.geometry c.args.order (g.S.Source.shown c.args.source.now) entries c.bytes.result.now all l, c.write_bytes_and_flush.ensures.beginning))
 
 pub returns-clause-refused : goal.returns-clause-refused
 returns-clause-refused g c = λ e is not_memory.

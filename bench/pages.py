@@ -10,13 +10,15 @@ backticks:
 - a path is one of the repository's: from the top, from `crates`, or from a crate. Its ending may be left out;
 - of a wrong body `CRATE/NAME` is its file;
 - a name is a word of the code, the definitions or the scripts, outside of comments; where the line speaks of proofs, and in
-  docs/DEVICE_LAWS.md, of the proofs too. Of `A::b`, `A.b` and `A::{b, c}` it is each part, and of a call the name before the bracket;
+  the appendices of docs/PORTING.md, of the proofs too. Of `A::b`, `A.b` and `A::{b, c}` it is each part, and of a call the name before the bracket;
 - it is a word of a crate where the page says so: in `lfs_tag::find`, in "`A` and `B` of `lfs_tag`" and "of `lfs_tag` `A` and `B`". In
   the first column of docs/PROVED.md it is a word of the code of the crates that the heading names;
 - in a column of definitions, and of what shows them, it is a word of `lfs_model`, unless another crate is named behind it;
 - in a column of files it is a definitions' file, a crate or a path;
 - an option is one of mklittlefs, of lfs_script, of littlefs-fuse or of a script in bench;
-- in `docs/LIBRARY.md, "Scripts"` there is such a heading.
+- in `docs/FORMAT.md, "Tags"` there is such a heading.
+
+Beside backticks it looks at links, `[..](docs/FORMAT.md#tags)`, and at names of pages, as docs/FORMAT.md.
 
 Prints a line for each that isn't there, and fails then.
 """
@@ -214,10 +216,27 @@ def of_crates(repository, line):
 
 
 def missing_headings(line):
-    for page, heading in re.findall(r'(docs/\w+\.md|README\.md), "([^"]+)"', line):
-        with open(f"{TOP}/{page}", encoding="utf-8") as it:
-            if not re.search(rf"(?m)^#+ .*{re.escape(heading)}", it.read()):
-                yield f'no heading "{heading}" in {page}'
+    for page, heading in re.findall(r'((?:[\w-]+/)*\w+\.md), "([^"]+)"', line):
+        if os.path.exists(f"{TOP}/{page}") and not any(heading in it for it in headings(page)):
+            yield f'no heading "{heading}" in {page}'
+
+
+def headings(page):
+    with open(f"{TOP}/{page}", encoding="utf-8") as it:
+        return re.findall(r"(?m)^#+ (.*)$", it.read())
+
+
+def missing_links(page, line):
+    """Links that lead nowhere, and names of pages in docs that aren't there."""
+    for path, anchor in re.findall(r"\]\(([\w./-]*)(?:#([\w-]+))?\)", line):
+        to = os.path.normpath(os.path.join(os.path.dirname(page), path)) if path else page
+        if not os.path.exists(f"{TOP}/{to}"):
+            yield f"no page {to}"
+        elif anchor and anchor not in {re.sub(r"[^\w -]", "", it).lower().replace(" ", "-") for it in headings(to)}:
+            yield f"no heading #{anchor} in {to}"
+    for named in re.findall(r"(?<![\w/.])docs/\w+\.md", line):
+        if not os.path.exists(f"{TOP}/{named}"):
+            yield f"no page {named}"
 
 
 def missing_files(repository, names):
@@ -231,7 +250,7 @@ def missing_of_line(repository, page, line, cells, section):
     if (page, section) in OTHER_SECTIONS:
         return
     crates = [name for name in spans(section) if name in repository.crates] if page == "docs/PROVED.md" else []
-    is_of_proofs = page == "docs/DEVICE_LAWS.md" or "proofs" in line
+    is_of_proofs = section.startswith("## Appendix") or "proofs" in line
     for column, (title, cell) in enumerate(cells):
         is_call = bool(crates) and title == "Call" and column == 0 and not cell.startswith("- ")
         for text in spans(cell) if title not in OTHERS else []:
@@ -248,6 +267,7 @@ def missing_of_line(repository, page, line, cells, section):
         if crate in repository.crates:
             yield from missing_in(repository, text, [crate])
     yield from missing_headings(line)
+    yield from missing_links(page, line)
 
 
 def main():

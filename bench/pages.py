@@ -11,8 +11,7 @@ backticks:
 - of a wrong body `CRATE/NAME` is its file;
 - a name is a word of the code, the definitions or the scripts, outside of comments; where the line speaks of proofs, and in
   the appendices of docs/PORTING.md, of the proofs too. Of `A::b`, `A.b` and `A::{b, c}` it is each part, and of a call the name before the bracket;
-- it is a word of a crate where the page says so: in `lfs_tag::find`, in "`A` and `B` of `lfs_tag`" and "of `lfs_tag` `A` and `B`". In
-  the first column of docs/PROVED.md it is a word of the code of the crates that the heading names;
+- it is a word of a crate where the page says so: in `lfs_tag::find`, in "`A` and `B` of `lfs_tag`" and "of `lfs_tag` `A` and `B`";
 - in a column of definitions, and of what shows them, it is a word of `lfs_model`, unless another crate is named behind it;
 - in a column of files it is a definitions' file, a crate or a path;
 - an option is one of mklittlefs, of lfs_script, of littlefs-fuse or of a script in bench;
@@ -102,11 +101,11 @@ class Repository:
         ways = [it + path.rstrip("/") for it in above] + [f"crates/{crate}/must-fail/{rest}"] * bool(rest)
         return any(self.has(way + ending) for way in ways for ending in ENDINGS)
 
-    def has_word(self, word, crates, only_code):
+    def has_word(self, word, crates):
         """Whether a name is a word of one of these crates, or of anything if none is given."""
         if not crates:
             return word in self.words or word in self.stems or is_outside(word)
-        return any(word in self.code[crate] or not only_code and word in self.definitions[crate] for crate in crates)
+        return any(word in self.code[crate] | self.definitions[crate] for crate in crates)
 
 
 def parents(path):
@@ -135,7 +134,7 @@ def has_placeholder(path):
 # What a text between backticks names
 
 
-def missing_in(repository, text, crates=(), only_code=False):
+def missing_in(repository, text, crates=()):
     """What it names that isn't there. Its names have to be words of the crates, if any are given."""
     text = text.strip()
     if text.startswith(("c.", "g.", "l.")):  # what a proof has at hand
@@ -147,9 +146,9 @@ def missing_in(repository, text, crates=(), only_code=False):
     missing = missing_options(repository, text)
     if re.fullmatch(rf"{WORD}((::|\.){WORD})*(::\{{[^}}]*\}})?!?", text):
         for name in expanded(text.rstrip("!")):
-            missing += missing_name(repository, re.split(r"::|\.", name), crates, only_code)
+            missing += missing_name(repository, re.split(r"::|\.", name), crates)
     elif call := re.fullmatch(rf"({WORD}(?:(?:::|\.){WORD})*)\([^()]*\)", text):
-        missing += missing_name(repository, re.split(r"::|\.", call[1])[-1:], (), False)
+        missing += missing_name(repository, re.split(r"::|\.", call[1])[-1:], ())
     return missing
 
 
@@ -174,13 +173,13 @@ def missing_options(repository, text):
     return [f"no option {option}" for option in named if option not in repository.options]
 
 
-def missing_name(repository, parts, crates, only_code):
+def missing_name(repository, parts, crates):
     if parts[0] in repository.crates:
         crates, parts = [parts[0]], parts[1:]
     if is_outside(parts[0]) if parts and not crates else False:
         return []
     where = f" in {' or '.join(crates)}" if crates else ""
-    return [f"no name {part}{where}" for part in parts if len(part) > 1 and not repository.has_word(part, crates, only_code)]
+    return [f"no name {part}{where}" for part in parts if len(part) > 1 and not repository.has_word(part, crates)]
 
 
 # Pages
@@ -249,13 +248,11 @@ def missing_files(repository, names):
 def missing_of_line(repository, page, line, cells, section):
     if (page, section) in OTHER_SECTIONS:
         return
-    crates = [name for name in spans(section) if name in repository.crates] if page == "docs/PROVED.md" else []
     is_of_proofs = section.startswith("## Appendix") or "proofs" in line
-    for column, (title, cell) in enumerate(cells):
-        is_call = bool(crates) and title == "Call" and column == 0 and not cell.startswith("- ")
+    for title, cell in cells:
         for text in spans(cell) if title not in OTHERS else []:
             if not (is_of_proofs and text in repository.proofs):
-                yield from missing_in(repository, text, crates if is_call else (), is_call)
+                yield from missing_in(repository, text)
         of_other = {name for name, _ in of_crates(repository, cell)}
         if title in OF_MODEL and "contract" not in cell:
             yield from (it for name in spans(cell) if name not in of_other for it in missing_in(repository, name, ["lfs_model"]))

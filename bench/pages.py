@@ -35,7 +35,7 @@ WORD = r"[A-Za-z_][A-Za-z0-9_]*(?:[-'][A-Za-z0-9_]+)*"
 LONG_OPTION, SHORT_OPTION = r"(?<![\w-])--[a-z][a-z0-9.-]*", r"(?<![\w-])-[a-z](?![\w-])"
 DEFINITIONS = "crates/lfs_model/specs/"
 # columns of files, and of what other tools name
-FILES, OF_MODEL, OTHERS = {"File", "Files"}, {"Definition", "Shown by"}, {"littlefs's word", "There", "littlefs-python", "Where", "Setting", "Where the numbers are from"}
+FILES, OF_MODEL, OTHERS = {"File", "Files"}, {"Definition", "Shown by"}, {"littlefs's word", "There", "Not there", "littlefs-python", "Where", "Setting", "Where the numbers are from"}
 OTHER_SECTIONS = set()
 
 # Names from outside: of littlefs, of the kit and its language, of C, Python and Linux. An ending * stands for any.

@@ -17,6 +17,8 @@ backticks:
 - an option is one of mklittlefs, of lfs_script, of littlefs-fuse or of a script in bench;
 - in `docs/FORMAT.md, "Tags"` there is such a heading.
 
+The README.md of a crate names each module of its `src`, and says what is proved and what isn't.
+
 Beside backticks it looks at links, `[..](docs/FORMAT.md#tags)`, and at names of pages, as docs/FORMAT.md.
 
 Prints a line for each that isn't there, and fails then.
@@ -267,11 +269,28 @@ def missing_of_line(repository, page, line, cells, section):
     yield from missing_links(page, line)
 
 
+def missing_of_crate(repository, page):
+    """Modules of a crate that its README.md doesn't name, and headings that it lacks."""
+    crate, _, name = page.rpartition("/")
+    if not crate.startswith("crates/") or name != "README.md":
+        return
+    with open(f"{TOP}/{page}", encoding="utf-8") as it:
+        text = it.read()
+    for path in sorted(repository.files):
+        module, ending = os.path.splitext(os.path.basename(path))
+        if path.startswith(f"{crate}/src/") and ending == ".rt" and module not in ("lib", "main") and f"`{module}`" not in text:
+            yield f"{page}: module {module} isn't named"
+    for heading in ("What is proved", "What isn't", "What may be changed"):
+        if f"\n## {heading}\n" not in text:
+            yield f'{page}: no heading "{heading}"'
+
+
 def main():
     repository = Repository()
     pages = sys.argv[1:] or sorted(os.path.relpath(path, TOP) for form in PAGES for path in glob.glob(f"{TOP}/{form}"))
     missing = [f"{page}:{number}: {what}" for page in pages for number, *line in lines_of(page)
                for what in dict.fromkeys(missing_of_line(repository, page, *line))]
+    missing += [what for page in pages for what in missing_of_crate(repository, page)]
     print("\n".join(missing) or f"{len(pages)} pages, nothing is missing")
     return bool(missing)
 

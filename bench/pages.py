@@ -3,9 +3,8 @@
 
 usage: pages.py [PAGE..]
 
-Without PAGE it takes README.md, CONTRIBUTING.md, what is in docs, bench/README.md, bindings/README.md, and the pages of the crates. Code
-blocks are passed over, and so are what names the past, CHANGELOG.md, and what names other tools. It looks at what stands between
-backticks:
+Without PAGE it takes README.md, CONTRIBUTING.md, what is in docs, bench/README.md, bindings/README.md, and the pages of the crates. What
+names the past, CHANGELOG.md, is passed over, and so is what names other tools. It looks at what stands between backticks:
 
 - a path is one of the repository's: from the top, from `crates`, or from a crate. Its ending may be left out;
 - of a wrong body `CRATE/NAME` is its file;
@@ -16,6 +15,8 @@ backticks:
 - in a column of files it is a definitions' file, a crate or a path;
 - an option is one of mklittlefs, of lfs_script, of littlefs-fuse or of a script in bench;
 - in `docs/FORMAT.md, "Tags"` there is such a heading.
+
+In a block of code it looks at words with a capital within, and at those with two underscores.
 
 The README.md of a crate names each module of its `src`, and says what is proved and what isn't.
 
@@ -203,6 +204,18 @@ def lines_of(page):
             yield number, line, list(zip(titles, cells)) or [("", line)], section
 
 
+def missing_in_code(repository, page):
+    """Words of the blocks of code with a capital within, or with two underscores, that are nowhere."""
+    is_code, known = False, repository.words | repository.proofs | repository.stems
+    with open(f"{TOP}/{page}", encoding="utf-8") as it:
+        for number, line in enumerate(it.read().splitlines(), 1):
+            is_code ^= line.startswith("```")
+            for word in re.findall(WORD, line) if is_code else []:
+                is_long = re.search("[a-z][A-Z]", word) or word.count("_") >= 2
+                if is_long and word not in known and not is_outside(word):
+                    yield f"{page}:{number}: no name {word}"
+
+
 def spans(text):
     return re.findall(r"`([^`]+)`", text)
 
@@ -290,7 +303,7 @@ def main():
     pages = sys.argv[1:] or sorted(os.path.relpath(path, TOP) for form in PAGES for path in glob.glob(f"{TOP}/{form}"))
     missing = [f"{page}:{number}: {what}" for page in pages for number, *line in lines_of(page)
                for what in dict.fromkeys(missing_of_line(repository, page, *line))]
-    missing += [what for page in pages for what in missing_of_crate(repository, page)]
+    missing += [what for page in pages for find in (missing_in_code, missing_of_crate) for what in find(repository, page)]
     print("\n".join(missing) or f"{len(pages)} pages, nothing is missing")
     return bool(missing)
 

@@ -3,20 +3,24 @@
 
 usage: pages.py [PAGE..]
 
-Without PAGE it takes README.md, CONTRIBUTING.md, what is in docs, bench/README.md, bindings/README.md, and the pages of the crates. Code
-blocks are passed over, and so are what names the past, CHANGELOG.md, and what names other tools. It looks at what stands between
-backticks:
+Without PAGE it takes README.md, CONTRIBUTING.md, what is in docs, bench/README.md, bindings/README.md, and the pages of the crates. What
+names the past, CHANGELOG.md, is passed over, and so is what names other tools. It looks at what stands between backticks:
 
 - a path is one of the repository's: from the top, from `crates`, or from a crate. Its ending may be left out;
 - of a wrong body `CRATE/NAME` is its file;
 - a name is a word of the code, the definitions or the scripts, outside of comments; where the line speaks of proofs, and in
-  docs/DEVICE_LAWS.md, of the proofs too. Of `A::b`, `A.b` and `A::{b, c}` it is each part, and of a call the name before the bracket;
-- it is a word of a crate where the page says so: in `lfs_tag::find`, in "`A` and `B` of `lfs_tag`" and "of `lfs_tag` `A` and `B`". In
-  the first column of docs/PROVED.md it is a word of the code of the crates that the heading names;
+  the appendices of docs/PORTING.md, of the proofs too. Of `A::b`, `A.b` and `A::{b, c}` it is each part, and of a call the name before the bracket;
+- it is a word of a crate where the page says so: in `lfs_tag::find`, in "`A` and `B` of `lfs_tag`" and "of `lfs_tag` `A` and `B`";
 - in a column of definitions, and of what shows them, it is a word of `lfs_model`, unless another crate is named behind it;
 - in a column of files it is a definitions' file, a crate or a path;
 - an option is one of mklittlefs, of lfs_script, of littlefs-fuse or of a script in bench;
-- in `docs/LIBRARY.md, "Scripts"` there is such a heading.
+- in `docs/FORMAT.md, "Tags"` there is such a heading.
+
+In a block of code it looks at words with a capital within, and at those with two underscores.
+
+The README.md of a crate names each module of its `src`, and says what is proved and what isn't.
+
+Beside backticks it looks at links, `[..](docs/FORMAT.md#tags)`, and at names of pages, as docs/FORMAT.md.
 
 Prints a line for each that isn't there, and fails then.
 """
@@ -34,7 +38,7 @@ WORD = r"[A-Za-z_][A-Za-z0-9_]*(?:[-'][A-Za-z0-9_]+)*"
 LONG_OPTION, SHORT_OPTION = r"(?<![\w-])--[a-z][a-z0-9.-]*", r"(?<![\w-])-[a-z](?![\w-])"
 DEFINITIONS = "crates/lfs_model/specs/"
 # columns of files, and of what other tools name
-FILES, OF_MODEL, OTHERS = {"File", "Files"}, {"Definition", "Shown by"}, {"littlefs's word", "There", "littlefs-python", "Where", "Setting", "Where the numbers are from"}
+FILES, OF_MODEL, OTHERS = {"File", "Files"}, {"Definition", "Shown by"}, {"littlefs's word", "There", "Not there", "littlefs-python", "Where", "Setting", "Where the numbers are from"}
 OTHER_SECTIONS = set()
 
 # Names from outside: of littlefs, of the kit and its language, of C, Python and Linux. An ending * stands for any.
@@ -100,11 +104,11 @@ class Repository:
         ways = [it + path.rstrip("/") for it in above] + [f"crates/{crate}/must-fail/{rest}"] * bool(rest)
         return any(self.has(way + ending) for way in ways for ending in ENDINGS)
 
-    def has_word(self, word, crates, only_code):
+    def has_word(self, word, crates):
         """Whether a name is a word of one of these crates, or of anything if none is given."""
         if not crates:
             return word in self.words or word in self.stems or is_outside(word)
-        return any(word in self.code[crate] or not only_code and word in self.definitions[crate] for crate in crates)
+        return any(word in self.code[crate] | self.definitions[crate] for crate in crates)
 
 
 def parents(path):
@@ -133,7 +137,7 @@ def has_placeholder(path):
 # What a text between backticks names
 
 
-def missing_in(repository, text, crates=(), only_code=False):
+def missing_in(repository, text, crates=()):
     """What it names that isn't there. Its names have to be words of the crates, if any are given."""
     text = text.strip()
     if text.startswith(("c.", "g.", "l.")):  # what a proof has at hand
@@ -145,9 +149,9 @@ def missing_in(repository, text, crates=(), only_code=False):
     missing = missing_options(repository, text)
     if re.fullmatch(rf"{WORD}((::|\.){WORD})*(::\{{[^}}]*\}})?!?", text):
         for name in expanded(text.rstrip("!")):
-            missing += missing_name(repository, re.split(r"::|\.", name), crates, only_code)
+            missing += missing_name(repository, re.split(r"::|\.", name), crates)
     elif call := re.fullmatch(rf"({WORD}(?:(?:::|\.){WORD})*)\([^()]*\)", text):
-        missing += missing_name(repository, re.split(r"::|\.", call[1])[-1:], (), False)
+        missing += missing_name(repository, re.split(r"::|\.", call[1])[-1:], ())
     return missing
 
 
@@ -172,13 +176,13 @@ def missing_options(repository, text):
     return [f"no option {option}" for option in named if option not in repository.options]
 
 
-def missing_name(repository, parts, crates, only_code):
+def missing_name(repository, parts, crates):
     if parts[0] in repository.crates:
         crates, parts = [parts[0]], parts[1:]
     if is_outside(parts[0]) if parts and not crates else False:
         return []
     where = f" in {' or '.join(crates)}" if crates else ""
-    return [f"no name {part}{where}" for part in parts if len(part) > 1 and not repository.has_word(part, crates, only_code)]
+    return [f"no name {part}{where}" for part in parts if len(part) > 1 and not repository.has_word(part, crates)]
 
 
 # Pages
@@ -200,6 +204,18 @@ def lines_of(page):
             yield number, line, list(zip(titles, cells)) or [("", line)], section
 
 
+def missing_in_code(repository, page):
+    """Words of the blocks of code with a capital within, or with two underscores, that are nowhere."""
+    is_code, known = False, repository.words | repository.proofs | repository.stems
+    with open(f"{TOP}/{page}", encoding="utf-8") as it:
+        for number, line in enumerate(it.read().splitlines(), 1):
+            is_code ^= line.startswith("```")
+            for word in re.findall(WORD, line) if is_code else []:
+                is_long = re.search("[a-z][A-Z]", word) or word.count("_") >= 2
+                if is_long and word not in known and not is_outside(word):
+                    yield f"{page}:{number}: no name {word}"
+
+
 def spans(text):
     return re.findall(r"`([^`]+)`", text)
 
@@ -214,10 +230,27 @@ def of_crates(repository, line):
 
 
 def missing_headings(line):
-    for page, heading in re.findall(r'(docs/\w+\.md|README\.md), "([^"]+)"', line):
-        with open(f"{TOP}/{page}", encoding="utf-8") as it:
-            if not re.search(rf"(?m)^#+ .*{re.escape(heading)}", it.read()):
-                yield f'no heading "{heading}" in {page}'
+    for page, heading in re.findall(r'((?:[\w-]+/)*\w+\.md), "([^"]+)"', line):
+        if os.path.exists(f"{TOP}/{page}") and not any(heading in it for it in headings(page)):
+            yield f'no heading "{heading}" in {page}'
+
+
+def headings(page):
+    with open(f"{TOP}/{page}", encoding="utf-8") as it:
+        return re.findall(r"(?m)^#+ (.*)$", it.read())
+
+
+def missing_links(page, line):
+    """Links that lead nowhere, and names of pages in docs that aren't there."""
+    for path, anchor in re.findall(r"\]\(([\w./-]*)(?:#([\w-]+))?\)", line):
+        to = os.path.normpath(os.path.join(os.path.dirname(page), path)) if path else page
+        if not os.path.exists(f"{TOP}/{to}"):
+            yield f"no page {to}"
+        elif anchor and anchor not in {re.sub(r"[^\w -]", "", it).lower().replace(" ", "-") for it in headings(to)}:
+            yield f"no heading #{anchor} in {to}"
+    for named in re.findall(r"(?<![\w/.])docs/\w+\.md", line):
+        if not os.path.exists(f"{TOP}/{named}"):
+            yield f"no page {named}"
 
 
 def missing_files(repository, names):
@@ -230,13 +263,11 @@ def missing_files(repository, names):
 def missing_of_line(repository, page, line, cells, section):
     if (page, section) in OTHER_SECTIONS:
         return
-    crates = [name for name in spans(section) if name in repository.crates] if page == "docs/PROVED.md" else []
-    is_of_proofs = page == "docs/DEVICE_LAWS.md" or "proofs" in line
-    for column, (title, cell) in enumerate(cells):
-        is_call = bool(crates) and title == "Call" and column == 0 and not cell.startswith("- ")
+    is_of_proofs = section.startswith("## Appendix") or "proofs" in line
+    for title, cell in cells:
         for text in spans(cell) if title not in OTHERS else []:
             if not (is_of_proofs and text in repository.proofs):
-                yield from missing_in(repository, text, crates if is_call else (), is_call)
+                yield from missing_in(repository, text)
         of_other = {name for name, _ in of_crates(repository, cell)}
         if title in OF_MODEL and "contract" not in cell:
             yield from (it for name in spans(cell) if name not in of_other for it in missing_in(repository, name, ["lfs_model"]))
@@ -248,6 +279,23 @@ def missing_of_line(repository, page, line, cells, section):
         if crate in repository.crates:
             yield from missing_in(repository, text, [crate])
     yield from missing_headings(line)
+    yield from missing_links(page, line)
+
+
+def missing_of_crate(repository, page):
+    """Modules of a crate that its README.md doesn't name, and headings that it lacks."""
+    crate, _, name = page.rpartition("/")
+    if not crate.startswith("crates/") or name != "README.md":
+        return
+    with open(f"{TOP}/{page}", encoding="utf-8") as it:
+        text = it.read()
+    for path in sorted(repository.files):
+        module, ending = os.path.splitext(os.path.basename(path))
+        if path.startswith(f"{crate}/src/") and ending == ".rt" and module not in ("lib", "main") and f"`{module}`" not in text:
+            yield f"{page}: module {module} isn't named"
+    for heading in ("What is proved", "What isn't", "What may be changed"):
+        if f"\n## {heading}\n" not in text:
+            yield f'{page}: no heading "{heading}"'
 
 
 def main():
@@ -255,6 +303,7 @@ def main():
     pages = sys.argv[1:] or sorted(os.path.relpath(path, TOP) for form in PAGES for path in glob.glob(f"{TOP}/{form}"))
     missing = [f"{page}:{number}: {what}" for page in pages for number, *line in lines_of(page)
                for what in dict.fromkeys(missing_of_line(repository, page, *line))]
+    missing += [what for page in pages for find in (missing_in_code, missing_of_crate) for what in find(repository, page)]
     print("\n".join(missing) or f"{len(pages)} pages, nothing is missing")
     return bool(missing)
 

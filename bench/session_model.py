@@ -1,7 +1,7 @@
 """A plain session: what `lfs_script` has to print, worked out on a dictionary of paths and on bytearrays, apart from the crates.
 
-`Model(block_size, page, block_count).answer(line)` gives the line that a command of docs/LIBRARY.md, "Scripts", has to print; what an
-operation answers is told in docs/OPERATIONS.md. The model holds no blocks: that of space which it knows is that each directory
+`Model(block_size, page, block_count).answer(line)` gives the line that a command has to print (crates/lfs_script/README.md, "Scripts");
+what an operation answers is told in docs/OPERATIONS.md. The model holds no blocks: that of space which it knows is that each directory
 takes a pair (`extra` pairs more for what an image has), so it is right where no directory outgrows a pair. It knows no words
 with `\\xNN`, no `is-used`, no image out of the writing profile and nothing to recover.
 """

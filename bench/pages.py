@@ -298,13 +298,23 @@ def missing_of_crate(repository, page):
             yield f'{page}: no heading "{heading}"'
 
 
+def count_of_words(pages):
+    """As `wc -w README.md docs/*.md` counts them, of these pages."""
+    count = 0
+    for page in pages:
+        if page == "README.md" or page.startswith("docs/"):
+            with open(f"{TOP}/{page}", encoding="utf-8") as it:
+                count += len(it.read().split())
+    return count
+
+
 def main():
     repository = Repository()
     pages = sys.argv[1:] or sorted(os.path.relpath(path, TOP) for form in PAGES for path in glob.glob(f"{TOP}/{form}"))
     missing = [f"{page}:{number}: {what}" for page in pages for number, *line in lines_of(page)
                for what in dict.fromkeys(missing_of_line(repository, page, *line))]
     missing += [what for page in pages for find in (missing_in_code, missing_of_crate) for what in find(repository, page)]
-    print("\n".join(missing) or f"{len(pages)} pages, nothing is missing")
+    print("\n".join(missing) or f"{len(pages)} pages, {count_of_words(pages)} words in README.md and docs, nothing is missing")
     return bool(missing)
 
 

@@ -20,6 +20,8 @@ In a block of code it looks at words with a capital within, and at those with tw
 
 The README.md of a crate names each module of its `src`, and says what is proved and what isn't.
 
+A clause that a CALLING.md quotes stands in the crate's `src`, whatever spaces and line ends it has there.
+
 Beside backticks it looks at links, `[..](docs/FORMAT.md#tags)`, and at names of pages, as docs/FORMAT.md.
 
 Prints a line for each that isn't there, and fails then.
@@ -109,6 +111,11 @@ class Repository:
         if not crates:
             return word in self.words or word in self.stems or is_outside(word)
         return any(word in self.code[crate] | self.definitions[crate] for crate in crates)
+
+
+def text_of(path):
+    with open(f"{TOP}/{path}", encoding="utf-8") as it:
+        return it.read()
 
 
 def parents(path):
@@ -207,13 +214,12 @@ def lines_of(page):
 def missing_in_code(repository, page):
     """Words of the blocks of code with a capital within, or with two underscores, that are nowhere."""
     is_code, known = False, repository.words | repository.proofs | repository.stems
-    with open(f"{TOP}/{page}", encoding="utf-8") as it:
-        for number, line in enumerate(it.read().splitlines(), 1):
-            is_code ^= line.startswith("```")
-            for word in re.findall(WORD, line) if is_code else []:
-                is_long = re.search("[a-z][A-Z]", word) or word.count("_") >= 2
-                if is_long and word not in known and not is_outside(word):
-                    yield f"{page}:{number}: no name {word}"
+    for number, line in enumerate(text_of(page).splitlines(), 1):
+        is_code ^= line.startswith("```")
+        for word in re.findall(WORD, line) if is_code else []:
+            is_long = re.search("[a-z][A-Z]", word) or word.count("_") >= 2
+            if is_long and word not in known and not is_outside(word):
+                yield f"{page}:{number}: no name {word}"
 
 
 def spans(text):
@@ -236,8 +242,7 @@ def missing_headings(line):
 
 
 def headings(page):
-    with open(f"{TOP}/{page}", encoding="utf-8") as it:
-        return re.findall(r"(?m)^#+ (.*)$", it.read())
+    return re.findall(r"(?m)^#+ (.*)$", text_of(page))
 
 
 def missing_links(page, line):
@@ -282,13 +287,29 @@ def missing_of_line(repository, page, line, cells, section):
     yield from missing_links(page, line)
 
 
+def missing_quotes(repository, page):
+    """Clauses in the blocks of text of a CALLING.md that aren't in the crate's code."""
+    crate, _, name = page.rpartition("/")
+    if name != "CALLING.md":
+        return
+    paths = sorted(path for path in repository.files if path.startswith(f"{crate}/src/") and path.endswith(".rt"))
+    code = without_spaces("".join(map(text_of, paths)))
+    for block in re.findall(r"(?s)```text\n(.*?)```", text_of(page)):
+        for clause in re.split(r"\n(?=fn |  ensures|  requires)", block)[1:]:
+            if not clause.startswith("fn ") and without_spaces(clause) not in code:
+                yield f"{page}: no clause {clause.strip()}"
+
+
+def without_spaces(text):
+    return re.sub(r"\s+", "", text)
+
+
 def missing_of_crate(repository, page):
     """Modules of a crate that its README.md doesn't name, and headings that it lacks."""
     crate, _, name = page.rpartition("/")
     if not crate.startswith("crates/") or name != "README.md":
         return
-    with open(f"{TOP}/{page}", encoding="utf-8") as it:
-        text = it.read()
+    text = text_of(page)
     for path in sorted(repository.files):
         module, ending = os.path.splitext(os.path.basename(path))
         if path.startswith(f"{crate}/src/") and ending == ".rt" and module not in ("lib", "main") and f"`{module}`" not in text:
@@ -298,13 +319,18 @@ def missing_of_crate(repository, page):
             yield f'{page}: no heading "{heading}"'
 
 
+def count_of_words(pages):
+    """As `wc -w README.md docs/*.md` counts them, of these pages."""
+    return sum(len(text_of(page).split()) for page in pages if page == "README.md" or page.startswith("docs/"))
+
+
 def main():
     repository = Repository()
     pages = sys.argv[1:] or sorted(os.path.relpath(path, TOP) for form in PAGES for path in glob.glob(f"{TOP}/{form}"))
     missing = [f"{page}:{number}: {what}" for page in pages for number, *line in lines_of(page)
                for what in dict.fromkeys(missing_of_line(repository, page, *line))]
-    missing += [what for page in pages for find in (missing_in_code, missing_of_crate) for what in find(repository, page)]
-    print("\n".join(missing) or f"{len(pages)} pages, nothing is missing")
+    missing += [what for page in pages for find in (missing_in_code, missing_of_crate, missing_quotes) for what in find(repository, page)]
+    print("\n".join(missing) or f"{len(pages)} pages, {count_of_words(pages)} words in README.md and docs, nothing is missing")
     return bool(missing)
 
 

@@ -1,20 +1,25 @@
--- From the pairs one by one to the writing profile, and back.
-use Rattle.std.proofs.Common.{ℕ, zero, suc, ◌≡◌, ◌≢◌, ◌<◌, ◌≤◌, ◌+◌, ◌-◌, ◌∙◌, ◌&&◌, ◌⊎◌, ◌↔◌, inl, inr, Bool, true, false, List, [], ◌∷◌, length, take, drop, refl, sym, ap, subst, lt-ltb, ltb→lt, T, arith}
-use Rattle.std.specs.Prelude.{All, nat_lt, map, slice_index_or, Some}
+-- From the pairs one by one to the writing profile.
+use Rattle.std.proofs.Common.{ℕ, zero, suc, ◌≡◌, ◌≢◌, ◌<◌, ◌≤◌, ◌+◌, ◌-◌, ◌∙◌, ◌&&◌, ◌⊎◌, inl, inr, Bool, true, false, List, [], ◌∷◌, length, take, drop, refl, sym, ap, subst, lt-ltb, ltb→lt, T, arith}
+use Rattle.std.specs.Prelude.{All, MatchOption, None, Option, nat_lt, map, slice_get, slice_index_or, Some}
 use Rattle.std.proofs.lemmas.List.{get_or-drop, get_or-take, get_or_default, length-drop, length-map, length-take}
+use Rattle.std.proofs.lemmas.Option.{get_or_from_slice_get, slice_get-get_or, slice_get_within}
 use Rattle.lfs_model.specs.Content.{RawSlot, slot_if_name_and_struct_present, slots_if_names_and_structs_present}
 use Rattle.lfs_device.specs.declared.geometry.Geometry.{Geometry}
 use Rattle.lfs_model.specs.declared.limits.AcceptedVersions.{AcceptedVersions}
 use Rattle.lfs_model.specs.declared.limits.Profile.{Profile}
 use Rattle.lfs_model.specs.Disk.{Disk}
-use Rattle.lfs_model.specs.Slots.{Directory, File, IsContentFittingPair, Inline, KindOfSlot, Slot, Superblock, is_superblock_kind}
+use Rattle.lfs_model.specs.ProfileBreaches.{BreaksProfile, IsBreachIfNotWritable, IsContentSmallEnough, IsEmptyPairAfterHardTail, IsTooLargePair}
+use Rattle.lfs_model.specs.Slots.{Directory, File, IsContentFittingPair, Inline, KindOfSlot, PairContent, Slot, Superblock, is_superblock, is_superblock_kind, pair_address_of_array}
 use Rattle.lfs_model.specs.Thread.{Pair, is_hard_tail, pair_count_before_root}
 use Rattle.lfs_model.specs.Profile.{IsSlotWithinWritableLimits, AreNoEmptyPairsAfterHardTails, IsWritableImage}
 use Rattle.lfs_model.specs.View.{HasSuperblockIfAnySlot, IsAcceptedImage, IsFileOrDirectoryEntry, IsStructOfKind}
+use Rattle.lfs_model.specs.Violations.{IsSlotAt}
+use Rattle.lfs_model.specs.declared.breaches.ProfileBreach.{ProfileBreach}
+use Rattle.lfs_model.specs.declared.breaches.ProfileBreach.TheVariants as breach
 use Rattle.lfs_model.proofs.Completed.{complete_length, complete_parts}
 use Rattle.lfs_thread.specs.Beside.{DiskHasGeometry}
 use Rattle.lfs_thread.specs.Steps.{empty_pair_at_anchor}
-use Rattle.lfs_lookup.specs.Profile.{IsPairInWritingProfile, HasSuperblockStructOf24Bytes, follows_hard_tail_at}
+use Rattle.lfs_lookup.specs.Profile.{BreaksPair, IsChargeWithinLimit, IsPairBreachIfAny, IsPairInWritingProfile, HasSuperblockStructOf24Bytes, follows_hard_tail_at}
 
 abbrev flag_at : Bool → List Pair → ℕ → Bool
 flag_at b xs zero = b
@@ -30,11 +35,6 @@ flag_on b x xs (suc j) = refl
 have_from : (b : Bool) (xs : List Pair) → AreFilled b xs → AreNoEmptyPairsAfterHardTails b xs
 have_from b [] h = tt
 have_from b (x ∷ xs) h = (λ e. h 0 (omega arith) e, have_from (is_hard_tail x.content.tail) xs (λ j l e. h (suc j) (omega (arith, l)) (sym (flag_on b x xs j) ∙ e)))
-
-have_each : (b : Bool) (xs : List Pair) → AreNoEmptyPairsAfterHardTails b xs → AreFilled b xs
-have_each b [] h j l e = absurd (omega (arith, l))
-have_each b (x ∷ xs) h zero l e = h.0 e
-have_each b (x ∷ xs) h (suc j) l e = have_each (is_hard_tail x.content.tail) xs h.1 j (omega (arith, l)) (flag_on b x xs j ∙ e)
 
 both : (a b : Bool) → a ≡ true → b ≡ true → (a && b) ≡ true
 both a b e f = ap (λ x. x && b) e ∙ f
@@ -62,19 +62,6 @@ filled_from root ps h (suc k) l e =
     subst (λ (p : Pair). p.content.slots ≢ []) (sym (get_or-drop root ps (suc k) empty_pair_at_anchor))
     (h (root + suc k) (omega (arith, n, l)) (both (nat_lt root (root + suc k)) (is_hard_tail (slice_index_or ps (root + suc k - 1) empty_pair_at_anchor).content.tail) behind hard))
 
-filled_each : (root : ℕ) (ps : List Pair) → AreFilled false (drop root ps) → AreFilledFrom root ps
-filled_each root ps h i l e =
-    let a = left (nat_lt root i) (is_hard_tail (slice_index_or ps (i - 1) empty_pair_at_anchor).content.tail) e in
-    let hard = right (nat_lt root i) (is_hard_tail (slice_index_or ps (i - 1) empty_pair_at_anchor).content.tail) e in
-    let less : root < i = ltb→lt root i (subst T (sym a) tt) in
-    let n = length-drop root ps in
-    let k = i - root - 1 in
-    let at : root + suc k ≡ i = omega (arith, less) in
-    let before : root + k ≡ i - 1 = omega (arith, less) in
-    subst (λ (p : Pair). p.content.slots ≢ []) (get_or-drop root ps (suc k) empty_pair_at_anchor ∙ ap (λ j. slice_index_or ps j empty_pair_at_anchor) at)
-    (h (suc k) (omega (arith, n, l, less))
-    (ap (λ (p : Pair). is_hard_tail p.content.tail) (get_or-drop root ps k empty_pair_at_anchor ∙ ap (λ j. slice_index_or ps j empty_pair_at_anchor) before) ∙ hard))
-
 -- ---- the image
 
 abbrev pub EachFits : Disk → ℕ → List Pair → ℕ → Type 0
@@ -85,13 +72,6 @@ writable_from disk ps h = record {
   pairs = λ i d l. subst (λ (p : Pair). IsContentFittingPair disk.block_size disk.page p.content) (get_or_default ps i empty_pair_at_anchor d l) (h i l).pair;
   slots = λ i d l. subst (λ (p : Pair). All (IsSlotWithinWritableLimits disk.profile disk.block_size disk.page) p.content.slots) (get_or_default ps i empty_pair_at_anchor d l) (h i l).slots;
   no_empty_pair = have_from false (drop (pair_count_before_root ps) ps) (filled_from (pair_count_before_root ps) ps (λ i l. (h i l).filled));
-}
-
-pub fits_each : (disk : Disk) (ps : List Pair) → IsWritableImage disk ps → EachFits disk (pair_count_before_root ps) ps (length ps)
-fits_each disk ps w i l = record {
-  pair = w.pairs i empty_pair_at_anchor l;
-  slots = w.slots i empty_pair_at_anchor l;
-  filled = filled_each (pair_count_before_root ps) ps (have_each false (drop (pair_count_before_root ps) ps) w.no_empty_pair) i l;
 }
 
 -- ---- superblocks have 24 bytes
@@ -162,7 +142,7 @@ fits_next profile block_size page all n m h f k d l = go (below_or_not k n)
         let same : n ≡ k = omega (arith, a, l) in
         subst (IsSlotWithinWritableLimits profile block_size page) (get_or_default all n no_slot d m ∙ ap (λ i. slice_index_or all i d) same) f
 
-pub fits_more : (disk : Disk) (root : ℕ) (ps : List Pair) (n : ℕ) → EachFits disk root ps n → IsPairInWritingProfile disk.profile disk.block_size disk.page (follows_hard_tail_at root ps n) (slice_index_or ps n empty_pair_at_anchor).content → EachFits disk root ps (n + 1)
+fits_more : (disk : Disk) (root : ℕ) (ps : List Pair) (n : ℕ) → EachFits disk root ps n → IsPairInWritingProfile disk.profile disk.block_size disk.page (follows_hard_tail_at root ps n) (slice_index_or ps n empty_pair_at_anchor).content → EachFits disk root ps (n + 1)
 fits_more disk root ps n h f i l = go (below_or_not i n)
   where
     go : (i < n) ⊎ (n ≤ i) → IsPairInWritingProfile disk.profile disk.block_size disk.page (follows_hard_tail_at root ps i) (slice_index_or ps i empty_pair_at_anchor).content
@@ -171,15 +151,103 @@ fits_more disk root ps n h f i l = go (below_or_not i n)
         let same : n ≡ i = omega (arith, a, l) in
         subst (λ k. IsPairInWritingProfile disk.profile disk.block_size disk.page (follows_hard_tail_at root ps k) (slice_index_or ps k empty_pair_at_anchor).content) same f
 
--- what a pair of the thread as it was read is, in the words of the thread before
-abbrev pub IsAtPair : Disk → ℕ → List Pair → ℕ → Type 0
-IsAtPair disk root ps i = IsPairInWritingProfile disk.profile disk.block_size disk.page (follows_hard_tail_at root ps i) (slice_index_or ps i empty_pair_at_anchor).content
+-- ---- which of two answers is told
 
+at_some : (N : Type 0) (S : ProfileBreach → Type 0) (o : Option ProfileBreach) (b : ProfileBreach) → o ≡ Some b → MatchOption o N S → S b
+at_some N S o b e h = subst (λ x. MatchOption x N S) e h
+
+-- both are none, or it is one of them
+pub told : (M N P : Type 0) (S : ProfileBreach → Type 0) (first next r : Option ProfileBreach) → (r ≡ None → (first ≡ None) × (next ≡ None)) → (r ≡ first) ⊎ (r ≡ next)
+    → MatchOption first M S → MatchOption next N S → (M → N → P) → MatchOption r P S
+told M N P S first next None none either f g whole = let e = none refl in whole (subst (λ x. MatchOption x M S) e.0 f) (subst (λ x. MatchOption x N S) e.1 g)
+told M N P S first next (Some b) none (inl e) f g whole = at_some M S first b (sym e) f
+told M N P S first next (Some b) none (inr e) f g whole = at_some N S next b (sym e) g
+
+pub weaker : (M N : Type 0) (S T : ProfileBreach → Type 0) (o : Option ProfileBreach) → MatchOption o M S → (M → N) → ((b : ProfileBreach) → S b → T b) → MatchOption o N T
+weaker M N S T None h f g = f h
+weaker M N S T (Some b) h f g = g b h
+
+pub stated : (disk : Disk) (ps : List Pair) (o : Option ProfileBreach) → MatchOption o (IsWritableImage disk ps) (BreaksProfile disk ps) → IsBreachIfNotWritable disk ps o
+stated disk ps None h = h
+stated disk ps (Some b) h = h
+
+pub broken : (N : Type 0) (disk : Disk) (ps : List Pair) (o : Option ProfileBreach) (b : ProfileBreach) → o ≡ Some b → MatchOption o N (BreaksProfile disk ps) → IsBreachIfNotWritable disk ps o
+broken N disk ps o b e h = subst (IsBreachIfNotWritable disk ps) (sym e) (at_some N (BreaksProfile disk ps) o b e h)
+
+-- ---- what a pair breaks the image breaks
+
+charged : (profile : Profile) (block_size page : ℕ) (c : PairContent) (id : ℕ) (s : Slot) → slice_get c.slots id ≡ Some s → is_superblock s ≡ false → ¬ IsChargeWithinLimit profile block_size page s → ¬ IsContentSmallEnough profile block_size page c
+charged profile block_size page c id s there entry large small =
+    large (subst (λ (t : Slot). is_superblock t ≡ false → IsChargeWithinLimit profile block_size page t) (get_or_from_slice_get c.slots id s s there) (small.entries id s (slice_get_within c.slots id s there)) entry)
+
+empty_pair : (root : ℕ) (ps : List Pair) (i : ℕ) (at : ℕ × ℕ) → root ≡ pair_count_before_root ps → i < length ps → at ≡ (slice_index_or ps i empty_pair_at_anchor).at → follows_hard_tail_at root ps i ≡ true
+    → (slice_index_or ps i empty_pair_at_anchor).content.slots ≡ [] → IsEmptyPairAfterHardTail ps at
+empty_pair root ps i at is l same follows empty =
+    let a = left (nat_lt root i) (is_hard_tail (slice_index_or ps (i - 1) empty_pair_at_anchor).content.tail) follows in
+    let less : root < i = ltb→lt root i (subst T (sym a) tt) in
+    let next : i - 1 + 1 ≡ i = omega (arith, less) in
+    record {
+      index = i - 1;
+      before = slice_index_or ps (i - 1) empty_pair_at_anchor;
+      pair = slice_index_or ps i empty_pair_at_anchor;
+      first = slice_get-get_or ps (i - 1) empty_pair_at_anchor (omega (arith, l));
+      next = ap (slice_get ps) next ∙ slice_get-get_or ps i empty_pair_at_anchor l;
+      root = omega (arith, is, less);
+      hard = right (nat_lt root i) (is_hard_tail (slice_index_or ps (i - 1) empty_pair_at_anchor).content.tail) follows;
+      at_is = sym same;
+      empty = empty;
+    }
+
+slot_of_pair : (ps : List Pair) (i : ℕ) (at : ℕ × ℕ) (slot id : ℕ) (s : Slot) → i < length ps → at ≡ (slice_index_or ps i empty_pair_at_anchor).at → slot ≡ id → slice_get (slice_index_or ps i empty_pair_at_anchor).content.slots id ≡ Some s
+    → IsSlotAt ps at slot s
+slot_of_pair ps i at slot id s l same is there = record {
+  index = i;
+  pair = slice_index_or ps i empty_pair_at_anchor;
+  there = slice_get-get_or ps i empty_pair_at_anchor l;
+  at_is = sym same;
+  slot = ap (slice_get (slice_index_or ps i empty_pair_at_anchor).content.slots) is ∙ there;
+}
+
+large_pair : (disk : Disk) (ps : List Pair) (i : ℕ) (at : ℕ × ℕ) → i < length ps → at ≡ (slice_index_or ps i empty_pair_at_anchor).at
+    → ¬ IsContentSmallEnough disk.profile disk.block_size disk.page (slice_index_or ps i empty_pair_at_anchor).content → IsTooLargePair disk ps at
+large_pair disk ps i at l same large = record {
+  index = i;
+  pair = slice_index_or ps i empty_pair_at_anchor;
+  there = slice_get-get_or ps i empty_pair_at_anchor l;
+  at_is = sym same;
+  large = large;
+}
+
+breaks_image : (disk : Disk) (root : ℕ) (ps : List Pair) (i : ℕ) (b : ProfileBreach) → root ≡ pair_count_before_root ps → i < length ps
+    → BreaksPair disk.profile disk.block_size disk.page (follows_hard_tail_at root ps i) (slice_index_or ps i empty_pair_at_anchor) b → BreaksProfile disk ps b
+breaks_image disk root ps i (breach.OtherLimits pair slot limit) is l (inl h) = (h.1.0, (slot_of_pair ps i (pair_address_of_array pair) slot h.0 h.1.0 l h.1.1.1.0 h.1.1.1.1 h.1.1.0, h.1.1.1.2))
+breaks_image disk root ps i (breach.OtherLimits pair slot limit) is l (inr h) = absurd h
+breaks_image disk root ps i (breach.LongInline pair slot) is l (inl h) = (h.1.0, (slot_of_pair ps i (pair_address_of_array pair) slot h.0 h.1.0 l h.1.1.1.0 h.1.1.1.1 h.1.1.0, h.1.1.1.2))
+breaks_image disk root ps i (breach.LongInline pair slot) is l (inr h) = absurd h
+breaks_image disk root ps i (breach.EmptyPair pair) is l (inl h) = absurd h.1.1.1
+breaks_image disk root ps i (breach.EmptyPair pair) is l (inr h) = empty_pair root ps i (pair_address_of_array pair) is l h.0 h.1 h.2
+breaks_image disk root ps i (breach.TooLarge pair) is l (inl h) =
+    large_pair disk ps i (pair_address_of_array pair) l h.1.1.1.0 (charged disk.profile disk.block_size disk.page (slice_index_or ps i empty_pair_at_anchor).content h.0 h.1.0 h.1.1.0 h.1.1.1.1 h.1.1.1.2)
+breaks_image disk root ps i (breach.TooLarge pair) is l (inr h) = large_pair disk ps i (pair_address_of_array pair) l h.0 (λ small. h.1 small.pair)
+
+-- what a pair of the thread as it was read breaks, in the words of the thread before
 pub as_before : (disk : Disk) (root : ℕ) (qs ps : List Pair) (i : ℕ) (geometry : Geometry) (follows : Bool) → DiskHasGeometry geometry disk → qs ≡ ps → follows ≡ follows_hard_tail_at root qs i →
-    (b : Bool) → (b ≡ true ↔ IsPairInWritingProfile geometry.profile geometry.block_size geometry.page follows (slice_index_or qs i empty_pair_at_anchor).content) → b ≡ true ↔ IsAtPair disk root ps i
+    (b : Option ProfileBreach) → IsPairBreachIfAny geometry.profile geometry.block_size geometry.page follows (slice_index_or qs i empty_pair_at_anchor) b
+    → IsPairBreachIfAny disk.profile disk.block_size disk.page (follows_hard_tail_at root ps i) (slice_index_or ps i empty_pair_at_anchor) b
 as_before disk root qs ps i geometry follows divided g h b k =
-    subst (λ (xs : List Pair). b ≡ true ↔ IsPairInWritingProfile disk.profile disk.block_size disk.page (follows_hard_tail_at root xs i) (slice_index_or xs i empty_pair_at_anchor).content) g
-    (subst (λ w. b ≡ true ↔ IsPairInWritingProfile disk.profile disk.block_size disk.page w (slice_index_or qs i empty_pair_at_anchor).content) h
-    (subst (λ n. b ≡ true ↔ IsPairInWritingProfile disk.profile disk.block_size n follows (slice_index_or qs i empty_pair_at_anchor).content) divided.page
-    (subst (λ n. b ≡ true ↔ IsPairInWritingProfile disk.profile n geometry.page follows (slice_index_or qs i empty_pair_at_anchor).content) divided.block_size
-    (subst (λ (v : Profile). b ≡ true ↔ IsPairInWritingProfile v geometry.block_size geometry.page follows (slice_index_or qs i empty_pair_at_anchor).content) divided.profile k))))
+    subst (λ (xs : List Pair). IsPairBreachIfAny disk.profile disk.block_size disk.page (follows_hard_tail_at root xs i) (slice_index_or xs i empty_pair_at_anchor) b) g
+    (subst (λ w. IsPairBreachIfAny disk.profile disk.block_size disk.page w (slice_index_or qs i empty_pair_at_anchor) b) h
+    (subst (λ n. IsPairBreachIfAny disk.profile disk.block_size n follows (slice_index_or qs i empty_pair_at_anchor) b) divided.page
+    (subst (λ n. IsPairBreachIfAny disk.profile n geometry.page follows (slice_index_or qs i empty_pair_at_anchor) b) divided.block_size
+    (subst (λ (v : Profile). IsPairBreachIfAny v geometry.block_size geometry.page follows (slice_index_or qs i empty_pair_at_anchor) b) divided.profile k))))
+
+-- one more pair
+pub pair_on : (disk : Disk) (root : ℕ) (ps : List Pair) (i : ℕ) (first next r : Option ProfileBreach) → root ≡ pair_count_before_root ps → i < length ps → (r ≡ None → (first ≡ None) × (next ≡ None)) → (r ≡ first) ⊎ (r ≡ next)
+    → MatchOption first (EachFits disk root ps i) (BreaksProfile disk ps) → IsPairBreachIfAny disk.profile disk.block_size disk.page (follows_hard_tail_at root ps i) (slice_index_or ps i empty_pair_at_anchor) next
+    → MatchOption r (EachFits disk root ps (i + 1)) (BreaksProfile disk ps)
+pair_on disk root ps i first next r is l none either so_far here =
+    let follows = follows_hard_tail_at root ps i in
+    let p = slice_index_or ps i empty_pair_at_anchor in
+    let Fits : Type 0 = IsPairInWritingProfile disk.profile disk.block_size disk.page follows p.content in
+    told (EachFits disk root ps i) Fits (EachFits disk root ps (i + 1)) (BreaksProfile disk ps) first next r none either so_far
+    (weaker Fits Fits (BreaksPair disk.profile disk.block_size disk.page follows p) (BreaksProfile disk ps) next here (λ h. h) (λ b. breaks_image disk root ps i b is l)) (fits_more disk root ps i)

@@ -1,6 +1,6 @@
 // SPDX-License-Identifier: BSD-3-Clause
 //! Look-ups in the directories of an accepted image, by name and by path. Also the image's
-//! superblock, and whether the image may be changed.
+//! superblock, and why an image may not be changed.
 #![tactic(auto)]
 
 mod addresses;
@@ -48,7 +48,7 @@ pub use kinds::{Kind, ListItem, Stat};
 pub use listings::list_directory_at_path;
 pub use path::Path;
 pub use paths::{PathLookup, VisiblePathLookup, look_up};
-pub use profile::{is_pair_after_hard_tail, is_writable};
+pub use profile::{find_profile_breach, is_pair_after_hard_tail};
 pub use refusal::{Refusal, refuse_if, to_refusal};
 pub use root::find_root;
 pub use search::{SlotPosition, find_name_with_slot_hidden};

@@ -1,130 +1,250 @@
-// Whether an image is in the writing profile.
+// What of the writing profile an image breaks.
 
-ghost use Rattle.std.specs.Prelude.{List, ◌≡◌, ◌↔◌, ◌<◌, IsTrue, All, IfOk, IfErr, Some, false, length, map, true};
+ghost use Rattle.std.specs.Prelude.{List, ◌≡◌, ◌↔◌, ◌<◌, ◌⊎◌, IsTrue, All, IfOk, IfErr, IfSome, MatchOption, None, Some, false, length, map, true};
 ghost use Rattle.lfs_model.specs.Content.{slot_if_name_and_struct_present, slots_if_names_and_structs_present, struct_of_type_and_bytes};
 ghost use Rattle.lfs_model.specs.EntryTypes.{superblock_fields_of_struct_bytes};
-ghost use Rattle.lfs_model.specs.Disk.{attr_max_of, file_max_of, name_max_of};
-ghost use Rattle.lfs_model.specs.Slots.{PairContent as ModelContent, File, Slot as ModelSlot};
+ghost use Rattle.lfs_model.specs.Disk.{inline_limit};
+ghost use Rattle.lfs_model.specs.Slots.{PairContent as ModelContent, Inline, Slot as ModelSlot, is_superblock, pair_address_of_array};
 ghost use Rattle.lfs_model.specs.Thread.{pair_count_before_root};
-ghost use Rattle.lfs_model.specs.Profile.{IsEntryWithinWritableLimits, IsSlotWithinWritableLimits, IsWritableImage};
+ghost use Rattle.lfs_model.specs.Profile.{HasInlineBytesWithinLimit};
+ghost use Rattle.lfs_model.specs.ProfileBreaches.{IsBreachIfNotWritable, IsOtherLimit};
 ghost use Rattle.lfs_model.specs.View.{IsAcceptedImage};
-ghost use Rattle.lfs_tag.specs.ContentView.{attribute_view, slot_view};
+ghost use Rattle.lfs_model.specs.WrittenContent.{IsRawContentFittingPair};
+ghost use Rattle.lfs_model.specs.declared.breaches.ProfileBreach.TheVariants.{EmptyPair, TooLarge};
+ghost use Rattle.lfs_tag.specs.ContentView.{attribute_view, content_view, slot_view};
+ghost use Rattle.lfs_tag.specs.FieldsView.{superblock_view};
 ghost use Rattle.lfs_thread.specs.CachedLog.{IsLogBlockOfContent};
 ghost use Rattle.lfs_thread.specs.Steps.{thread_pair_at_index};
-ghost use Rattle.lfs_lookup.specs.Profile.{IsPairInWritingProfile, HasSuperblockStructOf24Bytes, follows_hard_tail_at};
+ghost use Rattle.lfs_lookup.specs.Profile.{IsBreachOfSlotsIfAny, IsChargeWithinLimit, IsPairBreachIfAny, IsSlotBreachIfAny, HasLimitsOfProfile, HasSuperblockStructOf24Bytes, follows_hard_tail_at};
 ghost use Rattle.lfs_lookup.specs.Reading.{OnlyReadsThreadAndReportsErrors};
 
 use lfs_device::{BlockDevice, Error, Geometry};
+use lfs_model::{OtherLimit, ProfileBreach};
 use lfs_pair::{attributes_size, is_content_within_pair_limits};
 use lfs_tag::kinds::INLINE_STRUCT;
-use lfs_tag::{Attribute, Content, Log, NameOrStruct, Slot, superblock_of};
+use lfs_tag::{Attribute, Content, Log, NameOrStruct, Slot, Superblock, superblock_of};
 use lfs_thread::Thread;
 use std::alloc::Global;
 
+// Where a slot is: the address of its pair, and its number there.
+#[derive(Clone, Copy)]
+struct SlotPlace {
+    pair: [u32; 2],
+    slot: usize,
+}
+
+// ---- which of two rules is told
+
+// Returns the place of a rule in the order in which rules are told.
+fn rule_order(breach: ProfileBreach) -> u32 {
+    match breach {
+        ProfileBreach::OtherLimits { .. } => 0,
+        ProfileBreach::LongInline { .. } => 1,
+        ProfileBreach::EmptyPair { .. } => 2,
+        ProfileBreach::TooLarge { .. } => 3,
+    }
+}
+
+// Returns the breach of the rule that is told before the other one, and of one rule the first.
+fn breach_to_tell(
+    first: Option<ProfileBreach>,
+    next: Option<ProfileBreach>,
+) -> Option<ProfileBreach>
+    ensures none { result ≡ None → (first ≡ None) × (next ≡ None) }
+    ensures either { (result ≡ first) ⊎ (result ≡ next) }
+{
+    match (first, next) {
+        (Some(one), Some(other)) if rule_order(one) <= rule_order(other) => first,
+        (Some(_), None) => first,
+        _ => next,
+    }
+}
+
+// ---- slots
+
+// Returns the first limit of a superblock that isn't the profile's.
+fn other_limit(geometry: &Geometry, fields: &Superblock) -> Option<OtherLimit>
+    ensures found { IfSome result (IsOtherLimit geometry.now.profile (superblock_view fields.now)) }
+    ensures none { result ≡ None → HasLimitsOfProfile geometry.now.profile (superblock_view fields.now) }
+{
+    if fields.name_max != geometry.name_max() {
+        return Some(OtherLimit::Name(fields.name_max));
+    }
+    if fields.file_max != geometry.file_max() {
+        return Some(OtherLimit::File(fields.file_max));
+    }
+    if fields.attr_max != geometry.attr_max() {
+        return Some(OtherLimit::Attr(fields.attr_max));
+    }
+    None
+}
+
+// Returns the first limit of a superblock's struct that isn't the profile's.
+fn other_limit_of_struct(geometry: &Geometry, structure: &NameOrStruct<'_>) -> Option<OtherLimit>
+    requires { length structure.now.bytes.now ≡ 24 }
+    ensures found { IfSome result (IsOtherLimit geometry.now.profile (superblock_fields_of_struct_bytes structure.now.bytes.now)) }
+    ensures none { result ≡ None → HasLimitsOfProfile geometry.now.profile (superblock_fields_of_struct_bytes structure.now.bytes.now) }
+{
+    match <&[u8; 24]>::try_from(structure.bytes) {
+        Ok(bytes) => other_limit(geometry, &superblock_of(bytes)),
+        Err(_) => None,
+    }
+}
+
+// Returns what of the writing profile a superblock's slot breaks.
+fn breach_of_superblock(
+    geometry: &Geometry,
+    place: SlotPlace,
+    structure: &NameOrStruct<'_>,
+) -> Option<ProfileBreach>
+    requires { length structure.now.bytes.now ≡ 24 }
+    ensures { (s : ModelSlot) → is_superblock s ≡ true → s.struct ≡ Inline structure.now.bytes.now → IsSlotBreachIfAny geometry.now.profile geometry.now.block_size geometry.now.page (pair_address_of_array place.pair) place.slot s result }
+{
+    let SlotPlace { pair, slot } = place;
+    match other_limit_of_struct(geometry, structure) {
+        Some(limit) => Some(ProfileBreach::OtherLimits { pair, slot, limit }),
+        None => None,
+    }
+}
+
+// Returns whether no more bytes are inline than the limit.
+fn is_inline_within_limit(geometry: &Geometry, structure: &NameOrStruct<'_>) -> bool
+    ensures { IsTrue result ↔ HasInlineBytesWithinLimit (inline_limit geometry.now.profile geometry.now.block_size) (struct_of_type_and_bytes structure.now.kind structure.now.bytes.now) }
+{
+    structure.kind != INLINE_STRUCT || structure.bytes.len() <= geometry.inline_limit() as usize
+}
+
 // Returns whether an entry takes at most half of what a pair may hold, with any contents that it
-// may get. Its inline bytes are within the limit, too.
-fn is_entry_in_writing_profile(
+// may get.
+fn is_charge_within_limit(
     geometry: &Geometry,
     name: &NameOrStruct<'_>,
-    structure: &NameOrStruct<'_>,
     attributes: &[Attribute<'_>],
 ) -> bool
-    ensures { IsTrue result ↔ IsEntryWithinWritableLimits geometry.now.profile geometry.now.block_size geometry.now.page
-        (record { kind = File; name = name.now.bytes.now; struct = struct_of_type_and_bytes structure.now.kind structure.now.bytes.now; attributes = map attribute_view attributes.now }) }
+    ensures { (s : ModelSlot) → s.name ≡ name.now.bytes.now → s.attributes ≡ map attribute_view attributes.now → IsTrue result ↔ IsChargeWithinLimit geometry.now.profile geometry.now.block_size geometry.now.page s }
 {
     let charge = attributes_size(attributes)
         .saturating_add(name.bytes.len() as u64)
         .saturating_add(u64::from(geometry.struct_limit()) + 8);
     charge <= u64::from(geometry.entry_size_limit())
-        && (structure.kind != INLINE_STRUCT
-            || structure.bytes.len() <= geometry.inline_limit() as usize)
 }
 
-// Returns whether a superblock has the limits that are written on a device of this geometry.
-fn has_limits_of_profile(geometry: &Geometry, structure: &NameOrStruct<'_>) -> bool
-    requires { length structure.now.bytes.now ≡ 24 }
-    ensures { IsTrue result ↔ (((superblock_fields_of_struct_bytes structure.now.bytes.now).name_max ≡ name_max_of geometry.now.profile) × ((superblock_fields_of_struct_bytes structure.now.bytes.now).file_max ≡ file_max_of geometry.now.profile) × ((superblock_fields_of_struct_bytes structure.now.bytes.now).attr_max ≡ attr_max_of geometry.now.profile)) }
+// Returns what of the writing profile an entry breaks.
+fn breach_of_entry(
+    geometry: &Geometry,
+    place: SlotPlace,
+    name: &NameOrStruct<'_>,
+    structure: &NameOrStruct<'_>,
+    attributes: &[Attribute<'_>],
+) -> Option<ProfileBreach>
+    ensures { (s : ModelSlot) → is_superblock s ≡ false → s.name ≡ name.now.bytes.now → s.struct ≡ struct_of_type_and_bytes structure.now.kind structure.now.bytes.now → s.attributes ≡ map attribute_view attributes.now
+        → IsSlotBreachIfAny geometry.now.profile geometry.now.block_size geometry.now.page (pair_address_of_array place.pair) place.slot s result }
 {
-    match <&[u8; 24]>::try_from(structure.bytes) {
-        Ok(bytes) => superblock_of(bytes).has_limits(geometry),
-        Err(_) => false,
+    let SlotPlace { pair, slot } = place;
+    if !is_inline_within_limit(geometry, structure) {
+        return Some(ProfileBreach::LongInline { pair, slot });
     }
+    if !is_charge_within_limit(geometry, name, attributes) {
+        return Some(ProfileBreach::TooLarge { pair });
+    }
+    None
 }
 
-// Returns whether a slot is within the writing profile.
-fn is_slot_in_writing_profile(geometry: &Geometry, slot: &Slot<'_>) -> bool
+// Returns what of the writing profile a slot breaks.
+fn breach_of_slot(geometry: &Geometry, place: SlotPlace, slot: &Slot<'_>) -> Option<ProfileBreach>
     requires { (s : ModelSlot) × ((slot_if_name_and_struct_present (slot_view slot.now) ≡ Some s) × HasSuperblockStructOf24Bytes s) }
-    ensures { (s : ModelSlot) → slot_if_name_and_struct_present (slot_view slot.now) ≡ Some s → HasSuperblockStructOf24Bytes s → IsTrue result ↔ IsSlotWithinWritableLimits geometry.now.profile geometry.now.block_size geometry.now.page s }
+    ensures { (s : ModelSlot) → slot_if_name_and_struct_present (slot_view slot.now) ≡ Some s → HasSuperblockStructOf24Bytes s → IsSlotBreachIfAny geometry.now.profile geometry.now.block_size geometry.now.page (pair_address_of_array place.pair) place.slot s result }
 {
     let (Some(name), Some(structure)) = (slot.name, slot.structure) else {
-        return false;
+        return None;
     };
     if slot.is_superblock() {
-        return has_limits_of_profile(geometry, &structure);
+        return breach_of_superblock(geometry, place, &structure);
     }
-    is_entry_in_writing_profile(geometry, &name, &structure, &slot.attributes)
+    breach_of_entry(geometry, place, &name, &structure, &slot.attributes)
 }
 
-// Returns whether all slots are within the writing profile.
-fn are_slots_in_writing_profile(geometry: &Geometry, slots: &[Slot<'_>]) -> bool
+// Returns what of the writing profile the slots of the pair at that address break.
+fn breach_of_slots(geometry: &Geometry, pair: [u32; 2], slots: &[Slot<'_>]) -> Option<ProfileBreach>
     requires { (all : List ModelSlot) × ((slots_if_names_and_structs_present (map slot_view slots.now) ≡ Some all) × All HasSuperblockStructOf24Bytes all) }
-    ensures { (all : List ModelSlot) → slots_if_names_and_structs_present (map slot_view slots.now) ≡ Some all → All HasSuperblockStructOf24Bytes all → IsTrue result ↔ All (IsSlotWithinWritableLimits geometry.now.profile geometry.now.block_size geometry.now.page) all }
+    ensures { (all : List ModelSlot) → slots_if_names_and_structs_present (map slot_view slots.now) ≡ Some all → All HasSuperblockStructOf24Bytes all → IsBreachOfSlotsIfAny geometry.now.profile geometry.now.block_size geometry.now.page (pair_address_of_array pair) all result }
 {
-    for slot in slots {
-        if !is_slot_in_writing_profile(geometry, slot) {
-            return false;
-        }
+    let mut found = None;
+    for (id, slot) in slots.iter().enumerate() {
+        let place = SlotPlace { pair, slot: id };
+        found = breach_to_tell(found, breach_of_slot(geometry, place, slot));
     }
-    true
+    found
 }
 
-// Returns whether a pair has a slot, if a hard tail names it.
-fn has_slot_if_after_hard_tail(follows: bool, slots: &[Slot<'_>]) -> bool
-    ensures { IsTrue result ↔ (follows ≡ true → ¬ (length slots.now ≡ 0)) }
+// ---- pairs
+
+// Returns a breach where a pair has no slot, although a hard tail names it.
+fn breach_if_empty(pair: [u32; 2], follows: bool, slots: &[Slot<'_>]) -> Option<ProfileBreach>
+    ensures { MatchOption result (follows ≡ true → ¬ (length slots.now ≡ 0)) (λ b. (b ≡ EmptyPair pair) × (follows ≡ true) × (length slots.now ≡ 0)) }
 {
-    !follows || !slots.is_empty()
+    if follows && slots.is_empty() {
+        Some(ProfileBreach::EmptyPair { pair })
+    } else {
+        None
+    }
 }
 
-// Returns whether a pair with that log is within the writing profile. A pair that a hard tail names
-// has a slot.
-fn is_log_in_writing_profile(
+// Returns a breach where a pair has more than it may hold.
+fn breach_if_too_large(
+    geometry: &Geometry,
+    pair: [u32; 2],
+    content: &Content<'_>,
+) -> Option<ProfileBreach>
+    ensures { MatchOption result (IsRawContentFittingPair geometry.now.block_size geometry.now.page (content_view content.now)) (λ b. (b ≡ TooLarge pair) × ¬ IsRawContentFittingPair geometry.now.block_size geometry.now.page (content_view content.now)) }
+{
+    if is_content_within_pair_limits(content, *geometry) {
+        None
+    } else {
+        Some(ProfileBreach::TooLarge { pair })
+    }
+}
+
+// Returns what of the writing profile the pair at that address with that log breaks. A pair that a
+// hard tail names has a slot.
+fn breach_of_log(
     alloc: Global,
     geometry: &Geometry,
+    pair: [u32; 2],
     log: &Log<'_>,
     follows: bool,
-) -> Result<bool, Error>
+) -> Result<Option<ProfileBreach>, Error>
     requires { (content : ModelContent) × (IsLogBlockOfContent log.now content × All HasSuperblockStructOf24Bytes content.slots) }
-    ensures is { (content : ModelContent) → IsLogBlockOfContent log.now content → All HasSuperblockStructOf24Bytes content.slots → IfOk result (λ b. IsTrue b ↔ IsPairInWritingProfile geometry.now.profile geometry.now.block_size geometry.now.page follows content) }
+    ensures is { (content : ModelContent) → IsLogBlockOfContent log.now content → All HasSuperblockStructOf24Bytes content.slots → IfOk result (IsPairBreachIfAny geometry.now.profile geometry.now.block_size geometry.now.page follows (record { at = pair_address_of_array pair; content = content })) }
     ensures errors { IfErr result (λ e. e ≡ Error.NoMemory) }
 {
     let content = Content::read(alloc, log)?;
-    if !has_slot_if_after_hard_tail(follows, &content.slots) {
-        return Ok(false);
-    }
-    if !is_content_within_pair_limits(&content, *geometry) {
-        return Ok(false);
-    }
-    let fit = are_slots_in_writing_profile(geometry, &content.slots);
-    Ok(fit)
+    let of_slots = breach_of_slots(geometry, pair, &content.slots);
+    let empty = breach_if_empty(pair, follows, &content.slots);
+    let large = breach_if_too_large(geometry, pair, &content);
+    Ok(breach_to_tell(breach_to_tell(of_slots, empty), large))
 }
 
-// Returns whether the pair at an index is within the writing profile.
-fn is_pair_at_index_in_profile<D: BlockDevice>(
+// Returns what of the writing profile the pair at an index breaks.
+fn breach_of_pair_at<D: BlockDevice>(
     alloc: Global,
     thread: &mut Thread<D>,
     geometry: &Geometry,
     index: usize,
     follows: bool,
-) -> Result<bool, Error>
+) -> Result<Option<ProfileBreach>, Error>
     requires works { thread.old.failed ≡ false }
     requires below { index < length thread.old.kept.pairs }
     requires shaped { All HasSuperblockStructOf24Bytes (thread_pair_at_index thread.old.kept index).content.slots }
-    ensures is { IfOk result (λ b. IsTrue b ↔ IsPairInWritingProfile geometry.now.profile geometry.now.block_size geometry.now.page follows (thread_pair_at_index thread.old.kept index).content) }
+    ensures is { IfOk result (IsPairBreachIfAny geometry.now.profile geometry.now.block_size geometry.now.page follows (thread_pair_at_index thread.old.kept index)) }
     ensures reading { OnlyReadsThreadAndReportsErrors thread.old thread.new result }
 {
     thread.load_pair(index)?;
-    is_log_in_writing_profile(alloc, geometry, &thread.lend(index).unwrap(), follows)
+    let pair = thread.blocks_of_pair(index);
+    breach_of_log(alloc, geometry, pair, &thread.lend(index).unwrap(), follows)
 }
+
+// ---- the image
 
 /// Returns whether a pair continues the directory of the pair before it. The pairs up to the root's
 /// first one, whose number is `root`, don't.
@@ -140,33 +260,38 @@ pub fn is_pair_after_hard_tail<D: BlockDevice>(
     index > root && thread.next(index - 1).is_some()
 }
 
-/// Returns whether an image is in the writing profile, so that it may be changed. Each pair has at
-/// most a thousand slots, whose bytes it could hold after a compaction. Each superblock has the
-/// limits of the device's profile. Each entry takes at most half of a pair's bytes, with any inline
-/// contents that it may get. A file's contents are inline up to the device's limit only. Only the
-/// first pair of a directory may have no slots.
+/// Returns what of the writing profile an image breaks, and where. Returns None exactly where the image
+/// may be changed. Each pair has at most a thousand slots, whose bytes it could hold after a compaction.
+/// Each superblock has the limits of the device's profile. Each entry takes at most half of a pair's
+/// bytes, with any inline contents that it may get. A file's contents are inline up to the device's
+/// limit only. Only the first pair of a directory may have no slots.
 ///
-/// `root` is the number of the root directory's first pair.
+/// Of several rules another limit is told first, then long inline contents, an empty pair, and what is
+/// too large. Of one rule the first place is told. `root` is the number of the root directory's first
+/// pair.
 ///
 /// Errors: `Io` where a read failed. `NoMemory` where memory for a block and its slots isn't
 /// granted.
-pub fn is_writable<D: BlockDevice>(
+pub fn find_profile_breach<D: BlockDevice>(
     alloc: Global,
     thread: &mut Thread<D>,
     root: usize,
-) -> Result<bool, Error>
+) -> Result<Option<ProfileBreach>, Error>
     requires works { thread.old.failed ≡ false }
     requires accepted { IsAcceptedImage thread.old.kept.disk thread.old.kept.pairs }
     requires root { root ≡ pair_count_before_root thread.old.kept.pairs }
-    ensures is { IfOk result (λ b. IsTrue b ↔ IsWritableImage thread.old.kept.disk thread.old.kept.pairs) }
+    ensures is { IfOk result (IsBreachIfNotWritable thread.old.kept.disk thread.old.kept.pairs) }
     ensures reading { OnlyReadsThreadAndReportsErrors thread.old thread.new result }
 {
     let geometry = thread.geometry();
+    let mut found = None;
     for index in 0..thread.len() {
         let follows = is_pair_after_hard_tail(thread, root, index);
-        if !is_pair_at_index_in_profile(alloc, thread, &geometry, index, follows)? {
-            return Ok(false);
+        let next = breach_of_pair_at(alloc, thread, &geometry, index, follows)?;
+        found = breach_to_tell(found, next);
+        if let Some(ProfileBreach::OtherLimits { .. }) = found {
+            return Ok(found);
         }
     }
-    Ok(true)
+    Ok(found)
 }

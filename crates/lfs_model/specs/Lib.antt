@@ -24,6 +24,7 @@ pub mod Tree
 pub mod Shown
 pub mod View
 pub mod Violations
+pub mod ProfileBreaches
 pub mod Profile
 pub mod Fresh
 pub mod BlockBytes

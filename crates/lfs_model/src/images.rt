@@ -16,6 +16,7 @@ ghost use Rattle.lfs_model.specs.Fresh.{IsFreshDisk, only_pair_of_fresh_disk, em
 ghost use Rattle.lfs_model.specs.WrittenContent.{tail_log_entry};
 ghost use Rattle.lfs_model.specs.BlockBytes.{unwritten_storage_bytes, bytes_padded_to_block_size, inline_file_name_and_struct_entries, ctz_file_name_and_struct_entries, directory_name_and_struct_entries, move_state_entry_with_first_word, superblock_name_and_struct_entries, checksum_entry, metadata_block_bytes};
 ghost use Rattle.lfs_model.specs.examples.Images.{disk_view_of_nodes, IsNoAcceptedImage, IsNoWritableImage, small_fresh_image, large_fresh_image, block_with_shifted_slots, image_with_shifted_slots, image_over_storage_erased_to_zeros, image_of_two_commits, large_disk_with_blocks, root_block_with_entries, pair_block_with_entries, superblock_struct_bytes_with_fields, disk_with_accepted_versions, superblock_entries_with_struct, root_block_with_superblock_struct, image_of_first_block_and_others};
+ghost use Rattle.lfs_model.specs.examples.Violations.{image_with_long_inline_bytes, image_with_short_names};
 
 /// A fresh image is accepted and may be written. It shows the empty root, and uses the first two blocks.
 pub fn fresh_image_is_accepted()
@@ -229,16 +230,16 @@ pub fn moved_superblock_is_read()
 /// What other tools write is shown, and may not be written.
 pub fn image_outside_profile_is_read_only()
     // An entry has 600 bytes, where at most 512 are written.
-    ensures long_entry { HasDiskView (image_of_first_block_and_others (root_block_with_entries (inline_file_name_and_struct_entries 1 (codes "a") (replicate 600 97)) 0x961dcdc4 107) [])
+    ensures long_entry { HasDiskView image_with_long_inline_bytes
         (disk_view_of_nodes (([], DirectoryNode [] (codes "a" ∷ []))
         ∷ (codes "a" ∷ [], FileNode [] (replicate 600 97)) ∷ [])
         zero_gstate (0 ∷ 1 ∷ [])) }
-    ensures long_entry_read_only { IsNoWritableImage (image_of_first_block_and_others (root_block_with_entries (inline_file_name_and_struct_entries 1 (codes "a") (replicate 600 97)) 0x961dcdc4 107) []) }
+    ensures long_entry_read_only { IsNoWritableImage image_with_long_inline_bytes }
 
     // The superblock limits names to 32 bytes.
-    ensures name_limit { HasDiskView (image_of_first_block_and_others (root_block_with_superblock_struct (superblock_struct_bytes_with_fields 0x00020000 4096 32) 0xe9693de0) [])
+    ensures name_limit { HasDiskView image_with_short_names
         (disk_view_of_nodes (([], DirectoryNode [] []) ∷ []) zero_gstate (0 ∷ 1 ∷ [])) }
-    ensures name_limit_read_only { IsNoWritableImage (image_of_first_block_and_others (root_block_with_superblock_struct (superblock_struct_bytes_with_fields 0x00020000 4096 32) 0xe9693de0) []) }
+    ensures name_limit_read_only { IsNoWritableImage image_with_short_names }
 
     // The superblock gives version 2.1, which is accepted.
     ensures newer { HasDiskView (disk_with_accepted_versions AlsoTwoOne (image_of_first_block_and_others (root_block_with_superblock_struct (superblock_struct_bytes_with_fields 0x00020001 4096 255) 0xf2928257) []))

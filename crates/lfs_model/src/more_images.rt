@@ -1,6 +1,6 @@
 // Further rules of accepted images and of the writing profile.
 
-ghost use Rattle.std.specs.Prelude.{◌≡◌, true, false, [], ◌∷◌, ◌++◌, Some, replicate, codes};
+ghost use Rattle.std.specs.Prelude.{◌≡◌, true, false, [], ◌∷◌, ◌++◌, Some, codes};
 ghost use Rattle.lfs_model.specs.Disk.{default_profile};
 ghost use Rattle.lfs_model.specs.Slots.{zero_gstate};
 ghost use Rattle.lfs_model.specs.Tree.{DirectoryNode};
@@ -8,8 +8,9 @@ ghost use Rattle.lfs_model.specs.EntryTypes.{create_tag_type, file_name_type, di
 ghost use Rattle.lfs_model.specs.View.{HasDiskView, superblock_name_log_entry};
 ghost use Rattle.lfs_model.specs.Fresh.{superblock_struct_bytes};
 ghost use Rattle.lfs_model.specs.WrittenContent.{log_entry_of_type_id_and_bytes, bytes_of_pair_address, tail_log_entry};
-ghost use Rattle.lfs_model.specs.BlockBytes.{inline_file_name_and_struct_entries, directory_name_and_struct_entries, move_state_entry_with_first_word};
+ghost use Rattle.lfs_model.specs.BlockBytes.{directory_name_and_struct_entries, move_state_entry_with_first_word};
 ghost use Rattle.lfs_model.specs.examples.Images.{disk_view_of_nodes, IsNoAcceptedImage, IsNoWritableImage, root_block_with_entries, pair_block_with_entries, image_of_first_block_and_others};
+ghost use Rattle.lfs_model.specs.examples.Violations.{image_with_empty_pair, image_with_large_entry};
 
 /// The deltas of all pairs are joined: here two sync bits make none.
 pub fn gstate_deltas_of_pairs_are_xored()
@@ -36,6 +37,6 @@ pub fn bad_first_entry_is_not_accepted()
 
 /// Which rules keep an accepted image from being written.
 pub fn overlarge_entry_or_empty_pair_is_not_writable()
-    ensures charge { IsNoWritableImage (image_of_first_block_and_others (root_block_with_entries (inline_file_name_and_struct_entries 1 (codes "a") [] ++ log_entry_of_type_id_and_bytes 0x341 1 (replicate 1022 1) ∷ log_entry_of_type_id_and_bytes 0x342 1 (replicate 400 1) ∷ []) 0xf45b3dfa 45) []) }
-    ensures empty_pair { IsNoWritableImage (image_of_first_block_and_others (root_block_with_entries (tail_log_entry true (Some (2, 3)) ∷ []) 0xef8649c3 192) (pair_block_with_entries [] 0x43f29ceb 244 ∷ [])) }
+    ensures charge { IsNoWritableImage image_with_large_entry }
+    ensures empty_pair { IsNoWritableImage image_with_empty_pair }
 {}

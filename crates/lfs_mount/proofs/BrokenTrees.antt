@@ -20,7 +20,7 @@ use Rattle.lfs_mount.specs.declared.reachability.Directory.{Directory}
 use Rattle.lfs_mount.specs.Places.{IsDirectoryReachedByPath, branch_addresses_in_slots, directory_index_at}
 use Rattle.lfs_mount.specs.Directories.{IsGraphOfThreadDirectories, IsRuleBrokenInGraph}
 use Rattle.lfs_mount.proofs.Finished.{led_finished}
-use Rattle.lfs_mount.proofs.Indices.{at_index, begins_index, index_begins, mapped, same_from_index}
+use Rattle.lfs_mount.proofs.Indices.{at_index, begins_index, index_begins, mapped}
 use Rattle.lfs_mount.proofs.Links.{branches-links, links_in}
 use Rattle.lfs_mount.proofs.Rooted.{first, led_from_reached}
 use Rattle.lfs_mount.proofs.Searches.{AreSoundBefore, Goes, IsLedTwice, found_led, found_twice_led, goes_on, known_at}
@@ -160,7 +160,6 @@ module _ {by : NameOrder} (graph : DirectoryGraph) (firsts : List (ℕ × ℕ)) 
     broken = λ disk ps order shows.
         let f = falling ps shows k v x sound here vertex unrisen in
         record { path = f.led.path; to = f.led.at; reached = reached_at ps shows v (pair_address_of_array pair) there f.led; falls = subst (λ (o : NameOrder). ¬ NamesRise o ps f.led.at) (sym order) f.falls };
-    no_tree = λ ps shows right. let f = falling ps shows k v x sound here vertex unrisen in f.falls (right.tree.order f.led.path f.led.at f.led.leads);
   }
 
   pub branch_broken : (k v : ℕ) (x : DirectoryVertexWithSoundnessAndBranches) (pair : List ℕ) → AreSoundBefore graph k → slice_get (directories_found_after_steps graph k) k ≡ Some v → slice_get graph v ≡ Some x → x.rises ≡ true → x.leads ≡ false
@@ -169,7 +168,6 @@ module _ {by : NameOrder} (graph : DirectoryGraph) (firsts : List (ℕ × ℕ)) 
     broken = λ disk ps order shows.
         let f = leading ps shows k v x sound here vertex risen unled in
         record { path = f.led.path; to = f.led.at; reached = reached_at ps shows v (pair_address_of_array pair) there f.led; name = f.name; target = f.to; leads = f.leads; loose = f.loose };
-    no_tree = λ ps shows right. let f = leading ps shows k v x sound here vertex risen unled in f.loose (right.tree.branches (f.led.path ++ f.name ∷ []) f.to f.leads);
   }
 
   pub paths_broken : (k x : ℕ) (pair : List ℕ) → AreSoundBefore graph (k + 1) → IsDistinct nat_eq (directories_found_after_steps graph k) → IsRepeatedNumber (directories_found_after_steps graph (k + 1)) x
@@ -186,9 +184,6 @@ module _ {by : NameOrder} (graph : DirectoryGraph) (firsts : List (ℕ × ℕ)) 
           other_reached = reached_at ps shows x (pair_address_of_array pair) there t.other;
           differ = t.differ;
         };
-    no_tree = λ ps shows right.
-        let t = twice ps shows k x sound distinct repeated in
-        t.differ (right.tree.once t.one.path t.other.path t.one.at t.other.at t.one.leads t.other.leads (same_from_index (directories_in_thread ps) t.one.at t.other.at x t.one.index t.other.index));
   }
 
   pub no_path_broken : (marks : List Bool) → AreMarksOfReachedDirectories graph marks → (v : ℕ) (pair : List ℕ) → sync ≡ false → slice_get marks v ≡ Some false → slice_get firsts v ≡ Some (pair_address_of_array pair)
@@ -205,10 +200,4 @@ module _ {by : NameOrder} (graph : DirectoryGraph) (firsts : List (ℕ × ℕ)) 
           at_is = at;
           unreached = subst (λ (x : ℕ × ℕ). ¬ IsDirectoryAddressReachedBySomePath ps x) at (never ps shows marks r v d.0 d.1 unmarked);
         };
-    no_tree = λ ps shows right.
-        let none : ThreadDirectory = record { at = (0, 0); slots = [] } in
-        let same = shows.draws.len in
-        let len = r.len in
-        let lt : v < length (directories_in_thread ps) = omega (arith, slice_get_within marks v false unmarked) in
-        never ps shows marks r v (get_or (directories_in_thread ps) v none) (slice_get-get_or (directories_in_thread ps) v none lt) unmarked (right.reached (shows.same ∙ clear) v none lt);
   }

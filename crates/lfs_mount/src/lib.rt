@@ -16,3 +16,4 @@ mod reachability;
 mod superblock_chain;
 
 pub use accepted_images::{mount, mount_in_order};
+pub use lfs_thread::MountError;

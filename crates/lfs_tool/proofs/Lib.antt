@@ -1,10 +1,6 @@
 pub mod HeldSlots
 pub mod RootPlaces
-pub mod HeldPlaces
-pub mod OutsideProfile
-pub mod ProfileCauses
 pub mod Counts
-pub mod WithoutAttributes
 pub mod NoWrongNumbers
 pub mod ExcerptsAlike
 pub mod AcceptedAlike

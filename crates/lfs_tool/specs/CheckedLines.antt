@@ -12,10 +12,10 @@ use Rattle.lfs_tool.specs.declared.check_result.RefusalReason.{RefusalReason}
 use Rattle.lfs_tool.specs.declared.check_result.RefusalReason.TheVariants as reason
 use Rattle.lfs_tool.specs.declared.verdict.ImageSummary.{ImageSummary}
 use Rattle.lfs_tool.specs.SuperblockLines.{superblock_lines_if_told_of}
-use Rattle.lfs_tool.specs.declared.verdict.WritingProfile.{WritingProfile}
-use Rattle.lfs_tool.specs.declared.verdict.WritingProfile.TheVariants as profile
-use Rattle.lfs_tool.specs.declared.verdict.OtherLimit.{OtherLimit}
-use Rattle.lfs_tool.specs.declared.verdict.OtherLimit.TheVariants as limit
+use Rattle.lfs_model.specs.declared.breaches.OtherLimit.{OtherLimit}
+use Rattle.lfs_model.specs.declared.breaches.OtherLimit.TheVariants as limit
+use Rattle.lfs_model.specs.declared.breaches.ProfileBreach.{ProfileBreach}
+use Rattle.lfs_model.specs.declared.breaches.ProfileBreach.TheVariants as breach
 use Rattle.lfs_tool.specs.declared.check_result.CheckResult.{CheckResult}
 use Rattle.lfs_tool.specs.declared.check_result.CheckResult.TheVariants as checked
 
@@ -58,17 +58,18 @@ abbrev pub inline_limit_text : Option ℕ → List ℕ
 inline_limit_text None = codes "an eighth of a block"
 inline_limit_text (Some n) = codes "inline_max " ++ decimal n
 
--- why an image isn't in the writing profile
-abbrev pub writing_profile_text : WritingProfile → List ℕ
-writing_profile_text profile.Within = codes "yes"
-writing_profile_text (profile.OtherLimits pair slot limit) =
-    codes "no: " ++ (slot_text (pair_address_of_array pair) slot ++ codes ": a superblock with other limits than this library writes, ") ++ other_limit_text limit
-writing_profile_text (profile.LongInline pair slot inline_max) = codes "no: " ++ (slot_text (pair_address_of_array pair) slot ++ codes ": more bytes inline than ") ++ inline_limit_text inline_max
-writing_profile_text (profile.EmptyPair pair) = codes "no: " ++ (pair_text (pair_address_of_array pair) ++ codes ": no entry, but a directory goes on in it")
-writing_profile_text profile.TooLarge = codes "no: a pair or an entry is larger than this library writes"
+-- which rule of the writing profile an image breaks
+abbrev pub profile_breach_text : Option ℕ → ProfileBreach → List ℕ
+profile_breach_text inline_max (breach.OtherLimits pair slot limit) =
+    (slot_text (pair_address_of_array pair) slot ++ codes ": a superblock with other limits than this library writes, ") ++ other_limit_text limit
+profile_breach_text inline_max (breach.LongInline pair slot) = (slot_text (pair_address_of_array pair) slot ++ codes ": more bytes inline than ") ++ inline_limit_text inline_max
+profile_breach_text inline_max (breach.EmptyPair pair) = pair_text (pair_address_of_array pair) ++ codes ": no entry, but a directory goes on in it"
+profile_breach_text inline_max (breach.TooLarge pair) = codes "a pair or an entry is larger than this library writes"
 
-abbrev pub writable_line : WritingProfile → List ℕ
-writable_line writable = (codes "writable " ++ writing_profile_text writable) ++ newline
+-- whether an image may be changed, or why not
+abbrev pub writable_line : Option ℕ → Option ProfileBreach → List ℕ
+writable_line inline_max None = codes "writable yes" ++ newline
+writable_line inline_max (Some b) = codes "writable no: " ++ profile_breach_text inline_max b ++ newline
 
 abbrev pub used_and_free_blocks_text : ImageSummary → List ℕ
 used_and_free_blocks_text s = used_blocks_line s.used s.blocks ++ labelled_number_line (codes "free ") (s.blocks - s.used)
@@ -79,7 +80,7 @@ order_and_superblock_text s orders = accepted_name_orders_line orders ++ superbl
 abbrev pub summary_text : ImageSummary → AcceptedOrders → List ℕ
 summary_text s orders =
     (codes "ok" ++ newline) ++ labelled_number_line (codes "files ") s.files ++ labelled_number_line (codes "directories ") s.directories
-    ++ used_and_free_blocks_text s ++ order_and_superblock_text s orders ++ needs_recovery_line s.recover ++ writable_line s.writable
+    ++ used_and_free_blocks_text s ++ order_and_superblock_text s orders ++ needs_recovery_line s.recover ++ writable_line s.inline_max s.breach
 
 -- ---- why one isn't accepted
 

@@ -1,10 +1,12 @@
 -- What an accepted image has.
-use Rattle.std.specs.Prelude.{◌≡◌, ◌≢◌, ◌+◌, ◌==◌, ◌||◌, not, Bool, true, false, List, Option, None, length, count_by, option_map}
+use Rattle.std.specs.Prelude.{ℕ, ◌≡◌, ◌≢◌, ◌+◌, ◌/◌, ◌==◌, ◌||◌, if◌then◌else◌, nat_lt, min, not, Bool, true, false, List, Option, None, Some, length, count_by, option_map}
 use Rattle.lfs_model.specs.Disk.{disk_in_order, Disk, block_count, default_profile}
 use Rattle.lfs_model.specs.Listing.{PathAndNode, IsWalkOfTree}
 use Rattle.lfs_model.specs.Profile.{superblock_of_image}
+use Rattle.lfs_model.specs.ProfileBreaches.{IsBreachIfNotWritable}
 use Rattle.lfs_model.specs.Shown.{tree_on_disk, used_blocks}
 use Rattle.lfs_model.specs.Slots.{Gstate, Struct, Inline, Ctz, Branch, gstate_kind_of_no_move}
+use Rattle.lfs_model.specs.Tag.{tag_data_limit}
 use Rattle.lfs_model.specs.Thread.{Pair, gstate_of_pairs}
 use Rattle.lfs_model.specs.Tree.{Node, FileNode, DirectoryNode}
 use Rattle.lfs_model.specs.View.{IsAcceptedImage}
@@ -15,7 +17,6 @@ use Rattle.lfs_tag.specs.FieldsView.{superblock_view}
 use Rattle.lfs_tag.specs.declared.fields.Superblock.{Superblock}
 use Rattle.lfs_lookup.specs.Items.{owned_struct_view}
 use Rattle.lfs_lookup.specs.declared.walks.TreeItem.{TreeItem}
-use Rattle.lfs_tool.specs.WritingProfiles.{IsWritingProfileOfImage}
 use Rattle.lfs_tool.specs.declared.verdict.ImageSummary.{ImageSummary}
 use Rattle.lfs_tool.specs.declared.verdict.AcceptedOrders.{AcceptedOrders}
 use Rattle.lfs_tool.specs.declared.verdict.AcceptedOrders.TheVariants as orders
@@ -47,6 +48,10 @@ has_half_done_operation g = g.sync || not (g.kind == gstate_kind_of_no_move)
 abbrev pub IsSuperblockToldOf : Profile → List Pair → Option Superblock → Type 0
 IsSuperblockToldOf profile ps told = (profile ≡ default_profile → told ≡ None) × (profile ≢ default_profile → option_map superblock_view told ≡ superblock_of_image ps)
 
+-- the profile's own limit of a file that is inline, where it is less than that of the blocks
+abbrev pub inline_max_if_less : Profile → ℕ → Option ℕ
+inline_max_if_less profile block_size = if nat_lt profile.inline_max (min (block_size / 8) tag_data_limit) then Some profile.inline_max else None
+
 -- what the image of these pairs has: all entries beneath its root are files or directories
 pub record HasImageSummary (disk : Disk) (ps : List Pair) (c : ImageSummary) : Type 0 where
   pub entries : List PathAndNode
@@ -57,7 +62,8 @@ pub record HasImageSummary (disk : Disk) (ps : List Pair) (c : ImageSummary) : T
   pub blocks : c.blocks ≡ block_count disk
   pub recover : c.recover ≡ has_half_done_operation (gstate_of_pairs ps)
   pub superblock : IsSuperblockToldOf disk.profile ps c.superblock
-  pub writable : IsWritingProfileOfImage disk ps c.writable
+  pub inline_max : c.inline_max ≡ inline_max_if_less disk.profile disk.block_size
+  pub breach : IsBreachIfNotWritable disk ps c.breach
 
 -- ---- orders of names
 

@@ -1,8 +1,6 @@
 pub mod OwnedSlots
 pub mod OwnedSlotView
 pub mod WrongNumbers
-pub mod WritingProfiles
-pub mod OutsideProfile
 pub mod ImageSummaries
 pub mod Verdict
 pub mod RunEnds

@@ -4,14 +4,15 @@ ghost use Rattle.std.specs.Prelude.{◌≡◌, ◌++◌, IfOk, OnOk, codes};
 ghost use Rattle.lfs_model.specs.Listing.{newline};
 ghost use Rattle.lfs_model.specs.Slots.{pair_address_of_array};
 ghost use Rattle.std.specs.Fmt.{decimal};
-ghost use Rattle.lfs_tool.specs.declared.verdict.WritingProfile.TheVariants.{EmptyPair, LongInline, OtherLimits};
-ghost use Rattle.lfs_tool.specs.CheckedLines.{inline_limit_text, other_limit_text, used_and_free_blocks_text, labelled_number_line, no_image_text, accepted_name_orders_line, order_and_superblock_text, pair_text, unaccepted_reason_text, needs_recovery_line, slot_text, wrong_superblock_number_text, summary_text, used_blocks_line, check_result_text, writable_line, writing_profile_text};
+ghost use Rattle.lfs_model.specs.declared.breaches.ProfileBreach.TheVariants.{LongInline};
+ghost use Rattle.lfs_tool.specs.CheckedLines.{inline_limit_text, other_limit_text, used_and_free_blocks_text, labelled_number_line, no_image_text, accepted_name_orders_line, order_and_superblock_text, pair_text, unaccepted_reason_text, needs_recovery_line, slot_text, wrong_superblock_number_text, summary_text, used_blocks_line, check_result_text, profile_breach_text, writable_line};
 
 use crate::check_result::{CheckResult, GivenSizes, RefusalReason};
 use crate::superblock_lines::push_superblock_lines_if_told_of;
-use crate::verdict::{AcceptedOrders, ImageSummary, OtherLimit, WritingProfile};
+use crate::verdict::{AcceptedOrders, ImageSummary};
 use crate::wrong_number::WrongNumber;
 use lfs_lookup::push_escaped_path;
+use lfs_model::{OtherLimit, ProfileBreach};
 use std::alloc::{AllocError, Global};
 use std::io::Write;
 
@@ -132,9 +133,8 @@ fn push_other_limits(
     slot: usize,
     limit: OtherLimit,
 ) -> Result<(), AllocError>
-    ensures { OnOk result (text.new.items ≡ text.old.items ++ writing_profile_text (OtherLimits pair slot limit)) }
+    ensures { OnOk result (text.new.items ≡ text.old.items ++ ((slot_text (pair_address_of_array pair) slot ++ codes ": a superblock with other limits than this library writes, ") ++ other_limit_text limit)) }
 {
-    push_text(text, "no: ")?;
     push_slot_message(
         text,
         pair,
@@ -156,52 +156,52 @@ fn push_inline_limit(text: &mut Vec<u8>, inline_max: Option<u32>) -> Result<(), 
 
 fn push_long_inline(
     text: &mut Vec<u8>,
+    inline_max: Option<u32>,
     pair: [u32; 2],
     slot: usize,
-    inline_max: Option<u32>,
 ) -> Result<(), AllocError>
-    ensures { OnOk result (text.new.items ≡ text.old.items ++ writing_profile_text (LongInline pair slot inline_max)) }
+    ensures { OnOk result (text.new.items ≡ text.old.items ++ profile_breach_text inline_max (LongInline pair slot)) }
 {
-    push_text(text, "no: ")?;
     push_slot_message(text, pair, slot, ": more bytes inline than ")?;
     push_inline_limit(text, inline_max)?;
     Ok(())
 }
 
-fn push_empty_pair(text: &mut Vec<u8>, pair: [u32; 2]) -> Result<(), AllocError>
-    ensures { OnOk result (text.new.items ≡ text.old.items ++ writing_profile_text (EmptyPair pair)) }
+fn push_profile_breach(
+    text: &mut Vec<u8>,
+    inline_max: Option<u32>,
+    breach: ProfileBreach,
+) -> Result<(), AllocError>
+    ensures { OnOk result (text.new.items ≡ text.old.items ++ profile_breach_text inline_max breach) }
 {
-    push_text(text, "no: ")?;
-    push_pair_message(text, pair, ": no entry, but a directory goes on in it")?;
+    match breach {
+        ProfileBreach::OtherLimits { pair, slot, limit } => {
+            push_other_limits(text, pair, slot, limit)?
+        }
+        ProfileBreach::LongInline { pair, slot } => push_long_inline(text, inline_max, pair, slot)?,
+        ProfileBreach::EmptyPair { pair } => {
+            push_pair_message(text, pair, ": no entry, but a directory goes on in it")?
+        }
+        ProfileBreach::TooLarge { .. } => push_text(
+            text,
+            "a pair or an entry is larger than this library writes",
+        )?,
+    }
     Ok(())
 }
 
-fn push_writing_profile(text: &mut Vec<u8>, profile: WritingProfile) -> Result<(), AllocError>
-    ensures { OnOk result (text.new.items ≡ text.old.items ++ writing_profile_text profile) }
+fn push_writable_line(
+    text: &mut Vec<u8>,
+    inline_max: Option<u32>,
+    breach: Option<ProfileBreach>,
+) -> Result<(), AllocError>
+    ensures { OnOk result (text.new.items ≡ text.old.items ++ writable_line inline_max breach) }
 {
-    match profile {
-        WritingProfile::Within => push_text(text, "yes"),
-        WritingProfile::OtherLimits { pair, slot, limit } => {
-            push_other_limits(text, pair, slot, limit)
-        }
-        WritingProfile::LongInline {
-            pair,
-            slot,
-            inline_max,
-        } => push_long_inline(text, pair, slot, inline_max),
-        WritingProfile::EmptyPair { pair } => push_empty_pair(text, pair),
-        WritingProfile::TooLarge => push_text(
-            text,
-            "no: a pair or an entry is larger than this library writes",
-        ),
-    }
-}
-
-fn push_writable_line(text: &mut Vec<u8>, profile: WritingProfile) -> Result<(), AllocError>
-    ensures { OnOk result (text.new.items ≡ text.old.items ++ writable_line profile) }
-{
-    push_text(text, "writable ")?;
-    push_writing_profile(text, profile)?;
+    let Some(breach) = breach else {
+        return push_line(text, "writable yes");
+    };
+    push_text(text, "writable no: ")?;
+    push_profile_breach(text, inline_max, breach)?;
     text.push(b'\n')?;
     Ok(())
 }
@@ -220,7 +220,7 @@ fn push_summary(
     push_used_and_free_blocks(text, summary)?;
     push_order_and_superblock(text, summary, orders)?;
     push_needs_recovery_line(text, summary.recover)?;
-    push_writable_line(text, summary.writable)?;
+    push_writable_line(text, summary.inline_max, summary.breach)?;
     Ok(())
 }
 

@@ -19,8 +19,8 @@ use crate::verdict::{AcceptedOrders, BrokenRule, ImageVerdict};
 use crate::violation_lines::broken_rule;
 use lfs_device::{Error, RamDevice};
 use lfs_model::{NameOrder, Violation};
-use lfs_mount::{mount, mount_in_order};
-use lfs_thread::{MountError, Thread};
+use lfs_mount::{MountError, mount, mount_in_order};
+use lfs_thread::Thread;
 use std::alloc::Global;
 
 // Returns whether the image of a device is accepted with its names in that order.

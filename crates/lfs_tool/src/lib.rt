@@ -36,7 +36,6 @@ mod roots;
 mod sizes;
 mod source_entries;
 mod summaries;
-mod superblock_limits;
 mod superblock_lines;
 mod superblocks;
 mod unpacked_images;
@@ -44,7 +43,6 @@ mod verdict;
 mod violation_lines;
 mod watched_stream;
 mod writer;
-mod writing_profiles;
 mod wrong_number;
 
 pub use block_excerpt::BlockExcerpt;
@@ -69,9 +67,7 @@ pub use reader::ImageInput;
 pub use sizes::geometry_of_image_sizes;
 pub use superblocks::wrong_superblock_number_in_image;
 pub use unpacked_images::unpack;
-pub use verdict::{
-    AcceptedOrders, BrokenRule, ImageSummary, ImageVerdict, OtherLimit, WritingProfile,
-};
+pub use verdict::{AcceptedOrders, BrokenRule, ImageSummary, ImageVerdict};
 pub use watched_stream::WatchedStream;
 pub use writer::ToolOutput;
 pub use wrong_number::WrongNumber;

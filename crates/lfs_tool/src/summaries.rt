@@ -3,6 +3,7 @@
 ghost use Rattle.std.specs.Prelude.{◌≡◌, ◌↔◌, ◌≤◌, IfErr, IfOk, IsTrue, count_by, false, length};
 ghost use Rattle.lfs_model.specs.BlockSets.{AreExactlyTheUsedBlocks};
 ghost use Rattle.lfs_model.specs.Disk.{default_profile};
+ghost use Rattle.lfs_model.specs.ProfileBreaches.{IsBreachIfNotWritable};
 ghost use Rattle.lfs_model.specs.Shown.{used_blocks};
 ghost use Rattle.lfs_model.specs.Thread.{pair_count_before_root};
 ghost use Rattle.lfs_model.specs.View.{IsAcceptedImage};
@@ -10,13 +11,12 @@ ghost use Rattle.lfs_tag.specs.FieldsView.{move_view};
 ghost use Rattle.lfs_thread.specs.Steps.{IsThreadOnlyRead};
 ghost use Rattle.lfs_lookup.specs.Items.{owned_struct_view};
 ghost use Rattle.lfs_lookup.specs.Walk.{ArePathsAndStructsOfWalk, tree_items_view};
-ghost use Rattle.lfs_tool.specs.ImageSummaries.{HasImageSummary, IsSuperblockToldOf, is_file_item, is_file_struct, has_half_done_operation};
-ghost use Rattle.lfs_tool.specs.WritingProfiles.{IsWritingProfileOfImage};
+ghost use Rattle.lfs_tool.specs.ImageSummaries.{HasImageSummary, IsSuperblockToldOf, inline_max_if_less, is_file_item, is_file_struct, has_half_done_operation};
 
-use crate::verdict::{ImageSummary, WritingProfile};
-use crate::writing_profiles::writing_profile_of_thread;
-use lfs_device::{Error, Profile, RamDevice};
-use lfs_lookup::{OwnedStruct, TreeItem, find_root, superblock, walk_tree};
+use crate::verdict::ImageSummary;
+use lfs_device::{Error, Geometry, Profile, RamDevice};
+use lfs_lookup::{OwnedStruct, TreeItem, find_profile_breach, find_root, superblock, walk_tree};
+use lfs_model::ProfileBreach;
 use lfs_tag::{MoveState, Superblock};
 use lfs_thread::Thread;
 use std::alloc::Global;
@@ -91,26 +91,38 @@ fn root_index_of_thread(alloc: Global, thread: &mut Thread<RamDevice>) -> Result
     }
 }
 
-// Returns whether the image may be changed, or what of it isn't in the writing profile.
-fn writing_profile_of_image(
+// Returns what of the writing profile the image breaks.
+fn profile_breach_of_image(
     alloc: Global,
     thread: &mut Thread<RamDevice>,
     root: usize,
-) -> Result<WritingProfile, Error>
+) -> Result<Option<ProfileBreach>, Error>
     requires works { thread.old.failed ≡ false }
     requires accepted { IsAcceptedImage thread.old.kept.disk thread.old.kept.pairs }
     requires root { root ≡ pair_count_before_root thread.old.kept.pairs }
-    ensures profile { IfOk result (IsWritingProfileOfImage thread.old.kept.disk thread.old.kept.pairs) }
+    ensures breach { IfOk result (IsBreachIfNotWritable thread.old.kept.disk thread.old.kept.pairs) }
     ensures only { (IsThreadOnlyRead thread.old.kept thread.new.kept) × (thread.new.failed ≡ false) }
     ensures err { IfErr result (λ e. e ≡ Error.NoMemory) }
 {
-    match writing_profile_of_thread(alloc, thread, root) {
-        Ok(profile) => Ok(profile),
+    match find_profile_breach(alloc, thread, root) {
+        Ok(breach) => Ok(breach),
         Err(error) => {
             // The device had no fault, so memory ran out.
             let _device = thread.device();
             Err(error)
         }
+    }
+}
+
+// Returns the profile's own limit of a file that is inline, where it is less than that of the blocks.
+fn inline_max_if_less(geometry: &Geometry) -> Option<u32>
+    ensures { result ≡ inline_max_if_less geometry.now.profile geometry.now.block_size }
+{
+    let most = (geometry.block_size / 8).min(1022);
+    if geometry.profile.inline_max < most {
+        Some(geometry.profile.inline_max)
+    } else {
+        None
     }
 }
 
@@ -162,16 +174,18 @@ pub(crate) fn image_summary_of_thread(
     let items = tree_items_of_thread(alloc, thread)?;
     let root = root_index_of_thread(alloc, thread)?;
     let superblock = superblock_to_tell_of(alloc, thread, root)?;
-    let writable = writing_profile_of_image(alloc, thread, root)?;
+    let breach = profile_breach_of_image(alloc, thread, root)?;
     let files = count_files(&items);
     let state = thread.state();
+    let geometry = thread.geometry();
     Ok(ImageSummary {
         files,
         directories: items.len() - files,
         used: thread.used_count(),
-        blocks: thread.geometry().block_count,
+        blocks: geometry.block_count,
         recover: has_unfinished_operation(&state),
         superblock,
-        writable,
+        inline_max: inline_max_if_less(&geometry),
+        breach,
     })
 }

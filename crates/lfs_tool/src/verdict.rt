@@ -1,7 +1,7 @@
 // The verdict on an image.
 
 use crate::wrong_number::WrongNumber;
-use lfs_model::Violation;
+use lfs_model::{ProfileBreach, Violation};
 use lfs_tag::Superblock;
 
 /// The orders of names in which an image is accepted.
@@ -11,44 +11,6 @@ pub enum AcceptedOrders {
     ShorterFirst,
     /// Both: no name of a directory begins another one.
     Either,
-}
-
-/// A limit of a superblock that isn't the one with which an image is written, in bytes.
-#[derive(Clone, Copy, Debug, PartialEq, Eq, Drop)]
-pub enum OtherLimit {
-    /// The longest name.
-    Name(u32),
-    /// The longest file.
-    File(u32),
-    /// The longest attribute.
-    Attr(u32),
-}
-
-/// Whether an image is in the writing profile, so that it may be changed, or what of it isn't.
-#[derive(Clone, Copy, Debug, PartialEq, Eq, Drop)]
-pub enum WritingProfile {
-    /// Within it.
-    Within,
-    /// A superblock has other limits than the profile. This is the first of these.
-    OtherLimits {
-        pair: [u32; 2],
-        slot: usize,
-        limit: OtherLimit,
-    },
-    /// A file has more bytes inline than an eighth of a block, or than the profile's `inline_max`, where
-    /// that is less.
-    LongInline {
-        pair: [u32; 2],
-        slot: usize,
-        inline_max: Option<u32>,
-    },
-    /// A pair in which a directory goes on has no slot.
-    EmptyPair {
-        pair: [u32; 2],
-    },
-    /// A pair has more slots or bytes than it may have after a compaction, or an entry takes more than
-    /// half of that.
-    TooLarge,
 }
 
 /// What an accepted image has.
@@ -66,8 +28,11 @@ pub struct ImageSummary {
     /// The superblock with which the root directory begins, where the profile is another one than that of
     /// `Profile::new`. A check tells of its version and its limits then.
     pub superblock: Option<Superblock>,
-    /// Whether the image may be changed, or why not.
-    pub writable: WritingProfile,
+    /// The profile's `inline_max`, where it is less than an eighth of a block. A check tells of it where a
+    /// file has more bytes inline.
+    pub inline_max: Option<u32>,
+    /// What of the writing profile the image breaks. Without any the image may be changed.
+    pub breach: Option<ProfileBreach>,
 }
 
 /// A rule that an image breaks, and what is said of it.

@@ -17,13 +17,13 @@ use crate::owned_parts::{OwnedPair, OwnedSlot};
 use crate::pair_lines::{push_earlier_pair_line, push_no_content_line};
 use crate::places_in_pairs::{ThreadSlots, place_at, slot_at};
 use crate::roots::root_pair_index;
-use crate::superblock_limits::superblock_fields_of_struct;
 use crate::superblocks::wrong_number_in_superblock_fields;
 use crate::verdict::BrokenRule;
 use crate::wrong_number::WrongNumber;
 use lfs_device::{BlockDevice, Error, Geometry, RamDevice};
+use lfs_lookup::OwnedStruct;
 use lfs_model::Violation;
-use lfs_tag::MoveState;
+use lfs_tag::{MoveState, Superblock, superblock_of};
 use lfs_thread::Thread;
 use std::alloc::{AllocError, Global};
 
@@ -51,6 +51,17 @@ fn given_sizes(geometry: &Geometry) -> GivenSizes {
         block_size: geometry.block_size,
         page: geometry.page,
         blocks: geometry.block_count as usize,
+    }
+}
+
+// Returns the fields of a superblock's struct.
+fn superblock_fields_of_struct(structure: &OwnedStruct) -> Option<Superblock> {
+    let OwnedStruct::Inline(bytes) = structure else {
+        return None;
+    };
+    match <&[u8; 24]>::try_from(bytes.as_slice()) {
+        Ok(bytes) => Some(superblock_of(bytes)),
+        Err(_) => None,
     }
 }
 

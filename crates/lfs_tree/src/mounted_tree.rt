@@ -15,7 +15,7 @@ ghost use Rattle.lfs_mount.specs.ReadImage.{HasAtMostMountReads};
 ghost use Rattle.lfs_lookup.specs.Reading.{OnlyReadsThreadAndReportsErrors};
 
 use lfs_device::{BlockDevice, Error};
-use lfs_lookup::{find_root, is_writable};
+use lfs_lookup::{find_profile_breach, find_root};
 use lfs_thread::Thread;
 use std::alloc::Global;
 
@@ -50,6 +50,6 @@ pub(crate) fn find_root_and_writing_profile<D: BlockDevice>(
     ensures reading { OnlyReadsThreadAndReportsErrors thread.old thread.new result }
 {
     let root = find_root(alloc, thread)?;
-    let is_writable = is_writable(alloc, thread, root)?;
-    Ok((root, is_writable))
+    let breach = find_profile_breach(alloc, thread, root)?;
+    Ok((root, breach.is_none()))
 }

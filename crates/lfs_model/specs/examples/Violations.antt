@@ -1,11 +1,14 @@
 -- Images that break a rule, one for each. Their checksums are right.
-use Rattle.std.specs.Prelude.{false, true, [], ◌∷◌, ◌++◌, Some, codes}
+use Rattle.std.specs.Prelude.{false, true, List, [], ◌∷◌, ◌++◌, Some, codes, replicate}
 use Rattle.lfs_model.specs.BlockBytes.{bytes_padded_to_block_size, ctz_file_name_and_struct_entries, directory_name_and_struct_entries, inline_file_name_and_struct_entries, move_state_entry_with_first_word, superblock_name_and_struct_entries}
 use Rattle.lfs_model.specs.Disk.{Disk, default_profile}
 use Rattle.lfs_model.specs.EntryTypes.{create_tag_type, inline_struct_type}
 use Rattle.lfs_model.specs.Fresh.{superblock_struct_bytes}
-use Rattle.lfs_model.specs.View.{superblock_name_log_entry}
+use Rattle.lfs_model.specs.ProfileBreaches.{BreaksProfile}
+use Rattle.lfs_model.specs.Thread.{Pair}
+use Rattle.lfs_model.specs.View.{IsAcceptedImage, superblock_name_log_entry}
 use Rattle.lfs_model.specs.WrittenContent.{log_entry_of_type_id_and_bytes, tail_log_entry}
+use Rattle.lfs_model.specs.declared.breaches.ProfileBreach.{ProfileBreach}
 use Rattle.lfs_model.specs.examples.Images.{image_of_first_block_and_others, pair_block_with_entries, root_block_with_entries, root_block_with_superblock_struct, superblock_struct_bytes_with_fields}
 
 -- ---- the thread
@@ -81,3 +84,25 @@ abbrev pub image_with_shared_block : Disk
 image_with_shared_block = image_of_first_block_and_others
     (root_block_with_entries (ctz_file_name_and_struct_entries 1 (codes "a") 2 10 ++ ctz_file_name_and_struct_entries 2 (codes "b") 2 10) 0xc767c5eb 170)
     (bytes_padded_to_block_size 4096 (codes "0123456789") ∷ [])
+
+-- ---- the writing profile
+
+-- an accepted image that breaks a rule of the writing profile
+abbrev pub IsImageWithBreach : Disk → ProfileBreach → Type 0
+IsImageWithBreach disk b = (ps : List Pair) × (IsAcceptedImage disk ps × BreaksProfile disk ps b)
+
+-- the superblock limits names to 32 bytes
+abbrev pub image_with_short_names : Disk
+image_with_short_names = image_of_first_block_and_others (root_block_with_superblock_struct (superblock_struct_bytes_with_fields 0x00020000 4096 32) 0xe9693de0) []
+
+-- the entry "a" has 600 bytes inline, where at most 512 are written
+abbrev pub image_with_long_inline_bytes : Disk
+image_with_long_inline_bytes = image_of_first_block_and_others (root_block_with_entries (inline_file_name_and_struct_entries 1 (codes "a") (replicate 600 97)) 0x961dcdc4 107) []
+
+-- the root goes on in a pair without a slot
+abbrev pub image_with_empty_pair : Disk
+image_with_empty_pair = image_of_first_block_and_others (root_block_with_entries (tail_log_entry true (Some (2, 3)) ∷ []) 0xef8649c3 192) (pair_block_with_entries [] 0x43f29ceb 244 ∷ [])
+
+-- the attributes of "a" have 1,422 bytes
+abbrev pub image_with_large_entry : Disk
+image_with_large_entry = image_of_first_block_and_others (root_block_with_entries (inline_file_name_and_struct_entries 1 (codes "a") [] ++ log_entry_of_type_id_and_bytes 0x341 1 (replicate 1022 1) ∷ log_entry_of_type_id_and_bytes 0x342 1 (replicate 400 1) ∷ []) 0xf45b3dfa 45) []

@@ -1,11 +1,11 @@
-use Rattle.std.proofs.Common.{◌∙◌, ap, arith, subst}
+use Rattle.std.proofs.Common.{◌∙◌, ap, ap₂, arith, subst}
 use Rattle.lfs_model.proofs.BlockSets.{used_count-AreExactlyTheUsedBlocks}
 use Rattle.lfs_model.specs.BlockSets.{BlockStateList, used_count}
 use Rattle.lfs_model.specs.Disk.{Disk, block_count}
+use Rattle.lfs_model.specs.ProfileBreaches.{IsBreachIfNotWritable}
 use Rattle.lfs_model.specs.Shown.{used_blocks}
 use Rattle.lfs_model.specs.Thread.{Pair, gstate_of_pairs}
-use Rattle.lfs_tool.specs.ImageSummaries.{IsSuperblockToldOf, is_file_item, has_half_done_operation}
-use Rattle.lfs_tool.specs.WritingProfiles.{IsWritingProfileOfImage}
+use Rattle.lfs_tool.specs.ImageSummaries.{IsSuperblockToldOf, inline_max_if_less, is_file_item, has_half_done_operation}
 use Rattle.lfs_tool.proofs.Counts.{as_many, files_alike}
 use Rattle.lfs_tool.proofs.ActionsDone.{only_trans}
 use Rattle.std.proofs.Common.{List, count_by}
@@ -19,15 +19,15 @@ returns-in_err-superblock-clause-only c =
     let two = only_trans c.tree_items_of_thread.ensures.only.0 c.root_index_of_thread.ensures.only.0 in
     (only_trans two c.superblock_to_tell_of.ensures.only.0, c.superblock_to_tell_of.ensures.only.1)
 
-pub returns-in_err-writable-clause-only : goal.returns-in_err-writable-clause-only
-returns-in_err-writable-clause-only c =
+pub returns-in_err-breach-clause-only : goal.returns-in_err-breach-clause-only
+returns-in_err-breach-clause-only c =
     let two = only_trans c.tree_items_of_thread.ensures.only.0 c.root_index_of_thread.ensures.only.0 in
-    (only_trans (only_trans two c.superblock_to_tell_of.ensures.only.0) c.writing_profile_of_image.ensures.only.0, c.writing_profile_of_image.ensures.only.1)
+    (only_trans (only_trans two c.superblock_to_tell_of.ensures.only.0) c.profile_breach_of_image.ensures.only.0, c.profile_breach_of_image.ensures.only.1)
 
 pub returns-clause-only : goal.returns-clause-only
 returns-clause-only c =
     let two = only_trans c.tree_items_of_thread.ensures.only.0 c.root_index_of_thread.ensures.only.0 in
-    (only_trans (only_trans two c.superblock_to_tell_of.ensures.only.0) c.writing_profile_of_image.ensures.only.0, c.writing_profile_of_image.ensures.only.1)
+    (only_trans (only_trans two c.superblock_to_tell_of.ensures.only.0) c.profile_breach_of_image.ensures.only.0, c.profile_breach_of_image.ensures.only.1)
 
 pub returns-clause-summary : goal.returns-clause-summary
 returns-clause-summary c =
@@ -36,7 +36,7 @@ returns-clause-summary c =
     let items = c.in_ok-items.items.items in
     let two = only_trans c.tree_items_of_thread.ensures.only.0 c.root_index_of_thread.ensures.only.0 in
     let three = only_trans two c.superblock_to_tell_of.ensures.only.0 in
-    let four = only_trans three c.writing_profile_of_image.ensures.only.0 in
+    let four = only_trans three c.profile_breach_of_image.ensures.only.0 in
     let (entries, (walk, shows)) = c.in_ok-items.ensures.walked in
     let count = c.count_files-files.ensures.count ∙ ap (λ xs. count_by is_file_item xs) c.deref.ensures.value in
     let below = c.count_files-files.ensures.below in
@@ -49,10 +49,11 @@ returns-clause-summary c =
       files = count ∙ files_alike disk items entries shows;
       all = omega (arith, below, same, many, len);
       used = c.used_count.ensures ∙ ap (λ (m : BlockStateList). used_count m) four.map ∙ used_count-AreExactlyTheUsedBlocks c.args.thread.now.kept.map (used_blocks disk pairs) c.requires.accepted.owned_once c.requires.used;
-      blocks = c.geometry.ensures.count ∙ ap block_count four.disk;
+      blocks = c.geometry-geometry.ensures.count ∙ ap block_count four.disk;
       recover = c.has_unfinished_operation.ensures ∙ ap has_half_done_operation (c.state-state.ensures ∙ ap gstate_of_pairs four.pairs);
       superblock = subst (λ (ps : List Pair). IsSuperblockToldOf disk.profile ps c.in_ok-superblock.superblock) two.pairs
           (subst (λ (d : Disk). IsSuperblockToldOf d.profile c.root_index_of_thread.new.thread.kept.pairs c.in_ok-superblock.superblock) two.disk c.in_ok-superblock.ensures.told);
-      writable = subst (λ (ps : List Pair). IsWritingProfileOfImage disk ps c.in_ok-writable.writable) three.pairs
-          (subst (λ (d : Disk). IsWritingProfileOfImage d c.superblock_to_tell_of.new.thread.kept.pairs c.in_ok-writable.writable) three.disk c.in_ok-writable.ensures.profile);
+      inline_max = c.inline_max_if_less.ensures ∙ ap₂ inline_max_if_less (c.geometry-geometry.ensures.profile ∙ ap (λ (d : Disk). d.profile) four.disk) (c.geometry-geometry.ensures.block_size ∙ ap (λ (d : Disk). d.block_size) four.disk);
+      breach = subst (λ (ps : List Pair). IsBreachIfNotWritable disk ps c.in_ok-breach.breach) three.pairs
+          (subst (λ (d : Disk). IsBreachIfNotWritable d c.superblock_to_tell_of.new.thread.kept.pairs c.in_ok-breach.breach) three.disk c.in_ok-breach.ensures.breach);
     }

@@ -1,0 +1,104 @@
+use Rattle.std.proofs.Common.{ℕ, ◌≡◌, ◌≤◌, [], ◌∷◌, None, refl, subst, arith, replicate}
+use Rattle.std.specs.Prelude.{codes}
+use Rattle.lfs_model.specs.Content.{content_of_pair_at}
+use Rattle.lfs_model.specs.Crc.{crc_of, next_bits}
+use Rattle.lfs_model.specs.Disk.{block_count, default_profile}
+use Rattle.lfs_model.specs.Fresh.{only_pair_of_fresh_disk, superblock_struct_bytes}
+use Rattle.lfs_model.specs.Log.{chain_of, chain_within, commit_within, entry_at, closes}
+use Rattle.lfs_model.specs.Profile.{HasInlineBytesWithinLimit, IsWritableImage}
+use Rattle.lfs_model.specs.ProfileBreaches.{IsContentSmallEnough}
+use Rattle.lfs_model.specs.Slots.{Inline, Slot, zero_gstate}
+use Rattle.lfs_model.specs.Thread.{Pair}
+use Rattle.lfs_model.specs.examples.Images.{superblock_struct_bytes_with_fields}
+use Rattle.lfs_model.specs.examples.Violations.{image_with_empty_pair, image_with_large_entry, image_with_long_inline_bytes, image_with_short_names}
+use Rattle.lfs_model.proofs.Acceptance.{image_is_accepted}
+use Rattle.lfs_model.proofs.KeptProfiles.{writable_breaks_none}
+use Rattle.lfs_model.proofs.Examples.{file, hard, large_superblock, pair}
+use Rattle.lfs_model.proofs.Fresh as fresh
+use Rattle.lfs_model.proofs.Uniqueness.{one_thread}
+use Rattle.lfs_model.proofs.broken.broken_profile_rules.Goals as goal
+
+-- the limit of names is 32
+abbrev limited : Slot
+limited = record large_superblock { struct = Inline (superblock_struct_bytes_with_fields 0x00020000 4096 32) }
+
+abbrev limited_pair : Pair
+limited_pair = pair (0, 1) (limited ∷ []) None zero_gstate
+
+other_number : ◌≡◌ {A = ℕ} 32 255 → ⊥
+other_number e = omega (arith, e)
+
+pub returns-clause-other_limits : goal.returns-clause-other_limits
+unfolding chain_of chain_within commit_within entry_at closes crc_of next_bits
+returns-clause-other_limits c = (
+  limited_pair ∷ [],
+  (
+    image_is_accepted image_with_short_names (limited_pair ∷ []) (superblock_struct_bytes_with_fields 0x00020000 4096 32) 1 (record { links = (refl, refl); contents = (refl, tt); first = refl; named = refl; lists = (tt, tt); pass = refl }),
+    (
+      limited,
+      (
+        record { index = 0; pair = limited_pair; there = refl; at_is = refl; slot = refl },
+        record { kind = refl; bytes = superblock_struct_bytes_with_fields 0x00020000 4096 32; inline = refl; differs = (refl, other_number) },
+      ),
+    ),
+  ),
+)
+
+abbrev long : Slot
+long = file (codes "a") (replicate 600 97)
+
+abbrev long_pair : Pair
+long_pair = pair (0, 1) (large_superblock ∷ long ∷ []) None zero_gstate
+
+too_long : HasInlineBytesWithinLimit 512 long.struct → ⊥
+too_long fits = let inline : 600 ≤ 512 = fits in omega arith
+
+pub returns-clause-long_inline : goal.returns-clause-long_inline
+unfolding chain_of chain_within commit_within entry_at closes crc_of next_bits
+returns-clause-long_inline c = (
+  long_pair ∷ [],
+  (
+    image_is_accepted image_with_long_inline_bytes (long_pair ∷ []) (superblock_struct_bytes default_profile 4096 16) 2 (record { links = (refl, refl); contents = (refl, tt); first = refl; named = refl; lists = (tt, (tt, tt)); pass = refl }),
+    (long, (record { index = 0; pair = long_pair; there = refl; at_is = refl; slot = refl }, (refl, too_long))),
+  ),
+)
+
+abbrev rooted : Pair
+rooted = pair (0, 1) (large_superblock ∷ []) (hard (2, 3)) zero_gstate
+
+abbrev empty : Pair
+empty = pair (2, 3) [] None zero_gstate
+
+pub returns-clause-empty_pair : goal.returns-clause-empty_pair
+unfolding chain_of chain_within commit_within entry_at closes crc_of next_bits
+returns-clause-empty_pair c = (
+  rooted ∷ empty ∷ [],
+  (
+    image_is_accepted image_with_empty_pair (rooted ∷ empty ∷ []) (superblock_struct_bytes default_profile 4096 16) 1 (record { links = (refl, (refl, refl)); contents = (refl, (refl, tt)); first = refl; named = refl; lists = (tt, tt); pass = refl }),
+    record { index = 0; before = rooted; pair = empty; first = refl; next = refl; root = omega arith; hard = refl; at_is = refl; empty = refl },
+  ),
+)
+
+abbrev charged : Slot
+charged = record (file (codes "a") []) { attributes = (0x41, replicate 1022 1) ∷ (0x42, replicate 400 1) ∷ [] }
+
+abbrev charged_pair : Pair
+charged_pair = pair (0, 1) (large_superblock ∷ charged ∷ []) None zero_gstate
+
+too_much : IsContentSmallEnough default_profile 4096 256 charged_pair.content → ⊥
+too_much small = let charge : 1951 ≤ 1900 = small.entries 1 charged (omega arith) refl in omega arith
+
+pub returns-clause-too_large : goal.returns-clause-too_large
+unfolding chain_of chain_within commit_within entry_at closes crc_of next_bits
+returns-clause-too_large c = (
+  charged_pair ∷ [],
+  (
+    image_is_accepted image_with_large_entry (charged_pair ∷ []) (superblock_struct_bytes default_profile 4096 16) 2 (record { links = (refl, refl); contents = (refl, tt); first = refl; named = refl; lists = (tt, (tt, tt)); pass = refl }),
+    record { index = 0; pair = charged_pair; there = refl; at_is = refl; large = too_much },
+  ),
+)
+
+pub returns-clause-none : goal.returns-clause-none
+returns-clause-none c = λ disk b is (ps, (accepted, broken)).
+    let same = one_thread (content_of_pair_at disk) (block_count disk) (only_pair_of_fresh_disk disk ∷ []) ps (fresh.accepted disk is).thread accepted.thread in
+    writable_breaks_none disk ps b (subst (IsWritableImage disk) same (fresh.writable disk is)) broken

@@ -1,10 +1,10 @@
 -- The device calls by which a block comes into a cache.
-use Rattle.std.specs.Prelude.{◌≡◌, ◌⊎◌, ℕ, Bool, true, false, List, ◌∷◌, Option, None, Result, OnOk, IsErrOf, IsOk, IsSome}
+use Rattle.std.specs.Prelude.{◌≡◌, ◌≤◌, ◌+◌, ◌⊎◌, ℕ, Bool, true, false, List, ◌∷◌, Option, None, Result, OnOk, IsErrOf, IsOk, IsSome}
 use Rattle.lfs_device.specs.declared.device.BlockDevice.{Ghosts}
 use Rattle.lfs_device.specs.declared.error.Error.{Error}
 use Rattle.lfs_device.specs.declared.error.Error.TheVariants.{Io, NoMemory}
 use Rattle.lfs_model.specs.Blocks.{Blocks}
-use Rattle.lfs_model.specs.History.{DeviceCallEvent, device_call_event_with_blocks}
+use Rattle.lfs_model.specs.History.{DeviceCallEvent, device_call_event_with_blocks, read_count_of_history}
 use Rattle.lfs_model.specs.History.DeviceCall.{Read}
 
 -- the event of a read of a whole block
@@ -20,3 +20,8 @@ pub record ReadsBlockUnlessCached {D : Type 0} (g : Ghosts D) (was : Option (Lis
   pub failed : IsErrOf result Io → g.history new ≡ whole_block_read_event (g.geometry old).block_size (g.blocks old) b true ∷ g.history old
   pub no_memory : IsErrOf result NoMemory → (g.history new ≡ g.history old)
       ⊎ (g.history new ≡ whole_block_read_event (g.geometry old).block_size (g.blocks old) b false ∷ g.history old)
+
+-- One read of the device at most, and no call where the block was cached.
+pub record ReadsOnceUnlessCached {D : Type 0} (g : Ghosts D) (was : Option (List ℕ)) (old new : D) : Type 0 where
+  pub no_call : IsSome was → new ≡ old
+  pub few : read_count_of_history (g.history new) ≤ read_count_of_history (g.history old) + 1

@@ -1,9 +1,10 @@
-ghost use Rattle.std.specs.Prelude.{◌≡◌, ◌⊎◌, ◌<◌, ◌≤◌, ℕ, List, ◌∷◌, [], is_some, length, unwrap_or, IfErr, IfOk, None, OnErr, OnOk, option_copied, option_map};
+ghost use Rattle.std.specs.Prelude.{◌≡◌, ◌⊎◌, ◌<◌, ◌≤◌, ◌+◌, ℕ, List, ◌∷◌, [], is_some, length, slice_range, unwrap_or, IfErr, IfOk, IfSome, None, OnErr, OnOk, option_copied, option_map};
 ghost use Rattle.std.specs.Bool.{OnFalse, OnTrue};
 ghost use Rattle.lfs_model.specs.Blocks.{block_bytes_by_number};
 ghost use Rattle.lfs_model.specs.Cache.{cached_block_limit, cached_bytes_of_block, cache_with_block_first, cache_without_block};
 ghost use Rattle.lfs_device.specs.Calls.{ReadsOnly, ReportsFaults};
-ghost use Rattle.lfs_cache.specs.Read.{ReadsBlockUnlessCached};
+ghost use Rattle.lfs_model.specs.History.{read_count_of_history};
+ghost use Rattle.lfs_cache.specs.Read.{ReadsBlockUnlessCached, ReadsOnceUnlessCached};
 
 use lfs_device::{BlockDevice, Error, read_block};
 use lru::LruCache;
@@ -72,6 +73,44 @@ impl Cache {
         Ok(())
     }
 
+    /// Reads bytes of a block into the buffer, from an offset on. A cached block takes no call of
+    /// the device, and the cache stays as it is. Another block is read whole, by one read, and
+    /// becomes the most recent block of the cache. Where memory for that isn't granted, the cache
+    /// stays as it is. `block` is below the number of blocks, and the bytes are within the block.
+    /// The caller's condition is that a cached block has the device's bytes.
+    ///
+    /// Errors: `Io` where the read fails.
+    pub fn read<D: BlockDevice>(
+        &mut self,
+        device: &mut D,
+        block: u32,
+        offset: u32,
+        buf: &mut [u8],
+    ) -> Result<(), Error>
+        requires inside { (block < (D.geometry device.old).block_count) × (offset + length buf.old ≤ (D.geometry device.old).block_size) }
+        requires current { IfSome (cached_bytes_of_block self.old block) (λ bytes. bytes ≡ block_bytes_by_number (D.blocks device.old) block) }
+        ensures bytes { OnOk result (buf.new ≡ slice_range (block_bytes_by_number (D.blocks device.old) block) offset (offset + length buf.old)) }
+        ensures cached { (self.new ≡ self.old) ⊎ (self.new ≡ cache_with_block_first self.old block (block_bytes_by_number (D.blocks device.old) block)) }
+        ensures few { ReadsOnceUnlessCached D.BlockDevice (cached_bytes_of_block self.old block) device.old device.new }
+        ensures device { ReadsOnly D.BlockDevice device.old device.new }
+        ensures faults { ReportsFaults D.BlockDevice device.old device.new result }
+        ensures errors { IfErr result (λ e. e ≡ Error.Io) }
+    {
+        if let Some(bytes) = self.lend(block) {
+            copy_range(bytes, offset, buf);
+            return Ok(());
+        }
+        match read_block(self.alloc, device, block) {
+            Ok(bytes) => {
+                copy_range(&bytes, offset, buf);
+                self.keep_if_granted(block, bytes);
+                Ok(())
+            }
+            Err(Error::NoMemory) => read_range(device, block, offset, buf),
+            Err(error) => Err(error),
+        }
+    }
+
     /// Returns the bytes of a block, without a copy. Returns None where the block isn't cached.
     /// The order of the blocks stays as it is.
     pub fn lend(&self, block: u32) -> Option<&[u8]>
@@ -132,4 +171,43 @@ impl Cache {
         self.recent.put(block, bytes)?;
         Ok(())
     }
+
+    // Adds a block that isn't cached as the most recent one, where memory for that is granted.
+    fn keep_if_granted(&mut self, block: u32, bytes: Vec<u8>)
+        requires { cached_bytes_of_block self.old block ≡ None }
+        ensures { (self.new ≡ self.old) ⊎ (self.new ≡ cache_with_block_first self.old block bytes.items) }
+    {
+        match self.add_uncached_block(block, bytes) {
+            Ok(()) => {}
+            Err(_) => {}
+        }
+    }
+}
+
+// Copies bytes from an offset on into the buffer.
+fn copy_range(bytes: &[u8], offset: u32, buf: &mut [u8])
+    requires { offset + length buf.old ≤ length bytes.now }
+    ensures { buf.new ≡ slice_range bytes.now offset (offset + length buf.old) }
+{
+    let start = offset as usize;
+    let end = start + buf.len();
+    buf.copy_from_slice(&bytes[start..end]);
+}
+
+// Reads bytes of a block into the buffer, from an offset on.
+fn read_range<D: BlockDevice>(
+    device: &mut D,
+    block: u32,
+    offset: u32,
+    buf: &mut [u8],
+) -> Result<(), Error>
+    requires inside { (block < (D.geometry device.old).block_count) × (offset + length buf.old ≤ (D.geometry device.old).block_size) }
+    ensures bytes { OnOk result (buf.new ≡ slice_range (block_bytes_by_number (D.blocks device.old) block) offset (offset + length buf.old)) }
+    ensures few { read_count_of_history (D.history device.new) ≡ read_count_of_history (D.history device.old) + 1 }
+    ensures device { ReadsOnly D.BlockDevice device.old device.new }
+    ensures faults { ReportsFaults D.BlockDevice device.old device.new result }
+    ensures errors { IfErr result (λ e. e ≡ Error.Io) }
+{
+    device.read(block, offset, buf)?;
+    Ok(())
 }

@@ -14,7 +14,7 @@ abbrev pub AreKnownIndicesBelow : ℕ → KnownBlocks → Type 0
 AreKnownIndicesBelow count known = (row : ℕ) → row < 32 → slice_index known.indices row < 2 ^ 32 - 1 → slice_index known.indices row < count
 
 abbrev pub no_known_blocks : KnownBlocks
-no_known_blocks = record { indices = replicate 32 (2 ^ 32 - 1); blocks = replicate 32 0 }
+no_known_blocks = record { indices = replicate 32 (2 ^ 32 - 1); blocks = replicate 32 0; end = 2 ^ 32 - 1 }
 
 -- the row of the block at an index
 abbrev pub row_of_index : ℕ → ℕ

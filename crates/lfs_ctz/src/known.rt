@@ -1,12 +1,13 @@
 // The blocks of a list that a reader knows.
 
-ghost use Rattle.std.specs.Prelude.{◌≡◌, ◌≢◌, ◌≤◌, ◌<◌, ◌+◌, ◌-◌, ◌*◌, ◌^◌, ℕ, List, length, min, take, drop, OnOk, IfOk, IsErrOf, slice_index, slice_range};
+ghost use Rattle.std.specs.Prelude.{◌≡◌, ◌≢◌, ◌≤◌, ◌<◌, ◌+◌, ◌-◌, ◌*◌, ◌^◌, ℕ, List, length, min, take, drop, OnOk, IfOk, IfSome, IsErrOf, slice_index, slice_range};
 ghost use Rattle.lfs_model.specs.Blocks.{block_bytes_by_number};
-ghost use Rattle.lfs_model.specs.History.{read_count_of_history};
+ghost use Rattle.lfs_model.specs.History.{DeviceCallEvent, read_count_of_history};
 ghost use Rattle.lfs_model.specs.SkipLists.{AreListBlocks, IsSkipList, list_blocks_from_head, list_block_count_for_size, bytes_of_skip_list, word_at_offset};
 ghost use Rattle.lfs_ctz.specs.Calls.{OnlyReadsAndReportsIoOrCorrupt};
 ghost use Rattle.lfs_ctz.specs.Known.{AreKnownIndicesBelow, AreKnownListBlocks, FindsByFewReads, IsKnownIndex, ReadsKnownList, no_known_blocks, row_of_index as row_seen};
 
+use crate::part::BlockPart;
 use crate::read::{
     pointer_count_at_index, read_block_before, read_block_bytes_into_buffer_range,
     read_block_pointer,
@@ -17,12 +18,16 @@ use lfs_device::{BlockDevice, Error};
 /// Blocks of a list that reads have found, each with its index: those on the way to the place where
 /// the last read ended. A read that goes on from there takes few pointers, or none.
 ///
+/// Who reads notes where a read ended, so that the next one is known to go on.
+///
 /// The block at an index is in the row with the number of zeros in which the index ends. A row
 /// without a block has the index 2^32 - 1.
 #[derive(Clone, Copy)]
 pub struct KnownBlocks {
     pub indices: [u32; 32],
     pub blocks: [u32; 32],
+    /// Where the last read ended, in bytes from the beginning. It is 2^32 - 1 before the first one.
+    pub end: u32,
 }
 
 // Returns the row of the block at an index. That of index 0 is the last one.
@@ -41,6 +46,7 @@ impl KnownBlocks {
         KnownBlocks {
             indices: [u32::MAX; 32],
             blocks: [0; 32],
+            end: u32::MAX,
         }
     }
 
@@ -160,6 +166,37 @@ impl KnownBlocks {
             return Err(Error::Corrupt);
         }
         Ok(self.blocks[row])
+    }
+
+    /// Returns where the bytes of a file from position `pos` on are, as many as there is room for and
+    /// the `size` allows. Returns None where they aren't all in one block, or it isn't known. The
+    /// known blocks are the list's. The call makes no call of the device.
+    pub fn find_part<D: BlockDevice>(
+        &self,
+        dev: &D,
+        size: u32,
+        pos: u32,
+        room: usize,
+    ) -> Option<BlockPart>
+        ensures inside { IfSome result (λ p. (p.block < (D.geometry dev.now).block_count) × (p.offset + p.len ≤ (D.geometry dev.now).block_size)) }
+        ensures len { IfSome result (λ p. p.len ≡ min room (size - pos)) }
+        ensures bytes { (head : ℕ) → IsSkipList (D.blocks dev.now) (D.geometry dev.now).block_size head size → AreKnownListBlocks (list_blocks_from_head (D.blocks dev.now) (list_block_count_for_size (D.geometry dev.now).block_size size) head) self.now
+            → IfSome result (λ p. slice_range (block_bytes_by_number (D.blocks dev.now) p.block) p.offset (p.offset + p.len) ≡ slice_range (bytes_of_skip_list (D.blocks dev.now) (D.geometry dev.now).block_size head size) pos (pos + p.len)) }
+        ensures few { (old new : List DeviceCallEvent) → read_count_of_history new ≤ read_count_of_history old + 1 → IfSome result (λ p. ReadsKnownList (D.geometry dev.now).block_size size pos room self.now self.now old new) }
+    {
+        let geometry = dev.geometry();
+        if pos >= size || room == 0 {
+            return None;
+        }
+        let len = room.min((size - pos) as usize) as u32;
+        let (index, offset) = place(geometry.block_size, pos);
+        let (last, _) = place(geometry.block_size, pos + len - 1);
+        let row = row_of_index(index);
+        let block = self.blocks[row];
+        if last != index || self.indices[row] != index || block >= geometry.block_count {
+            return None;
+        }
+        Some(BlockPart { block, offset, len })
     }
 
     /// Reads a file's bytes from position `pos` on into the buffer, as many as the buffer and the

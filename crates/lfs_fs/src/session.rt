@@ -457,7 +457,9 @@ impl<D: BlockDevice> Session<D> {
     /// where the file ends, and none after its end. The position advances by as many.
     ///
     /// An open file knows the blocks that its reads have found. A read that ends in the block where
-    /// the last one ended finds it without a pointer.
+    /// the last one ended finds it without a pointer. One that begins where the last one ended, and
+    /// is within that block, reads the block whole into the cache. Further reads within a cached
+    /// block take no read of the device.
     ///
     /// # Errors
     ///
@@ -483,8 +485,8 @@ impl<D: BlockDevice> Session<D> {
     /// Reads the bytes of an open file from its position on into a buffer, as many as the buffer has
     /// room for, or fewer where the file ends. Returns how many these are; the rest of the buffer
     /// stays. The position advances by as many. The call is that of [`read`](Session::read), but
-    /// takes no memory. A refusal leaves the buffer as it was; after `Io` it isn't said what it
-    /// holds.
+    /// takes no memory except for a block that comes into the cache, and works without that. A
+    /// refusal leaves the buffer as it was; after `Io` it isn't said what it holds.
     ///
     /// # Errors
     ///

@@ -1,6 +1,6 @@
 -- cached Blocks, where others change.
 use Rattle.std.proofs.Common.{ℕ, ◌≡◌, ◌≢◌, ◌⊎◌, inl, inr, nat_eq, true, false, List, Option, Some, None, Result, Ok, Err, rules, refl, sym, ap, subst, ◌∙◌}
-use Rattle.std.specs.Prelude.{IsSome, OnErr, OnOk, unwrap_or}
+use Rattle.std.specs.Prelude.{IfSome, IsSome, OnErr, OnOk, unwrap_or}
 use Rattle.std.proofs.lemmas.Option.{same_Some}
 use Rattle.lfs_device.specs.declared.error.Error.{Error}
 use Rattle.std.proofs.lemmas.Bool.Decides.{eqb_tells}
@@ -80,3 +80,27 @@ filled_front blocks cache now b at (Ok u) same current filled = filled ∙ ap (c
     there : (o : Option (List ℕ)) → cached_bytes_of_block cache b ≡ o → unwrap_or o (block_bytes_by_number blocks b) ≡ block_bytes_by_number blocks b
     there None e = refl
     there (Some x) e = current b x e
+
+-- ---- reads through the cache
+
+-- a cached block is as the device has it
+pub current_at : (blocks : Blocks) (cache : CachedBlocks) (b : ℕ) → IsCacheCurrent blocks cache → IfSome (cached_bytes_of_block cache b) (λ bytes. bytes ≡ block_bytes_by_number blocks b)
+current_at blocks cache b current = go (cached_bytes_of_block cache b) refl
+  where
+    go : (o : Option (List ℕ)) → cached_bytes_of_block cache b ≡ o → IfSome o (λ bytes. bytes ≡ block_bytes_by_number blocks b)
+    go None e = tt
+    go (Some x) e = current b x e
+
+-- after a read that may have cached a block
+pub current_read : (blocks : Blocks) (cache now : CachedBlocks) (b : ℕ) → (now ≡ cache) ⊎ (now ≡ cache_with_block_first cache b (block_bytes_by_number blocks b)) → IsCacheCurrent blocks cache → IsCacheCurrent blocks now
+current_read blocks cache now b (inl same) current other bytes h = subst (IsCacheCurrent blocks) (sym same) current other bytes h
+current_read blocks cache now b (inr put) current other bytes h = go (eqb_tells other b)
+  where
+    x : List ℕ
+    x = block_bytes_by_number blocks b
+
+    go : ((nat_eq other b ≡ true) × (other ≡ b)) ⊎ ((nat_eq other b ≡ false) × (other ≢ b)) → bytes ≡ block_bytes_by_number blocks other
+    go (inl k) =
+        let e : Some bytes ≡ Some x = sym h ∙ ap (λ z. cached_bytes_of_block z other) put ∙ ap (cached_bytes_of_block (cache_with_block_first cache b x)) k.1 ∙ cached_bytes_of_block-put_first_same cache b x in
+        same_Some bytes x e ∙ ap (block_bytes_by_number blocks) (sym k.1)
+    go (inr k) = current other bytes (cached_bytes_of_block-put_first_other cache b other x bytes k.1 (sym (ap (λ z. cached_bytes_of_block z other) put) ∙ h))

@@ -8,6 +8,7 @@ mod deltas;
 mod drops;
 mod headers;
 mod joins;
+mod list_reads;
 mod mount_error;
 mod pair_numbers;
 mod parts;

@@ -26,6 +26,7 @@ use crate::deltas::global_state_of_pairs;
 use crate::drops::drop_next_pair;
 use crate::headers::read_thread_headers;
 use crate::joins::thread_in_fresh_pair;
+use crate::list_reads::read_part_through_cache;
 use crate::mount_error::MountError;
 use crate::parts::ThreadParts;
 use crate::splits::split_pair;
@@ -310,8 +311,12 @@ impl<D: BlockDevice> Thread<D> {
     }
 
     /// Reads bytes of a skip list as [`read_list`](Thread::read_list) does, beginning at the nearest
-    /// of the blocks that are known. Notes the blocks on the way. The caller's condition is also
-    /// that the known blocks are the list's.
+    /// of the blocks that are known. Notes the blocks on the way, and where the read ends. The
+    /// caller's condition is also that the known blocks are the list's.
+    ///
+    /// A read that begins where the last one ended, and is within a known block, reads that block
+    /// whole into the cache, where memory for it is granted. Further reads within a cached block
+    /// take no read of the device.
     ///
     /// Errors: `Io` where a read failed. Then it isn't said what the buffer holds.
     pub fn read_known_list(
@@ -328,10 +333,18 @@ impl<D: BlockDevice> Thread<D> {
         ensures read { IfOk result (λ n. (n ≡ min (length buf.old) (size - pos)) × (take n buf.new ≡ slice_range (bytes_of_skip_list self.old.kept.disk.blocks self.old.kept.disk.block_size head size) pos (pos + n))) }
         ensures blocks { AreKnownListBlocks (skip_list_blocks_of_struct self.old.kept.disk (Ctz head size)) known.new }
         ensures only { IsThreadOnlyRead self.old.kept self.new.kept }
-        ensures same { (self.new.failed ≡ false) × (self.new.cache ≡ self.old.cache) }
+        ensures works { self.new.failed ≡ false }
         ensures errors { IoMeantFaultNoMemoryWroteNothing self.old.kept self.new.kept result }
         ensures few { OnOk result (ReadsKnownList self.old.kept.disk.block_size size pos (length buf.old) known.old known.new self.old.kept.history self.new.kept.history) }
     {
+        let goes_on = known.end == pos;
+        known.end = pos + buf.len().min(size.saturating_sub(pos) as usize) as u32;
+        if let Some(part) = known.find_part(&self.device, size, pos, buf.len()) {
+            let is_cached = self.cache.lend(part.block).is_some();
+            if goes_on || is_cached {
+                return read_part_through_cache(&mut self.device, &mut self.cache, part, buf);
+            }
+        }
         known.read_at(&mut self.device, head, size, pos, buf)
     }
 

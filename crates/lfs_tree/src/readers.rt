@@ -43,7 +43,8 @@ impl<D: BlockDevice> Tree<D> {
     /// Reads the bytes from a position on of a file with these contents into the buffer, as many as
     /// the buffer and the file have. Returns how many these are; the rest of the buffer stays. Nothing
     /// is looked up, and inline bytes take no reads. The bytes of a list are found from the nearest
-    /// of its blocks that are known, and the blocks on the way are noted.
+    /// of its blocks that are known, and the blocks on the way are noted. A read that goes on within
+    /// a block reads it whole into the cache, where memory for it is granted.
     ///
     /// Errors: `Io` where a read failed. Then the tree has failed, and it isn't said what the buffer
     /// holds.

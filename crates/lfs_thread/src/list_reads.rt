@@ -1,0 +1,35 @@
+// Parts of files' blocks that are read through the cache.
+
+ghost use Rattle.std.specs.Prelude.{◌≡◌, ◌≤◌, ◌<◌, ◌+◌, IfErr, IfOk, length, slice_range, take};
+ghost use Rattle.lfs_cache.specs.Read.{ReadsOnceUnlessCached};
+ghost use Rattle.lfs_device.specs.Calls.{ReadsOnly, ReportsFaults};
+ghost use Rattle.lfs_model.specs.Blocks.{block_bytes_by_number};
+ghost use Rattle.lfs_model.specs.Cache.{cached_bytes_of_block};
+ghost use Rattle.lfs_thread.specs.Kept.{IsCacheCurrent};
+
+use lfs_cache::Cache;
+use lfs_ctz::BlockPart;
+use lfs_device::{BlockDevice, Error};
+
+// Reads a part of a block to the beginning of the buffer, through the cache. Returns how many bytes
+// it has.
+pub(crate) fn read_part_through_cache<D: BlockDevice>(
+    device: &mut D,
+    cache: &mut Cache,
+    part: BlockPart,
+    buf: &mut [u8],
+) -> Result<usize, Error>
+    requires inside { (part.block < (D.geometry device.old).block_count) × (part.offset + part.len ≤ (D.geometry device.old).block_size) }
+    requires room { part.len ≤ length buf.old }
+    requires current { IsCacheCurrent (D.blocks device.old) cache.old }
+    ensures read { IfOk result (λ n. (n ≡ part.len) × (take n buf.new ≡ slice_range (block_bytes_by_number (D.blocks device.old) part.block) part.offset (part.offset + n))) }
+    ensures current { IsCacheCurrent (D.blocks device.new) cache.new }
+    ensures few { ReadsOnceUnlessCached D.BlockDevice (cached_bytes_of_block cache.old part.block) device.old device.new }
+    ensures device { ReadsOnly D.BlockDevice device.old device.new }
+    ensures faults { ReportsFaults D.BlockDevice device.old device.new result }
+    ensures errors { IfErr result (λ e. e ≡ Error.Io) }
+{
+    let len = part.len as usize;
+    cache.read(device, part.block, part.offset, &mut buf[..len])?;
+    Ok(len)
+}

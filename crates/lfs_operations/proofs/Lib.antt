@@ -1,6 +1,7 @@
 pub mod Taking
 pub mod Putting
 pub mod Placing
+pub mod Threads
 pub mod Splicing
 pub mod Owning
 pub mod RootStays
@@ -49,7 +50,7 @@ pub mod Unlinked
 pub mod RmdirPlaces
 pub mod Rmdir
 mod DroppedRows
-pub mod RmdirEnd
+pub mod LastDrop
 pub mod RmdirThread
 pub mod RmdirWhole
 pub mod UnlinkedWhole

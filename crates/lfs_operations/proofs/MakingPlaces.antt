@@ -1,5 +1,5 @@
 -- The pair of a number in a thread, by a site: where it stands, and which blocks change with it.
-use Rattle.std.proofs.Common.{ℕ, suc, ◌≡◌, ◌+◌, ◌<◌, ◌≤◌, Bool, true, false, cond, eqb-true, nat_eq, List, [], ◌∷◌, ◌++◌, length, Some, refl, sym, ap, ap₂, subst, ◌∙◌, arith, append_assoc, length-append, get_or, set, insert}
+use Rattle.std.proofs.Common.{ℕ, ◌≡◌, ◌+◌, ◌<◌, ◌≤◌, Bool, true, false, cond, eqb-true, nat_eq, List, [], ◌∷◌, ◌++◌, length, Some, refl, sym, ap, ap₂, subst, ◌∙◌, arith, append_assoc, length-append, get_or, set, insert}
 use Rattle.std.specs.List.{IsDistinct}
 use Rattle.lfs_model.specs.BlockSets.{AreExactlyTheUsedBlocks, IsBlockFree}
 use Rattle.lfs_model.specs.BlockSets.BlockState.{Free}
@@ -20,20 +20,7 @@ use Rattle.lfs_operations.specs.Changing.{AreTwoFreeBlocks}
 use Rattle.lfs_operations.proofs.Placing.{IsPlaced, all_apart}
 use Rattle.lfs_operations.proofs.Splicing.{not_used}
 use Rattle.lfs_operations.proofs.Taking.{within}
-
-set_at : (xs : List Pair) (p : Pair) (zs : List Pair) (q : Pair) → set (xs ++ p ∷ zs) (length xs) q ≡ xs ++ q ∷ zs
-set_at [] p zs q = refl
-set_at (x ∷ xs) p zs q = ap (λ z. x ∷ z) (set_at xs p zs q)
-
-get_at : (xs : List Pair) (p : Pair) (zs : List Pair) (d : Pair) → get_or (xs ++ p ∷ zs) (length xs) d ≡ p
-get_at [] p zs d = refl
-get_at (x ∷ xs) p zs d = get_at xs p zs d
-
-insert_at : (xs : List Pair) (q : Pair) (zs : List Pair) (f : Pair) → insert (xs ++ q ∷ zs) (length xs + 1) f ≡ xs ++ q ∷ f ∷ zs
-insert_at [] q zs f = refl
-insert_at (x ∷ xs) q zs f =
-    let e : suc (length xs) + 1 ≡ suc (length xs + 1) = omega arith in
-    ap (λ (n : ℕ). insert (x ∷ (xs ++ q ∷ zs)) n f) e ∙ ap (λ z. x ∷ z) (insert_at xs q zs f)
+use Rattle.lfs_operations.proofs.Threads.{set_at, get_at, insert_at}
 
 module _ (t : KeptThread) (index : ℕ) (w : Site) (p : Pair) (there : t.pairs ≡ thread_at w (p ∷ [])) (place : index ≡ length w.chain + length (w.before ++ w.left)) where
   abbrev ahead : List Pair

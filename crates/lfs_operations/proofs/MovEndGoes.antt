@@ -27,11 +27,11 @@ use Rattle.lfs_thread.specs.Kept.{KeptThread}
 use Rattle.lfs_thread.specs.Steps.{IsPairWrittenOnDisk, empty_pair_at_anchor, thread_pair_at_index, block_map_with_freed_pair}
 use Rattle.lfs_operations.specs.Dropping.{CanDropPairAt, IsNextPairDropped, IsLeftByStoppedPairDrop, tail_over_dropped_pair, content_after_next_pair_drop}
 use Rattle.lfs_operations.specs.MoveEnds.{CanEndMoveAt, HasEndedMoveAt, is_pair_named_by_hard_tail}
-use Rattle.lfs_operations.proofs.Dropped.{device_dropped, device_kept, profile_same}
+use Rattle.lfs_operations.proofs.Dropped.{device_dropped, device_kept}
 use Rattle.lfs_operations.proofs.DroppedTails.{front_is, gone_is, gstate_is, remove_next, without_is}
 use Rattle.lfs_operations.proofs.MovEnding.{get_from, led_is}
 use Rattle.lfs_operations.proofs.MovEndWhole.{HasTakenOver, IsEndingWhole, whole_count, whole_ended, whole_firsts}
-use Rattle.lfs_operations.proofs.Placing.{nothing_came}
+use Rattle.lfs_operations.proofs.Placing.{left_after, left_still}
 use Rattle.lfs_operations.proofs.Removed.{flag_ends}
 use Rattle.lfs_operations.proofs.RemovedWhole.{LastPair, last_pair, only_slot, over_hard, run_hard}
 use Rattle.lfs_operations.specs.EndingMove.{gstate_without_move}
@@ -232,24 +232,10 @@ module _ (t : KeptThread) (index id : ℕ) (can : CanEndMoveAt t index id true) 
       go : (l.content ≡ (thread_pair_at_index t (index - 1)).content) ⊎ (l.content ≡ content_after_next_pair_drop t (index - 1) (gstate_without_move (gstate_of_pairs t.pairs))) → IsLeftOf (disk_with_blocks left t.disk) (tree_on_disk t.disk t.pairs) (tree_on_disk t.disk t.pairs)
       go (inl e) =
           let same = e ∙ ap (λ (z : Pair). z.content) front_there in
-          let d = device_kept t (index - 1) ahead x o back is number (subst (IsAcceptedImage t.disk) is can.accepted) (disk_with_blocks left t.disk) x.content refl
-          (subst (λ y. IsPairWrittenOnDisk t (index - 1) y (disk_with_blocks left t.disk)) same l.written) in
-          let on = subst (λ z. IsDevice t.disk (disk_with_blocks left t.disk) z z) (sym is ∙ h.is) d in
-          let f = nothing_came t.disk (disk_with_blocks left t.disk) v o h.is_site (subst (IsAcceptedImage t.disk) h.is can.accepted) on in
-          record {
-            pairs = thread_at v (o ∷ []);
-            accepted = f.accepted;
-            writable = profile_same t.disk (disk_with_blocks left t.disk) (thread_at v (o ∷ [])) refl refl refl (subst (IsWritableImage t.disk) h.is can.writable);
-            tree = inl (f.shows ∙ ap (tree_on_disk t.disk) (sym h.is));
-          }
-      go (inr e) =
-          let k = goes_on (disk_with_blocks left t.disk) (subst (λ y. IsPairWrittenOnDisk t (index - 1) y (disk_with_blocks left t.disk)) e l.written) in
-          record {
-            pairs = thread_at w (q ∷ []);
-            accepted = k.follows.accepted;
-            writable = k.writable;
-            tree = inl (k.follows.shows ∙ ap (tree_on_disk t.disk) (sym there));
-          }
+          left_still t.disk left t.pairs can.accepted can.writable (subst (λ z. IsDevice t.disk (disk_with_blocks left t.disk) z z) (sym is)
+          (device_kept t (index - 1) ahead x o back is number (subst (IsAcceptedImage t.disk) is can.accepted) (disk_with_blocks left t.disk) x.content refl (subst (λ y. IsPairWrittenOnDisk t (index - 1) y (disk_with_blocks left t.disk)) same l.written)))
+          (inl refl)
+      go (inr e) = left_after (goes_on (disk_with_blocks left t.disk) (subst (λ y. IsPairWrittenOnDisk t (index - 1) y (disk_with_blocks left t.disk)) e l.written)) (inl (ap (tree_on_disk t.disk) (sym there)))
 
   pub goes_survives : (new : List DeviceCallEvent) → PowerLossLeavesSuchBlocksAfterCleanErases t.history new (IsLeftByStoppedPairDrop t (index - 1) (gstate_without_move (gstate_of_pairs t.pairs))) → SurvivesPowerLossInCallsSince t.disk t.history new (tree_on_disk t.disk t.pairs) (tree_on_disk t.disk t.pairs)
   goes_survives new stops clean = IsTrueAfterAnyPowerLossSince-weaker left_tree (stops clean)

@@ -24,6 +24,7 @@ use Rattle.lfs_model.proofs.StepsTaken.{IsWritableImageAfterTreeChange, end_drop
 use Rattle.lfs_model.proofs.MoveSets.{addresses_of_first_pairs_of_directories}
 use Rattle.lfs_operations.proofs.MovFirsts.{end_firsts}
 use Rattle.lfs_operations.specs.EndingMove.{gstate_without_move}
+use Rattle.lfs_operations.proofs.Placing.{blocks_append}
 
 -- At the site stand p and o behind it, joined by a hard tail, and the move hides o's only slot u.
 pub record IsEndingWhole (disk : Disk) (w : Site) (p o : Pair) (u : Slot) : Type 0 where
@@ -122,9 +123,6 @@ module _ (disk : Disk) (w : Site) (p o : Pair) (u : Slot) (k : IsEndingWhole dis
 
     -- ---- the blocks that the image uses
 
-    blocks_two : (xs ys : List Pair) (b : ℕ) → occurrence_count_of_number b (blocks_of_pairs (xs ++ ys)) ≡ occurrence_count_of_number b (blocks_of_pairs xs) + occurrence_count_of_number b (blocks_of_pairs ys)
-    blocks_two xs ys b = ap (occurrence_count_of_number b) (flat_map-append (λ (s : Pair). s.at.0 ∷ s.at.1 ∷ []) xs ys) ∙ count_append b (blocks_of_pairs xs) (blocks_of_pairs ys)
-
     slots_three : (f : Pair → List Slot) (zs : List Pair) → flat_map f (thread_at w zs) ≡ flat_map f w.chain ++ (flat_map f ahead ++ (flat_map f zs ++ flat_map f back))
     slots_three f zs = flat_map-append f w.chain (ahead ++ (zs ++ back)) ∙ ap (λ z. flat_map f w.chain ++ z) (flat_map-append f ahead (zs ++ back) ∙ ap (λ z. flat_map f ahead ++ z) (flat_map-append f zs back))
 
@@ -141,13 +139,13 @@ module _ (disk : Disk) (w : Site) (p o : Pair) (u : Slot) (k : IsEndingWhole dis
     whole_count b =
         let a1 = count_append b (blocks_of_pairs (thread_at w (q ∷ []))) (file_blocks_of_slots new (all_slots_not_moved (thread_at w (q ∷ [])))) in
         let a2 = count_append b (blocks_of_pairs (thread_at w (p ∷ o ∷ []))) (file_blocks_of_slots disk (all_slots_not_moved (thread_at w (p ∷ o ∷ [])))) in
-        let b1 = blocks_two w.chain (dirs_at w (q ∷ [])) b in
-        let b2 = blocks_two ahead (q ∷ [] ++ back) b in
-        let b3 = blocks_two (q ∷ []) back b in
-        let b4 = blocks_two w.chain (dirs_at w (p ∷ o ∷ [])) b in
-        let b5 = blocks_two ahead (p ∷ o ∷ [] ++ back) b in
-        let b6 = blocks_two (p ∷ []) (o ∷ back) b in
-        let b7 = blocks_two (o ∷ []) back b in
+        let b1 = blocks_append w.chain (dirs_at w (q ∷ [])) b in
+        let b2 = blocks_append ahead (q ∷ [] ++ back) b in
+        let b3 = blocks_append (q ∷ []) back b in
+        let b4 = blocks_append w.chain (dirs_at w (p ∷ o ∷ [])) b in
+        let b5 = blocks_append ahead (p ∷ o ∷ [] ++ back) b in
+        let b6 = blocks_append (p ∷ []) (o ∷ back) b in
+        let b7 = blocks_append (o ∷ []) back b in
         let at = ap (λ (a : ℕ × ℕ). occurrence_count_of_number b (a.0 ∷ a.1 ∷ [])) x.at in
         let same = ap (occurrence_count_of_number b) (slots_files disk new (all_slots_not_moved (thread_at w (p ∷ o ∷ []))) x.device.geometry
         (recursion_from_All (λ (s : Slot). HasSameFileBlocksOfStructOnDisks disk new s.struct) (all_slots_not_moved (thread_at w (p ∷ o ∷ []))) x.device.files)) in

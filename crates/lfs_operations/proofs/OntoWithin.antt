@@ -44,11 +44,13 @@ use Rattle.lfs_operations.specs.Dropping.{IsNextPairDropped, IsLeftByStoppedPair
 use Rattle.lfs_operations.specs.Editing.{CanEditEntryOfPair}
 use Rattle.lfs_operations.specs.Renaming.{tree_with_renamed_entry}
 use Rattle.lfs_operations.specs.RenamingOver.{CanRenameOntoDirectoryInPair, CanReplaceDirectoryInPair, IsEntryRenamedOntoDirectory, replace_directory_in_pair_changes}
-use Rattle.lfs_operations.proofs.OntoGone.{IsReplacing, alike_end, left_last, replaced_by, replaced_shrunk, taken_end}
+use Rattle.lfs_operations.proofs.OntoGone.{replaced_by, replaced_drops}
 use Rattle.lfs_operations.proofs.Owning.{turned_count, used_same}
 use Rattle.lfs_operations.proofs.RenameOver.{HasOver, gstate_now, has_over, over_content, over_fits, pair_now, same_made, step, taken, target_held}
 use Rattle.lfs_operations.proofs.RenamePlaced.{blocks_now, with_name}
 use Rattle.lfs_operations.proofs.RmdirPlaces.{Ahead, Behind, HasFront, Itself, Next, WhereIs, directory_led, get_some, has_front, number_of_first, shows_nothing, soft_end, where_is}
+use Rattle.lfs_operations.proofs.LastDrop.{IsAllButDropped, alike_end, left_last, shows_dropped, taken_end}
+use Rattle.lfs_model.proofs.Global.{HasNoMove}
 
 -- ---- places
 
@@ -293,27 +295,36 @@ module _ (t : KeptThread) (index id place : ℕ) (name : Name) (gone : ℕ) (ren
       let none : occurrence_count_of_number b (file_blocks_of_slots t.disk (target ∷ [])) ≡ 0 = ap (λ z. occurrence_count_of_number b (file_blocks_of_slots t.disk (record target { struct = z } ∷ []))) over.branch in
       omega arith
 
-  pub replacing : IsReplacing t m (can.path ++ can.name ∷ []) (can.path ++ name ∷ []) over.to o gone
+  thread_now : m.pairs ≡ w.chain ++ (placed.front ++ placed.x ∷ o ∷ placed.back)
+  thread_now = pairs_now ∙ ap (λ z. w.chain ++ z) placed.there
+
+  chain_now : IsChain w.chain (placed.front ++ placed.x ∷ o ∷ placed.back)
+  chain_now = subst (IsChain w.chain) placed.there (step_chain t.disk m.disk w p [] q [] [] [] h.l h.olds h.news h.r stepped)
+
+  no_move_now : HasNoMove (gstate_of_pairs m.pairs)
+  no_move_now = subst HasNoMove (sym (ap gstate_of_pairs pairs_now ∙ gstate_now t index id place name over h)) (record { kind = refl; id = refl; pair = refl })
+
+  pub replacing : IsAllButDropped t m o gone (tree_after_rename (can.path ++ can.name ∷ []) (can.path ++ name ∷ [])) (directory_addresses_after_rename (can.path ++ can.name ∷ []) (can.path ++ name ∷ []))
   replacing = record {
     ready = can.ready;
     taken = taken_now;
-    state = ap gstate_of_pairs pairs_now ∙ gstate_now t index id place name over h;
+    no_move = no_move_now;
     chain = w.chain;
     front = placed.front;
     x = placed.x;
     back = placed.back;
-    there = pairs_now ∙ ap (λ z. w.chain ++ z) placed.there;
-    is_chain = subst (IsChain w.chain) placed.there (step_chain t.disk m.disk w p [] q [] [] [] h.l h.olds h.news h.r stepped);
+    there = thread_now;
+    is_chain = chain_now;
     number = (let a = length-append w.chain placed.front in let b = length-append w.chain front.front in let n = placed.number in let f = first_is.0 in omega arith);
     soft = placed.soft;
-    replaced = subst (λ z. IsReplaced (directory_address_at_path (entries_by_directory_in_thread z) (root_directory_address_of_pairs z)) from to over.to) (sym there)
+    drops = replaced_drops t m from to over.to w.chain placed.front placed.x o placed.back can.ready taken_now no_move_now thread_now chain_now
+        (subst (λ z. IsReplaced (directory_address_at_path (entries_by_directory_in_thread z) (root_directory_address_of_pairs z)) from to over.to) (sym there)
         (subst (λ (n : Name). IsReplaced (directory_address_at_path (entries_by_directory_in_thread (thread_at w (p ∷ []))) (root_directory_address_of_pairs (thread_at w (p ∷ [])))) from (can.path ++ n ∷ []) over.to) over.target.stands.named
         (replaced_by t.disk (thread_at w (p ∷ [])) can.path can.at (place_at w l2) target over.to from accepted leads entry_there over.branch empty
-        (ap (λ (n : Name). path_without_prefix from (can.path ++ n ∷ [])) over.target.stands.named ∙ apart)));
-    every = λ Q k. subst (λ z. All (λ y. Q y.at) (directories_in_thread z)) (sym pairs_now)
-        (step_each t.disk m.disk w p [] q [] [] [] h.l h.olds h.news h.r stepped can.path can.at leads same_begin Q (subst (λ z. All (λ y. Q y.at) (directories_in_thread z)) there k));
-    address = rename.at;
-    alone = rename.alone;
+        (ap (λ (n : Name). path_without_prefix from (can.path ++ n ∷ [])) over.target.stands.named ∙ apart))))
+        (λ Q k. subst (λ z. All (λ y. Q y.at) (directories_in_thread z)) (sym pairs_now)
+        (step_each t.disk m.disk w p [] q [] [] [] h.l h.olds h.news h.r stepped can.path can.at leads same_begin Q (subst (λ z. All (λ y. Q y.at) (directories_in_thread z)) there k)))
+        rename.at rename.alone;
     empty = rename.empty;
     used = subst (λ s. AreExactlyTheUsedBlocks s (used_blocks m.disk m.pairs)) (sym r.map) (used_same t.map (used_blocks t.disk t.pairs) (used_blocks m.disk m.pairs) used_now can.ready.used);
     size = ap length r.map ∙ can.ready.size ∙ sym r.written.shape.count;
@@ -326,7 +337,7 @@ module _ (t : KeptThread) (index id place : ℕ) (name : Name) (gone : ℕ) (ren
 
   module _ (new : KeptThread) (g : IsNextPairDropped m (gone - 1) zero_gstate new) where
     ended : IsWritableImageAfterTreeChange t.disk t.pairs new.disk new.pairs (tree_after_rename (can.path ++ can.name ∷ []) (can.path ++ name ∷ [])) (directory_addresses_after_rename (can.path ++ can.name ∷ []) (can.path ++ name ∷ []))
-    ended = taken_end t m from to over.to o gone replacing new g
+    ended = taken_end replacing new g
 
     laid : IsRenameWithinOnto t.disk new.disk new.pairs placed.b w.chain placed.one placed.mid placed.other p o q [] can.stands.stands.left u can.stands.stands.right h.x target h.y over.to
         (can.path ++ can.name ∷ []) (can.path ++ name ∷ []) name
@@ -350,7 +361,7 @@ module _ (t : KeptThread) (index id place : ℕ) (name : Name) (gone : ℕ) (ren
       soft = rename.alone;
       begins = placed.begins;
       apart = placed.apart;
-      alike = subst (λ z. ArePairsWithSameAddressesAndSlots (w.chain ++ z) new.pairs) (sym placed.are) (alike_end t m from to over.to o gone replacing new g);
+      alike = subst (λ z. ArePairsWithSameAddressesAndSlots (w.chain ++ z) new.pairs) (sym placed.are) (alike_end replacing new g);
       from_slot = subst (λ z. slot_of_path z from ≡ Some u) (there ∙ placed.were)
           (slot_of_stands t.disk t.pairs can.path can.at can.ready.accepted can.leads can.first index id can.name (no_move_from t.pairs can.ready.settled) can.stands can.begins);
       to_slot = subst (λ z. slot_of_path z to ≡ Some target) (there ∙ placed.were)
@@ -361,11 +372,11 @@ module _ (t : KeptThread) (index id place : ℕ) (name : Name) (gone : ℕ) (ren
 
     pub renamed_onto_directory : IsEntryRenamedOntoDirectory t new rename.over.can.path rename.over.can.name name
     renamed_onto_directory = record {
-      now = replaced_shrunk t m from to over.to o gone replacing new g;
+      now = shows_dropped replacing new g;
       completed = λ s given to_given tree given_is to_is. subst (λ z. IsImageAfterCompletedOperation t.disk z s (ops.Rename given to_given) new.disk new.pairs) (sym (there ∙ placed.were))
           (within_onto_completed t.disk new.disk new.pairs placed.b w.chain placed.one placed.mid placed.other p o q [] can.stands.stands.left u can.stands.stands.right h.x target h.y over.to from to name laid s given to_given
           (tree ∙ ap (tree_on_disk t.disk) (there ∙ placed.were)) given_is to_is);
     }
 
   pub left_within : (left : Blocks) → IsLeftByStoppedPairDrop m (gone - 1) zero_gstate left → IsLeftOf (disk_with_blocks left t.disk) (tree_on_disk t.disk t.pairs) (tree_with_renamed_entry t rename.over.can.path rename.over.can.name name)
-  left_within left g = left_last t m from to over.to o gone replacing left g
+  left_within left g = left_last replacing left g

@@ -26,19 +26,19 @@ use Rattle.lfs_operations.proofs.Taking.{within}
 
 -- ---- counting
 
-slots_append : (xs ys : List Pair) → slots_of_pairs_in_order (xs ++ ys) ≡ slots_of_pairs_in_order xs ++ slots_of_pairs_in_order ys
+pub slots_append : (xs ys : List Pair) → slots_of_pairs_in_order (xs ++ ys) ≡ slots_of_pairs_in_order xs ++ slots_of_pairs_in_order ys
 slots_append xs ys = flat_map-append (λ (p : Pair). p.content.slots) xs ys
 
-count_used : (b : ℕ) (disk : Disk) (ps : List Pair) → HasNoMove (gstate_of_pairs ps) → occurrence_count_of_number b (used_blocks disk ps) ≡ occurrence_count_of_number b (blocks_of_pairs ps) + occurrence_count_of_number b (file_blocks_of_slots disk (slots_of_pairs_in_order ps))
+pub count_used : (b : ℕ) (disk : Disk) (ps : List Pair) → HasNoMove (gstate_of_pairs ps) → occurrence_count_of_number b (used_blocks disk ps) ≡ occurrence_count_of_number b (blocks_of_pairs ps) + occurrence_count_of_number b (file_blocks_of_slots disk (slots_of_pairs_in_order ps))
 count_used b disk ps none = count_append b (blocks_of_pairs ps) (flat_map (λ s. skip_list_blocks_of_struct disk s.struct) (all_slots_not_moved ps))
     ∙ ap (λ z. occurrence_count_of_number b (blocks_of_pairs ps) + occurrence_count_of_number b (file_blocks_of_slots disk z)) (unmoved_in (gstate_of_pairs ps) none ps)
 
 -- the slots of a thread, by a site
-slots_at : (w : Site) (ps : List Pair) → slots_of_pairs_in_order (thread_at w ps) ≡ slots_of_pairs_in_order w.chain ++ (slots_of_pairs_in_order (w.before ++ w.left) ++ (slots_of_pairs_in_order ps ++ slots_of_pairs_in_order (w.right ++ w.after)))
+pub slots_at : (w : Site) (ps : List Pair) → slots_of_pairs_in_order (thread_at w ps) ≡ slots_of_pairs_in_order w.chain ++ (slots_of_pairs_in_order (w.before ++ w.left) ++ (slots_of_pairs_in_order ps ++ slots_of_pairs_in_order (w.right ++ w.after)))
 slots_at w ps = slots_append w.chain ((w.before ++ w.left) ++ (ps ++ (w.right ++ w.after)))
     ∙ ap (λ z. slots_of_pairs_in_order w.chain ++ z) (slots_append (w.before ++ w.left) (ps ++ (w.right ++ w.after)) ∙ ap (λ z. slots_of_pairs_in_order (w.before ++ w.left) ++ z) (slots_append ps (w.right ++ w.after)))
 
-count_at : (b : ℕ) (disk : Disk) (w : Site) (ps : List Pair) (l mid r : List Slot) → slots_of_pairs_in_order ps ≡ l ++ (mid ++ r) → occurrence_count_of_number b (file_blocks_of_slots disk (slots_of_pairs_in_order (thread_at w ps)))
+pub count_at : (b : ℕ) (disk : Disk) (w : Site) (ps : List Pair) (l mid r : List Slot) → slots_of_pairs_in_order ps ≡ l ++ (mid ++ r) → occurrence_count_of_number b (file_blocks_of_slots disk (slots_of_pairs_in_order (thread_at w ps)))
     ≡ occurrence_count_of_number b (file_blocks_of_slots disk (slots_of_pairs_in_order w.chain)) + (occurrence_count_of_number b (file_blocks_of_slots disk (slots_of_pairs_in_order (w.before ++ w.left)))
     + ((occurrence_count_of_number b (file_blocks_of_slots disk l) + (occurrence_count_of_number b (file_blocks_of_slots disk mid) + occurrence_count_of_number b (file_blocks_of_slots disk r))) + occurrence_count_of_number b (file_blocks_of_slots disk (slots_of_pairs_in_order (w.right ++ w.after)))))
 count_at b disk w ps l mid r e =

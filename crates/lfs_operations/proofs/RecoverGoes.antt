@@ -35,13 +35,13 @@ use Rattle.lfs_thread.specs.Kept.{KeptThread}
 use Rattle.lfs_thread.specs.Steps.{PowerLossLeavesPairOldOrChanged, IsPairWrittenOnDisk, complete_content_after_changes, thread_pair_at_index, thread_pairs_with_content_replaced_at_index}
 use Rattle.lfs_operations.specs.Deltas.{CanTakeOverNextPair, Is32BitPairAddressIfSome, has_hard_tail_at, delta_after_taking_over_next_pair, next_pair_takeover_changes, pair_named_by_optional_tail}
 use Rattle.lfs_operations.specs.EndingMove.{CanEndMove, HasMovedSlotInPair, has_one_slot_after_hard_tail, gstate_without_move}
-use Rattle.lfs_operations.proofs.Placing.{blocks_append}
+use Rattle.lfs_operations.proofs.Placing.{blocks_append, left_still}
 use Rattle.lfs_operations.proofs.RecoverBefore.{AreKin, IsGap, hidden, hidden_append, hidden_far, hidden_length}
-use Rattle.lfs_operations.proofs.RecoverMap.{count_used}
 use Rattle.lfs_operations.proofs.RecoverMoved.{heads}
-use Rattle.lfs_operations.proofs.RecoverPlaced.{IsAt, dropped_device, dropped_state, here_is, next_is, nothing_taken, placed_device, without_is}
+use Rattle.lfs_operations.proofs.RecoverPlaced.{IsAt, dropped_device, dropped_state, here_is, next_is, placed_device, without_is}
 use Rattle.lfs_operations.proofs.RecoverDeltas.{over_content, over_made, taken_tail, with_tail}
 use Rattle.lfs_operations.proofs.RecoverStays.{flipped, unset_is}
+use Rattle.lfs_operations.proofs.Owning.{count_used}
 
 record AreAll (a b c : Bool) : Type 0 where
   first : a ≡ true
@@ -253,8 +253,7 @@ module _ (t : KeptThread) (can : CanEndMove t) (behind : ℕ) (m : HasMovedSlotI
       go (inl e) =
           let same : is.content ≡ h.pair.content = e ∙ ap (λ (x : Pair). x.content) here in
           let still = placed_device t h.site.chain front h.pair (on.next ∷ back) (behind - 1) place (disk_with_blocks left t.disk) h.pair.content refl accepted (subst (λ c. IsPairWrittenOnDisk t (behind - 1) c (disk_with_blocks left t.disk)) same is.written) in
-          taken_before t.disk old (disk_with_blocks left t.disk) old (λ d. d) (tree_on_disk t.disk old)
-          (nothing_taken t.disk (disk_with_blocks left t.disk) h.site.chain front h.pair (on.next ∷ back) is_site.chain accepted writable still)
+          left_still t.disk left old accepted writable still (inl refl)
       go (inr k) =
           let same = same_Some is.content (over_content t (behind - 1) behind (gstate_without_move (gstate_of_pairs t.pairs))) (sym k.0 ∙ over_made t (behind - 1) behind (gstate_without_move (gstate_of_pairs t.pairs)) over address words) in
           taken_before t.disk old (disk_with_blocks left t.disk) (thread_at w (z ∷ [])) (λ d. d) (tree_on_disk t.disk old)

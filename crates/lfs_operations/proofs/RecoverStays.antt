@@ -37,10 +37,11 @@ use Rattle.lfs_thread.specs.Steps.{PowerLossLeavesPairOldOrChanged, IsPairWritte
 use Rattle.lfs_operations.specs.Deltas.{FitsGstateFields, has_hard_tail_at, delta_reaching_gstate}
 use Rattle.lfs_operations.specs.EndingMove.{CanEndMove, CanRemoveMovedSlot, HasMovedSlotInPair, has_one_slot_after_hard_tail, remove_moved_slot_changes, gstate_without_move}
 use Rattle.lfs_operations.proofs.RecoverBefore.{AreKin, hidden, hidden_append, hidden_far, kin_append}
-use Rattle.lfs_operations.proofs.RecoverMap.{count_used}
 use Rattle.lfs_operations.proofs.RecoverMoved.{in_directory}
-use Rattle.lfs_operations.proofs.RecoverPlaced.{IsAt, here_is, nothing_taken, placed_by, placed_device, set_state_is, with_is}
+use Rattle.lfs_operations.proofs.RecoverPlaced.{IsAt, here_is, placed_by, placed_device, set_state_is, with_is}
 use Rattle.lfs_operations.proofs.RecoverDeltas.{take_fits, take_made, without_content}
+use Rattle.lfs_operations.proofs.Placing.{left_still}
+use Rattle.lfs_operations.proofs.Owning.{count_used}
 
 -- the state without a move
 pub unset_fits : (g : Gstate) → FitsGstateFields (gstate_without_move g)
@@ -213,8 +214,7 @@ module _ (t : KeptThread) (can : CanEndMove t) (index : ℕ) (m : HasMovedSlotIn
       go (inl e) =
           let same : is.content ≡ h.pair.content = e ∙ ap (λ (z : Pair). z.content) here in
           let on = placed_device t h.site.chain front h.pair back index place (disk_with_blocks left t.disk) h.pair.content refl accepted (subst (λ c. IsPairWrittenOnDisk t index c (disk_with_blocks left t.disk)) same is.written) in
-          taken_before t.disk old (disk_with_blocks left t.disk) old (λ d. d) (tree_on_disk t.disk old)
-          (nothing_taken t.disk (disk_with_blocks left t.disk) h.site.chain front h.pair back h.is_site.chain accepted writable on)
+          left_still t.disk left old accepted writable on (inl refl)
       go (inr k) =
           let same = same_Some is.content (without_content t index G.id (gstate_without_move (gstate_of_pairs t.pairs))) (sym k.0 ∙ take_made t index G.id (gstate_without_move (gstate_of_pairs t.pairs)) take address) in
           taken_before t.disk old (disk_with_blocks left t.disk) (thread_at h.site (y ∷ [])) (λ d. d) (tree_on_disk t.disk old)

@@ -25,8 +25,9 @@ use Rattle.lfs_model.proofs.Unthreaded.{IsReady, IsUnthreaded, Unthreads, unthre
 use Rattle.lfs_thread.specs.Kept.{KeptThread}
 use Rattle.lfs_thread.specs.Steps.{PowerLossLeavesPairOldOrChanged, IsPairWrittenOnDisk, complete_content_after_changes, thread_pair_at_index, thread_pairs_with_content_replaced_at_index}
 use Rattle.lfs_operations.specs.Deltas.{CanSetGstateInPair, CanTakeOverNextPair, Is32BitPairAddressIfSome, gstate_setting_changes, delta_reaching_gstate, delta_after_taking_over_next_pair, next_pair_takeover_changes, pair_named_by_optional_tail}
-use Rattle.lfs_operations.proofs.RecoverPlaced.{IsAt, dropped_device, dropped_state, here_is, next_is, nothing_taken, placed_device, set_state_is, with_is}
+use Rattle.lfs_operations.proofs.RecoverPlaced.{IsAt, dropped_device, dropped_state, here_is, next_is, placed_device, set_state_is, with_is}
 use Rattle.lfs_operations.proofs.RecoverDeltas.{over_content, over_made, set_content, set_made, taken_tail, with_move}
+use Rattle.lfs_operations.proofs.Placing.{left_still}
 
 -- ---- a pair takes over the tail and the delta of one that no path leads to
 
@@ -84,8 +85,7 @@ module _ (t : KeptThread) (chain front : List Pair) (before x : Pair) (todo : Li
       go (inl e) =
           let same : is.content ≡ before.content = e ∙ ap (λ (z : Pair). z.content) first_is in
           let on = placed_device t chain front before (x ∷ todo) index k (disk_with_blocks left t.disk) before.content refl ready.accepted (subst (λ c. IsPairWrittenOnDisk t index c (disk_with_blocks left t.disk)) same is.written) in
-          taken_before t.disk old (disk_with_blocks left t.disk) old (λ d. d) (tree_on_disk t.disk old)
-          (nothing_taken t.disk (disk_with_blocks left t.disk) chain front before (x ∷ todo) ready.is_chain ready.accepted ready.writable on)
+          left_still t.disk left old ready.accepted ready.writable on (inl refl)
       go (inr m) =
           let same : is.content ≡ over_content t index behind g = same_Some is.content (over_content t index behind g) (sym m.0 ∙ over_made t index behind g can address words) in
           taken_before t.disk old (disk_with_blocks left t.disk) (chain ++ (front ++ q ∷ todo)) (λ d. d) (tree_on_disk t.disk old)
@@ -177,8 +177,7 @@ module _ (t : KeptThread) (index : ℕ) (can : CanClear t index) where
           let same : is.content ≡ h.pair.content = e ∙ ap (λ (z : Pair). z.content) (here_is t h.site.chain (h.site.before ++ h.site.left) h.pair (h.site.right ++ h.site.after) index place) in
           let on = placed_device t h.site.chain (h.site.before ++ h.site.left) h.pair (h.site.right ++ h.site.after) index place (disk_with_blocks left t.disk) h.pair.content refl accepted
           (subst (λ c. IsPairWrittenOnDisk t index c (disk_with_blocks left t.disk)) same is.written) in
-          taken_before t.disk old (disk_with_blocks left t.disk) old (λ d. d) (tree_on_disk t.disk old)
-          (nothing_taken t.disk (disk_with_blocks left t.disk) h.site.chain (h.site.before ++ h.site.left) h.pair (h.site.right ++ h.site.after) h.is_site.chain accepted fits on)
+          left_still t.disk left old accepted fits on (inl refl)
       go (inr m) =
           let same : is.content ≡ set_content t index zero_gstate = same_Some is.content (set_content t index zero_gstate) (sym m.0 ∙ set_made t index zero_gstate set address) in
           taken_before t.disk old (disk_with_blocks left t.disk) (thread_at h.site (y ∷ [])) (λ d. d) (tree_on_disk t.disk old)

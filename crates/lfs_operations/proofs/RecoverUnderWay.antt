@@ -43,6 +43,7 @@ use Rattle.lfs_operations.proofs.RecoverDeltas.{over_content, over_made}
 use Rattle.lfs_operations.proofs.RecoverWrites.{two_fewer, writes_fewer, writes_none}
 use Rattle.lfs_operations.proofs.UnlinkedSteps.{writes_trans}
 use Rattle.lfs_operations.proofs.RecoverSteps.{IsUnled, over_left, over_on, state_now}
+use Rattle.lfs_operations.proofs.Threads.{get_behind}
 
 -- ---- the device
 
@@ -64,10 +65,6 @@ pub stays_by : (bs : List ℕ) (a b : KeptThread) → ThreadChangesOnlyTheseBloc
 stays_by bs a b w = record { shape = w.shape; calls = IsTrueOfEachCallSince-weaker (λ e k. tt) w.at_worst }
 
 -- ---- the beginning
-
-get_behind : (xs : List Pair) (p : Pair) (ys : List Pair) → slice_get (xs ++ p ∷ ys) (length xs) ≡ Some p
-get_behind [] p ys = refl
-get_behind (x ∷ xs) p ys = get_behind xs p ys
 
 ends_on : (from : Option (ℕ × ℕ)) (p : Pair) (ps : List Pair) → Ends (p ∷ ps) → onward_all from (p ∷ ps) ≡ None
 ends_on from p [] h = ap (λ b. cond b (Some (directory_address_of_pair from p)) None) h

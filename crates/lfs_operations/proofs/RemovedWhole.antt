@@ -37,11 +37,12 @@ use Rattle.lfs_thread.specs.Steps.{IsPairWrittenOnDisk, thread_pair_at_index, bl
 use Rattle.lfs_operations.specs.Dropping.{CanDropPairAt, IsNextPairDropped, ShowsTreeAfterPairDrops, IsLeftByStoppedPairDrop, HasSameBlocksInFlight, tail_over_dropped_pair, content_after_next_pair_drop}
 use Rattle.lfs_operations.specs.Editing.{CanEditEntryOfPair, slot_of_editable_entry}
 use Rattle.lfs_operations.specs.Removing.{IsFileRemoved, is_pair_dropped_with_slot, tree_without_named_entry}
-use Rattle.lfs_operations.proofs.Dropped.{device_dropped, device_kept, dropped_count, flying_same, length_fewer, profile_same, used_fewer}
+use Rattle.lfs_operations.proofs.Dropped.{device_dropped, device_kept, dropped_count, flying_same, length_fewer, used_fewer}
 use Rattle.lfs_operations.proofs.DroppedTails.{front_is, gone_is, gstate_is, no_move_state, without_is}
 use Rattle.lfs_operations.proofs.Held.{below, here}
-use Rattle.lfs_operations.proofs.Placing.{nothing_came}
+use Rattle.lfs_operations.proofs.Placing.{left_after, left_still}
 use Rattle.lfs_operations.proofs.RootStays.{root_stays}
+use Rattle.lfs_operations.proofs.Threads.{get_behind}
 
 -- ---- the pair in front
 
@@ -54,10 +55,6 @@ pub last_pair : (xs : List Pair) → xs ≢ [] → LastPair xs
 last_pair [] n = absurd (n refl)
 last_pair (x ∷ []) n = record { front = []; last = x; is = refl }
 last_pair (x ∷ y ∷ xs) n = let l = last_pair (y ∷ xs) (λ e. absurd (cc)) in record { front = x ∷ l.front; last = l.last; is = ap (λ z. x ∷ z) l.is }
-
-get_behind : (xs : List Pair) (p : Pair) (ys : List Pair) → slice_get (xs ++ p ∷ ys) (length xs) ≡ Some p
-get_behind [] p ys = refl
-get_behind (x ∷ xs) p ys = get_behind xs p ys
 
 -- a pair that isn't the first of its directory has others in front of it there
 not_alone : (chain before left tail : List Pair) (p : Pair) (a : ℕ × ℕ) (first : ℕ) → IsDistinct nat_eq (blocks_of_pairs (chain ++ ((before ++ left) ++ p ∷ tail))) → same_pair (first_pair_address (left ++ p ∷ [])) a ≡ true
@@ -343,25 +340,12 @@ module _ (t : KeptThread) (index id first : ℕ) (can : CanEditEntryOfPair t ind
         go : (h.content ≡ (thread_pair_at_index t (index - 1)).content) ⊎ (h.content ≡ content_after_next_pair_drop t (index - 1) zero_gstate) → IsLeftOf (disk_with_blocks left t.disk) (tree_on_disk t.disk t.pairs) (turn (tree_on_disk t.disk t.pairs))
         go (inl e) =
             let same = e ∙ ap (λ (z : Pair). z.content) front_there in
-            let d = device_kept t (index - 1) ahead x o back is number (subst (IsAcceptedImage t.disk) is can.ready.accepted) (disk_with_blocks left t.disk) x.content refl
-            (subst (λ y. IsPairWrittenOnDisk t (index - 1) y (disk_with_blocks left t.disk)) same h.written) in
-            let on = subst (λ z. IsDevice t.disk (disk_with_blocks left t.disk) z z) (sym is ∙ there_before) d in
-            let f = nothing_came t.disk (disk_with_blocks left t.disk) v o site_before (subst (IsAcceptedImage t.disk) there_before can.ready.accepted) on in
-            record {
-              pairs = thread_at v (o ∷ []);
-              accepted = f.accepted;
-              writable = profile_same t.disk (disk_with_blocks left t.disk) (thread_at v (o ∷ [])) refl refl refl (subst (IsWritableImage t.disk) there_before can.ready.writable);
-              tree = inl (f.shows ∙ ap (tree_on_disk t.disk) (sym there_before));
-            }
+            left_still t.disk left t.pairs can.ready.accepted can.ready.writable (subst (λ z. IsDevice t.disk (disk_with_blocks left t.disk) z z) (sym is)
+            (device_kept t (index - 1) ahead x o back is number (subst (IsAcceptedImage t.disk) is can.ready.accepted) (disk_with_blocks left t.disk) x.content refl (subst (λ y. IsPairWrittenOnDisk t (index - 1) y (disk_with_blocks left t.disk)) same h.written)))
+            (inl refl)
         go (inr e) =
             let written = subst (λ y. IsPairWrittenOnDisk t (index - 1) y (disk_with_blocks left t.disk)) e h.written in
-            let f = follows (disk_with_blocks left t.disk) written in
-            record {
-              pairs = thread_at w (q ∷ []);
-              accepted = f.accepted;
-              writable = drop_writable t.disk (disk_with_blocks left t.disk) w x o q u (drop_on (disk_with_blocks left t.disk) written);
-              tree = inr (f.shows ∙ ap (λ z. turn (tree_on_disk t.disk z)) (sym there));
-            }
+            left_after (record { follows = follows (disk_with_blocks left t.disk) written; writable = drop_writable t.disk (disk_with_blocks left t.disk) w x o q u (drop_on (disk_with_blocks left t.disk) written) }) (inr (ap (λ z. turn (tree_on_disk t.disk z)) (sym there)))
 
     pub whole_survives : (new : List DeviceCallEvent) → PowerLossLeavesSuchBlocksAfterCleanErases t.history new (IsLeftByStoppedPairDrop t (index - 1) zero_gstate)
         → SurvivesPowerLossInCallsSince t.disk t.history new (tree_on_disk t.disk t.pairs) (tree_without_named_entry t can.path can.name)

@@ -45,7 +45,7 @@ use Rattle.lfs_operations.specs.Renaming.{id_after_slot_removal, tree_with_renam
 use Rattle.lfs_operations.specs.RenamingOver.{CanReplaceDirectoryInPair, IsDirectoryReplacedInPair, replace_directory_in_pair_changes}
 use Rattle.lfs_operations.specs.RenamingSlots.{HasSlotOfId, NamelessSlot, nameless_slot_of, slot_creation_changes}
 use Rattle.lfs_operations.proofs.Held.{CompletesTo, below, here, raw_there}
-use Rattle.lfs_operations.proofs.Placing.{IsPlaced as IsPlacedOn, all_apart, device, nothing_came}
+use Rattle.lfs_operations.proofs.Placing.{IsPlaced as IsPlacedOn, all_apart, device, left_after, left_still}
 use Rattle.lfs_operations.proofs.RenameMade as made
 use Rattle.lfs_operations.proofs.RenameMade.{ComesAhead, ComesBehind, Leaves, behind_or_ahead}
 use Rattle.lfs_operations.proofs.RenameOnto.{onto_ahead_follows, onto_behind_follows}
@@ -460,22 +460,11 @@ module _ (t : KeptThread) (index id place : ℕ) (name : Name) (rename : CanRepl
       go (inl e) =
           let same = e ∙ ap (λ (z : Pair). z.content) (here t can.ready can.first index p can.stands.rest can.stands.place) in
           let ok = subst (IsAcceptedImage t.disk) there can.ready.accepted in
-          let f = nothing_came t.disk (disk_with_blocks left t.disk) w p has_over.placed.site ok
-          (device t.disk (disk_with_blocks left t.disk) w p p [] [] ok ok.owned_once (placed_on has_over (disk_with_blocks left t.disk) p.content (λ z. (z.kind, z.name)) (subst (λ z. IsPairWrittenOnDisk t index z (disk_with_blocks left t.disk)) same is.written))) in
-          record {
-            pairs = thread_at w (p ∷ []);
-            accepted = f.accepted;
-            writable = (let o = subst (IsWritableImage t.disk) there can.ready.writable in record { pairs = o.pairs; slots = o.slots; no_empty_pair = o.no_empty_pair });
-            tree = inl (f.shows ∙ ap (tree_on_disk t.disk) (sym there));
-          }
-      go (inr m) =
-          let done = taken has_over (disk_with_blocks left t.disk) (subst (λ z. IsPairWrittenOnDisk t index z (disk_with_blocks left t.disk)) (same_made is.content m.0) is.written) in
-          record {
-            pairs = thread_at w (q has_over ∷ []);
-            accepted = done.follows.accepted;
-            writable = done.writable;
-            tree = inr (done.follows.shows ∙ ap (λ z. tree_after_rename (can.path ++ can.name ∷ []) (can.path ++ name ∷ []) (tree_on_disk t.disk z)) (sym there));
-          }
+          left_still t.disk left (thread_at w (p ∷ [])) ok (subst (IsWritableImage t.disk) there can.ready.writable)
+          (device t.disk (disk_with_blocks left t.disk) w p p [] [] ok ok.owned_once (placed_on has_over (disk_with_blocks left t.disk) p.content (λ z. (z.kind, z.name)) (subst (λ z. IsPairWrittenOnDisk t index z (disk_with_blocks left t.disk)) same is.written)))
+          (inl (ap (tree_on_disk t.disk) (sym there)))
+      go (inr m) = left_after (taken has_over (disk_with_blocks left t.disk) (subst (λ z. IsPairWrittenOnDisk t index z (disk_with_blocks left t.disk)) (same_made is.content m.0) is.written))
+          (inr (ap (λ z. tree_after_rename (can.path ++ can.name ∷ []) (can.path ++ name ∷ []) (tree_on_disk t.disk z)) (sym there)))
 
   pub over_survives : (new : List DeviceCallEvent) → PowerLossLeavesSuchBlocksAfterCleanErases t.history new (PowerLossLeavesPairOldOrChanged t index (replace_directory_in_pair_changes t index id place name))
       → SurvivesPowerLossInCallsSince t.disk t.history new (tree_on_disk t.disk t.pairs) (tree_with_renamed_entry t rename.can.path rename.can.name name)

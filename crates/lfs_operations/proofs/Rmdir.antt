@@ -31,7 +31,7 @@ use Rattle.lfs_model.proofs.Sites.{Site, begin_of, dirs_at, thread_at}
 use Rattle.lfs_model.proofs.Splices.{IsDevice, count_files, file_blocks_of_slots, slots_of_pairs_in_order, unmoved_in}
 use Rattle.lfs_model.proofs.StepsTaken.{IsWritableImageAfterTreeChange}
 use Rattle.lfs_operations.specs.Dropping.{tail_over_dropped_pair}
-use Rattle.lfs_operations.proofs.Dropped.{count_used, slots_append}
+use Rattle.lfs_operations.proofs.Owning.{count_used, slots_append}
 use Rattle.lfs_operations.proofs.Placing.{blocks_append}
 use Rattle.lfs_operations.proofs.RmdirPlaces.{Ahead, Behind, Itself, Next, WhereIs, soft_end, where_is}
 

@@ -25,6 +25,7 @@ use Rattle.lfs_model.proofs.Uses.{accepted_sound}
 use Rattle.lfs_model.proofs.Walks.{leads_below}
 use Rattle.lfs_model.proofs.Writable.{ends_in_hard_tail}
 use Rattle.lfs_operations.proofs.RemovedWhole.{last_pair}
+use Rattle.lfs_operations.proofs.Threads.{get_behind}
 
 -- ---- lists
 
@@ -32,10 +33,6 @@ pub get_some : (xs : List Pair) (n : ℕ) (d : Pair) → n < length xs → slice
 get_some [] n d l = absurd (omega arith)
 get_some (x ∷ xs) zero d l = refl
 get_some (x ∷ xs) (suc n) d l = get_some xs n d (omega arith)
-
-get_behind : (xs : List Pair) (p : Pair) (ys : List Pair) → slice_get (xs ++ p ∷ ys) (length xs) ≡ Some p
-get_behind [] p ys = refl
-get_behind (x ∷ xs) p ys = get_behind xs p ys
 
 -- Where the pair p stands, beside two others of the same list that stand one behind the other.
 pub data WhereIs (xs : List Pair) (p : Pair) (ys front : List Pair) (x o : Pair) (back : List Pair) : Type 0 where

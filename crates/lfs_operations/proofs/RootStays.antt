@@ -13,6 +13,7 @@ use Rattle.lfs_thread.specs.Kept.{KeptThread}
 use Rattle.lfs_thread.specs.Steps.{empty_pair_at_anchor}
 use Rattle.lfs_operations.specs.MoveEnds.{CanEndMoveAt, HasEndedMoveAt, content_after_move_ends, is_pair_named_by_hard_tail, pairs_after_move_ends}
 use Rattle.lfs_operations.specs.Ready.{KeepsPairCountBeforeRoot}
+use Rattle.lfs_operations.proofs.Threads.{get_behind}
 
 -- the pair of that number has that address
 abbrev HasAddress : List Pair → ℕ → ℕ × ℕ → Type 0
@@ -43,10 +44,6 @@ number_of_root disk ps n ok (p, (there, at)) =
 two_links : (at : Option (ℕ × ℕ)) (chain dirs news : List Pair) → AreLinkedByTails at (chain ++ dirs) → AreLinkedByTails at (chain ++ news) → (to : Option (ℕ × ℕ)) × (AreLinkedByTails to dirs × AreLinkedByTails to news)
 two_links at [] dirs news l m = (at, (l, m))
 two_links at (c ∷ chain) dirs news l m = two_links (pair_address_named_by_tail c.content.tail) chain dirs news l.1 m.1
-
-get_behind : (chain : List Pair) (p : Pair) (ps : List Pair) → slice_get (chain ++ p ∷ ps) (length chain) ≡ Some p
-get_behind [] p ps = refl
-get_behind (c ∷ chain) p ps = get_behind chain p ps
 
 first_there : (chain : List Pair) (to : Option (ℕ × ℕ)) (dirs news : List Pair) → AreLinkedByTails to dirs → AreLinkedByTails to news → starts_with_superblock (first_pair_slots dirs) ≡ true → HasAddress (chain ++ news) (length chain) (first_pair_address dirs)
 first_there chain to [] news l m e = absurd (cc)

@@ -32,22 +32,9 @@ use Rattle.lfs_operations.specs.Changing.{AreTwoFreeBlocks}
 use Rattle.lfs_operations.specs.Ready.{IsImageReadyForChange}
 use Rattle.lfs_operations.proofs.Placing.{IsPlaced, all_apart, blocks_append, device}
 use Rattle.lfs_operations.proofs.Taking.{within}
+use Rattle.lfs_operations.proofs.Threads.{set_at, get_at, insert_at}
 
 -- ---- places in the thread
-
-set_at : (xs : List Pair) (p : Pair) (zs : List Pair) (q : Pair) → set (xs ++ p ∷ zs) (length xs) q ≡ xs ++ q ∷ zs
-set_at [] p zs q = refl
-set_at (x ∷ xs) p zs q = ap (λ z. x ∷ z) (set_at xs p zs q)
-
-get_at : (xs : List Pair) (p : Pair) (zs : List Pair) (d : Pair) → get_or (xs ++ p ∷ zs) (length xs) d ≡ p
-get_at [] p zs d = refl
-get_at (x ∷ xs) p zs d = get_at xs p zs d
-
-insert_at : (xs : List Pair) (q : Pair) (zs : List Pair) (f : Pair) → insert (xs ++ q ∷ zs) (length xs + 1) f ≡ xs ++ q ∷ f ∷ zs
-insert_at [] q zs f = refl
-insert_at (x ∷ xs) q zs f =
-    let e : suc (length xs) + 1 ≡ suc (length xs + 1) = omega arith in
-    ap (λ (n : ℕ). insert (x ∷ (xs ++ q ∷ zs)) n f) e ∙ ap (λ z. x ∷ z) (insert_at xs q zs f)
 
 -- ---- what is known before
 

@@ -8,14 +8,13 @@ use Rattle.lfs_model.specs.Blocks.{Blocks}
 use Rattle.lfs_model.specs.BlockSets.{AreExactlyTheUsedBlocks, IsBlockFree, IsBlockInFlight}
 use Rattle.lfs_model.specs.Changes.{PairContentChange}
 use Rattle.lfs_model.specs.Content.{content_of_pair_at}
-use Rattle.lfs_model.specs.declared.limits.Profile.{Profile}
 use Rattle.lfs_model.specs.Disk.{Disk, block_count}
 use Rattle.lfs_model.specs.PowerLoss.{HasTreeBeforeOrAfterOperation as IsLeftOf, SurvivesPowerLossInCallsSince, disk_with_blocks}
 use Rattle.lfs_model.specs.Slots.{Slot, PairContent, IsContentFittingPair}
 use Rattle.lfs_model.specs.Thread.{Pair, blocks_of_pairs, gstate_of_pairs, pair_count_before_root}
 use Rattle.lfs_model.specs.Tree.{Tree}
 use Rattle.lfs_model.specs.View.{IsAcceptedImage}
-use Rattle.lfs_model.specs.Profile.{IsWritableImage, IsSlotWithinWritableLimits}
+use Rattle.lfs_model.specs.Profile.{IsWritableImage}
 use Rattle.lfs_model.specs.Shown.{all_slots_not_moved, tree_on_disk, used_blocks}
 use Rattle.lfs_model.proofs.BlockSets.{Contains-occurrence_count_of_number, occurrence_count_of_number-Contains}
 use Rattle.lfs_model.proofs.Changes.{IsImageAfterTreeChange, SameFiles}
@@ -34,7 +33,7 @@ use Rattle.lfs_thread.specs.Steps.{thread_pair_at_index, complete_content_after_
 use Rattle.lfs_operations.specs.Changing.{IsPairSplitInto, IsLeftByStoppedChangeOrSplit, IsPairChangedOrSplit, IsChangedContentTooLarge}
 use Rattle.lfs_operations.specs.Ready.{AreUsedBlocksBeforeMapIsUpdated, ShowsTreeReadyForChange, ShowsTreeReadyOnceMapIsUpdated, HasNoNewBlockInFlight, KeepsStatesOfTakenBlocks}
 use Rattle.lfs_operations.proofs.Owning.{count_pairs, length_now, none_comes_now, stay_taken, used_count_now, used_more, used_same}
-use Rattle.lfs_operations.proofs.Placing.{device, nothing_came}
+use Rattle.lfs_operations.proofs.Placing.{device, left_after, left_still}
 use Rattle.lfs_operations.proofs.RootStays.{root_stays}
 use Rattle.lfs_operations.proofs.Splicing.{AreOn, Commits, IsSplicing, cut_front, accepted, at_is, commit_one, commit_two, fresh_distinct, one_now, pair_is, placed_one, placed_still, two_now}
 
@@ -56,14 +55,6 @@ pub record HasStep (t : KeptThread) (w : Site) (p : Pair) (l olds news r : List 
   pub size : length new.map ≡ block_count new.disk
   pub stays : KeepsStatesOfTakenBlocks t.map new.map
   pub none_comes : HasNoNewBlockInFlight t.map new.map
-
-writable_same : (disk new : Disk) (ps : List Pair) → new.block_size ≡ disk.block_size → new.page ≡ disk.page → new.profile ≡ disk.profile → IsWritableImage disk ps → IsWritableImage new ps
-writable_same disk new ps e f g h = record {
-  pairs = subst (λ (n : ℕ). All (λ p. IsContentFittingPair n new.page p.content) ps) (sym e) (subst (λ (n : ℕ). All (λ p. IsContentFittingPair disk.block_size n p.content) ps) (sym f) h.pairs);
-  slots = subst (λ (x : Profile). All (λ p. All (IsSlotWithinWritableLimits x new.block_size new.page) p.content.slots) ps) (sym g)
-      (subst (λ (n : ℕ). All (λ p. All (IsSlotWithinWritableLimits disk.profile n new.page) p.content.slots) ps) (sym e) (subst (λ (n : ℕ). All (λ p. All (IsSlotWithinWritableLimits disk.profile disk.block_size n) p.content.slots) ps) (sym f) h.slots));
-  no_empty_pair = h.no_empty_pair;
-}
 
 module _ (t : KeptThread) (index : ℕ) (changes : List PairContentChange) (w : Site) (p : Pair) (l olds news r : List Slot) (gone come : List ℕ) (k : IsSplicing t index changes w p l olds news r gone come) where
   made_same : (c : PairContent) → complete_content_after_changes t index changes ≡ Some c → c ≡ k.content
@@ -218,22 +209,10 @@ module _ (t : KeptThread) (index : ℕ) (changes : List PairContentChange) (w : 
   left_tree change follow filled left is = go (left_step left is)
     where
       go : Stays (disk_with_blocks left t.disk) ⊎ HasCommit t w p l olds news r come (disk_with_blocks left t.disk) → IsLeftOf (disk_with_blocks left t.disk) (tree_on_disk t.disk t.pairs) (change (tree_on_disk t.disk t.pairs))
-      go (inl d) =
-          let f = nothing_came t.disk (disk_with_blocks left t.disk) w p k.site (accepted t index changes w p l olds news r gone come k) d in
-          record {
-            pairs = thread_at w (p ∷ []);
-            accepted = f.accepted;
-            writable = writable_same t.disk (disk_with_blocks left t.disk) (thread_at w (p ∷ [])) refl refl refl (subst (IsWritableImage t.disk) k.there k.ready.writable);
-            tree = inl (f.shows ∙ ap (tree_on_disk t.disk) (sym k.there));
-          }
+      go (inl d) = left_still t.disk left (thread_at w (p ∷ [])) (accepted t index changes w p l olds news r gone come k) (subst (IsWritableImage t.disk) k.there k.ready.writable) d (inl (ap (tree_on_disk t.disk) (sym k.there)))
       go (inr h) =
-          let f = (follow (disk_with_blocks left t.disk) h.q h.more h.commit).1 in
-          record {
-            pairs = thread_at w (h.q ∷ h.more);
-            accepted = f.accepted;
-            writable = commit_writable t.disk (disk_with_blocks left t.disk) w p h.q h.more come l olds news r h.commit.commit filled;
-            tree = inr (f.shows ∙ ap (λ z. change (tree_on_disk t.disk z)) (sym k.there));
-          }
+          let f = follow (disk_with_blocks left t.disk) h.q h.more h.commit in
+          left_after {walk = f.0} (record { follows = f.1; writable = commit_writable t.disk (disk_with_blocks left t.disk) w p h.q h.more come l olds news r h.commit.commit filled }) (inr (ap (λ z. change (tree_on_disk t.disk z)) (sym k.there)))
 
   pub survives : (change : Tree → Tree) → AllFollow change → (ends_in_hard_tail false (w.before ++ w.left) ≡ true → l ++ (news ++ r) ≢ []) → (new : List DeviceCallEvent) → PowerLossLeavesSuchBlocksAfterCleanErases t.history new (IsLeftByStoppedChangeOrSplit t index changes)
       → SurvivesPowerLossInCallsSince t.disk t.history new (tree_on_disk t.disk t.pairs) (change (tree_on_disk t.disk t.pairs))

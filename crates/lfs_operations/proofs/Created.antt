@@ -45,7 +45,8 @@ use Rattle.lfs_operations.specs.Changing.{IsPairNotKeptUnchanged, CanChangeOrSpl
 use Rattle.lfs_operations.specs.Creating.{CanCreateFileInPair, IsFileCreated, file_creation_changes, tree_with_new_file}
 use Rattle.lfs_operations.proofs.Altered.{commit_alters}
 use Rattle.lfs_operations.proofs.Held.{CompletesTo, below, fits_there, here, raw_there}
-use Rattle.lfs_operations.proofs.Splicing.{Commits, IsSplicing, pair_is}
+use Rattle.lfs_operations.proofs.Splicing.{Commits, IsSplicing}
+use Rattle.lfs_operations.proofs.Threads.{pair_is}
 use Rattle.lfs_operations.proofs.Stepped.{HasStep, becomes, put_step, ready_again, survives}
 use Rattle.lfs_operations.proofs.RenameSlots.{name_length}
 
@@ -195,7 +196,7 @@ module _ (t : KeptThread) (index id : ℕ) (name : Name) (can : CanCreateFileInP
       go : HasStep t w p b.left [] (u ∷ []) b.right [] [] new → ⊥
       go s = commit_alters t.disk new.disk w p s.q [] b.left [] (u ∷ []) b.right (λ e. absurd (omega arith)) s.more
           (subst (IsAcceptedImage new.disk) s.pairs (created new is).now.ready.accepted) s.commit.commit
-          (subst (λ z. Contains z p) s.pairs (subst (Contains new.pairs) (pair_is t index (file_creation_changes id name) w p b.left [] (u ∷ []) b.right [] [] splicing) has))
+          (subst (λ z. Contains z p) s.pairs (subst (Contains new.pairs) (pair_is t index w p splicing.there splicing.place) has))
 
   pub create_survives : (new : List DeviceCallEvent) → PowerLossLeavesSuchBlocksAfterCleanErases t.history new (IsLeftByStoppedChangeOrSplit t index (file_creation_changes id name)) → SurvivesPowerLossInCallsSince t.disk t.history new (tree_on_disk t.disk t.pairs) (tree_with_new_file t can.path name)
   create_survives new stops = survives t index (file_creation_changes id name) w p b.left [] (u ∷ []) b.right [] [] splicing (tree_after_creation (can.path ++ name ∷ []) (FileNode [] []))

@@ -27,7 +27,6 @@ pub mod MovStep
 pub mod MakingContents
 pub mod MakingExamples
 pub mod MakingCounts
-pub mod MakingPlaces
 pub mod MakingEntered
 pub mod MakingThreaded
 pub mod MakingReported

@@ -34,7 +34,7 @@ use Rattle.lfs_operations.specs.Changing.{AreTwoFreeBlocks, map_with_two_blocks_
 use Rattle.lfs_operations.specs.Making.{changes_threading_new_pair}
 use Rattle.lfs_operations.specs.Ready.{IsImageReadyForChange}
 use Rattle.lfs_operations.proofs.MakingCounts.{used_count_now}
-use Rattle.lfs_operations.proofs.MakingPlaces.{at_is, fresh_distinct, fresh_range, pair_is, placed_still, same_four, shape_same, two_now}
+use Rattle.lfs_operations.proofs.Threads.{at_is, fresh_distinct, fresh_range, pair_is, placed_still, same_four, shape_same, two_now}
 use Rattle.lfs_operations.proofs.Owning.{count_pairs, length_now, used_more}
 use Rattle.lfs_operations.proofs.Placing.{IsPlaced, all_apart, device, left_still}
 use Rattle.lfs_operations.proofs.Putting.{with_map}

@@ -46,7 +46,7 @@ use Rattle.lfs_operations.proofs.AlteredTails.{other_tail}
 use Rattle.lfs_operations.proofs.MakingCounts.{freed, less_room, no_room}
 use Rattle.lfs_operations.proofs.MakingContents.{can_name, logged_there, named_made, threaded_made}
 use Rattle.lfs_operations.proofs.MakingEntered.{Enters, HasEntered, HasEntry, IsEntering, Stays, entered, left_entered}
-use Rattle.lfs_operations.proofs.MakingPlaces.{below, pair_is}
+use Rattle.lfs_operations.proofs.Threads.{below, pair_is}
 use Rattle.lfs_operations.proofs.MakingRoutes.{IsAhead, IsOne, IsRoute, route, run_right, site_behind}
 use Rattle.lfs_operations.proofs.MakingThreaded.{HasThreaded, entries_still, first_taken, fits_now, fresh_pair, has_threaded, left_beside, left_threading, naming_pair, put_there, settled_there, state_now, sync_now}
 use Rattle.lfs_operations.proofs.Owning.{none_comes_now, stay_taken}

@@ -1,30 +1,26 @@
 -- A set move ends where the slot that it hides is all that its pair holds: the pair goes with it, and the one in front of it takes over its tail.
-use Rattle.std.proofs.Common.{ℕ, ◌≡◌, ◌+◌, true, false, cond, nat_eq, ◌&&◌, List, [], ◌∷◌, ◌++◌, refl, sym, ap, ap₂, subst, ◌∙◌, arith, flat_map, append_assoc, remove}
+use Rattle.std.proofs.Common.{ℕ, ◌≡◌, ◌+◌, true, false, cond, nat_eq, ◌&&◌, List, [], ◌∷◌, ◌++◌, sym, ap, ap₂, subst, ◌∙◌, arith, flat_map, append_assoc, remove}
 use Rattle.std.specs.List.{IsDistinct}
-use Rattle.std.proofs.lemmas.List.Concat.{flat_map-append}
-use Rattle.std.proofs.lemmas.List.Elements.{recursion_from_All}
 use Rattle.lfs_model.specs.Disk.{Disk}
 use Rattle.lfs_model.specs.Slots.{Slot, Gstate, is_superblock, same_pair}
 use Rattle.lfs_model.specs.Thread.{Pair, blocks_of_pairs, gstate_of_pairs, starts_with_superblock, slots_not_moved}
 use Rattle.lfs_model.specs.View.{IsAcceptedImage}
 use Rattle.lfs_model.specs.Profile.{IsWritableImage}
-use Rattle.lfs_model.specs.Shown.{all_slots_not_moved, directories_in_thread, used_blocks}
+use Rattle.lfs_model.specs.Shown.{directories_in_thread, used_blocks}
 use Rattle.lfs_model.specs.Slots.{gstate_kind_of_set_move}
-use Rattle.lfs_model.proofs.Changes.{slots_files}
-use Rattle.lfs_model.proofs.Counts.{Each, each_append, each_left, each_right, each_weaker, occurrence_count_of_number, count_append}
-use Rattle.lfs_model.proofs.Files.{HasSameFileBlocksOfStructOnDisks}
+use Rattle.lfs_model.proofs.Counts.{Each, each_append, each_left, each_right, each_weaker, occurrence_count_of_number}
 use Rattle.lfs_model.proofs.Global.{HasNoMove}
 use Rattle.lfs_model.proofs.Listings.{flip_false}
 use Rattle.lfs_model.proofs.Pairs.{pair_back}
 use Rattle.lfs_model.proofs.Rests.{IsMoveEnd, move_ends, unmoved_elsewhere}
 use Rattle.lfs_model.proofs.Searches.{avoids_behind, avoids_front}
-use Rattle.lfs_model.proofs.Sites.{Site, dirs_at, thread_at, IsSite}
-use Rattle.lfs_model.proofs.Splices.{drop_shape, file_blocks_of_slots, slots_of_pairs_in_order, unmoved_in, IsDevice}
+use Rattle.lfs_model.proofs.Sites.{Site, thread_at, IsSite}
+use Rattle.lfs_model.proofs.Splices.{drop_shape, IsDevice}
 use Rattle.lfs_model.proofs.StepsTaken.{IsWritableImageAfterTreeChange, end_drop_taken}
 use Rattle.lfs_model.proofs.MoveSets.{addresses_of_first_pairs_of_directories}
 use Rattle.lfs_operations.proofs.MovFirsts.{end_firsts}
 use Rattle.lfs_operations.specs.EndingMove.{gstate_without_move}
-use Rattle.lfs_operations.proofs.Placing.{blocks_append}
+use Rattle.lfs_operations.proofs.MovEnd.{end_count}
 
 -- At the site stand p and o behind it, joined by a hard tail, and the move hides o's only slot u.
 pub record IsEndingWhole (disk : Disk) (w : Site) (p o : Pair) (u : Slot) : Type 0 where
@@ -85,10 +81,6 @@ module _ (disk : Disk) (w : Site) (p o : Pair) (u : Slot) (k : IsEndingWhole dis
   hides : slots_not_moved g o ≡ []
   hides = ap₂ (λ k b. cond (nat_eq k 0x4ff && b) (remove o.content.slots g.id) o.content.slots) k.kind k.pair ∙ ap₂ (λ s i. remove s i) k.held k.id
 
-  hidden_none : (ss : List Pair) → Each Far ss → flat_map (slots_not_moved g) ss ≡ slots_of_pairs_in_order ss
-  hidden_none [] h = refl
-  hidden_none (s ∷ ss) h = ap₂ (λ x y. x ++ y) (unmoved_elsewhere g s h.0) (hidden_none ss h.1)
-
   hidden_two : flat_map (slots_not_moved g) (p ∷ o ∷ []) ≡ p.content.slots ++ []
   hidden_two = ap₂ (λ x y. x ++ (y ++ [])) (unmoved_elsewhere g p far_p) hides
 
@@ -121,33 +113,9 @@ module _ (disk : Disk) (w : Site) (p o : Pair) (u : Slot) (k : IsEndingWhole dis
     pub whole_firsts : addresses_of_first_pairs_of_directories (directories_in_thread (thread_at w (q ∷ []))) ≡ addresses_of_first_pairs_of_directories (directories_in_thread (thread_at w (p ∷ o ∷ [])))
     whole_firsts = end_firsts disk new w p (o ∷ []) q [] p.content.slots u [] whole_step
 
-    -- ---- the blocks that the image uses
-
-    slots_three : (f : Pair → List Slot) (zs : List Pair) → flat_map f (thread_at w zs) ≡ flat_map f w.chain ++ (flat_map f ahead ++ (flat_map f zs ++ flat_map f back))
-    slots_three f zs = flat_map-append f w.chain (ahead ++ (zs ++ back)) ∙ ap (λ z. flat_map f w.chain ++ z) (flat_map-append f ahead (zs ++ back) ∙ ap (λ z. flat_map f ahead ++ z) (flat_map-append f zs back))
-
-    -- no file but those that were visible
-    visible_same : all_slots_not_moved (thread_at w (q ∷ [])) ≡ all_slots_not_moved (thread_at w (p ∷ o ∷ []))
-    visible_same = unmoved_in (gstate_of_pairs (thread_at w (q ∷ []))) still_none (thread_at w (q ∷ [])) ∙ slots_three (λ s. s.content.slots) (q ∷ [])
-        ∙ ap₂ (λ a z. a ++ (slots_of_pairs_in_order ahead ++ z)) (sym (hidden_none w.chain (each_left Far w.chain ahead far_ahead)))
-        (ap₂ (λ a z. a ++ z) (ap (λ z. z ++ []) x.slots ∙ sym hidden_two) (sym (hidden_none back far_back)))
-        ∙ ap (λ z. flat_map (slots_not_moved g) w.chain ++ (z ++ (flat_map (slots_not_moved g) (p ∷ o ∷ []) ++ flat_map (slots_not_moved g) back))) (sym (hidden_none ahead (each_right Far w.chain ahead far_ahead)))
-        ∙ sym (slots_three (slots_not_moved g) (p ∷ o ∷ []))
-
-    -- those that it used, without the pair's
+    -- the blocks that the image used, without the pair's
     pub whole_count : (b : ℕ) → occurrence_count_of_number b (used_blocks new (thread_at w (q ∷ []))) + occurrence_count_of_number b (blocks_of_pairs (o ∷ [])) ≡ occurrence_count_of_number b (used_blocks disk (thread_at w (p ∷ o ∷ [])))
     whole_count b =
-        let a1 = count_append b (blocks_of_pairs (thread_at w (q ∷ []))) (file_blocks_of_slots new (all_slots_not_moved (thread_at w (q ∷ [])))) in
-        let a2 = count_append b (blocks_of_pairs (thread_at w (p ∷ o ∷ []))) (file_blocks_of_slots disk (all_slots_not_moved (thread_at w (p ∷ o ∷ [])))) in
-        let b1 = blocks_append w.chain (dirs_at w (q ∷ [])) b in
-        let b2 = blocks_append ahead (q ∷ [] ++ back) b in
-        let b3 = blocks_append (q ∷ []) back b in
-        let b4 = blocks_append w.chain (dirs_at w (p ∷ o ∷ [])) b in
-        let b5 = blocks_append ahead (p ∷ o ∷ [] ++ back) b in
-        let b6 = blocks_append (p ∷ []) (o ∷ back) b in
-        let b7 = blocks_append (o ∷ []) back b in
+        let e = end_count disk new w p (o ∷ []) q p.content.slots u [] whole_step b in
         let at = ap (λ (a : ℕ × ℕ). occurrence_count_of_number b (a.0 ∷ a.1 ∷ [])) x.at in
-        let same = ap (occurrence_count_of_number b) (slots_files disk new (all_slots_not_moved (thread_at w (p ∷ o ∷ []))) x.device.geometry
-        (recursion_from_All (λ (s : Slot). HasSameFileBlocksOfStructOnDisks disk new s.struct) (all_slots_not_moved (thread_at w (p ∷ o ∷ []))) x.device.files)) in
-        let f = ap (λ z. occurrence_count_of_number b (file_blocks_of_slots new z)) visible_same in
         omega arith

@@ -53,7 +53,7 @@ use Rattle.lfs_operations.proofs.MovAcross.{Arranged, arrangement, completed}
 use Rattle.lfs_operations.proofs.MovFirsts.{set_firsts}
 use Rattle.lfs_operations.proofs.MovSet.{HasTurned, IsSetting, set_count, set_step, state_is, taken_by, walk_by}
 use Rattle.lfs_operations.proofs.Owning.{used_same}
-use Rattle.lfs_operations.proofs.MovTurned.{IsTurn, Stays, TurnedOn, TurnedTo, left_put, mapped, put_turned}
+use Rattle.lfs_operations.proofs.MovTurned.{IsTurn, Stays, TurnedOn, TurnedTo, left_put, put_turned}
 use Rattle.lfs_operations.proofs.Placing.{blocks_append, left_after, left_still}
 use Rattle.lfs_operations.proofs.RootStays.{move_end_stays}
 use Rattle.lfs_operations.specs.EndingMove.{gstate_without_move}
@@ -124,7 +124,7 @@ module _ (t : KeptThread) (sync : Bool) (old_pair : ℕ) (goes : Bool) (new_pair
   -- ---- at a stop in the first step
 
   left_tree : (left : Blocks) → IsLeftByStoppedChangeOrSplit t new_pair changes left → IsLeftOf (disk_with_blocks left t.disk) (tree_on_disk t.disk t.pairs) (tree_after_rename old_path new_path (tree_on_disk t.disk t.pairs))
-  left_tree left is = go (left_put t new_pair changes w p slots move k.turn (mapped t k.ready.used k.ready.size) left is)
+  left_tree left is = go (left_put t new_pair changes w p slots move k.turn (record { used = k.ready.used; size = k.ready.size }) left is)
     where
       go : Stays t new_pair changes w p slots move k.turn (disk_with_blocks left t.disk) ⊎ TurnedOn t w p slots move (disk_with_blocks left t.disk)
           → IsLeftOf (disk_with_blocks left t.disk) (tree_on_disk t.disk t.pairs) (tree_after_rename old_path new_path (tree_on_disk t.disk t.pairs))
@@ -138,7 +138,7 @@ module _ (t : KeptThread) (sync : Bool) (old_pair : ℕ) (goes : Bool) (new_pair
   -- ---- after the first step
 
   pub first_turned : (mid : KeptThread) → IsPairChangedOrSplit t new_pair changes mid → TurnedTo t w p slots move mid
-  first_turned mid is = put_turned t new_pair changes w p slots move k.turn (mapped t k.ready.used k.ready.size) mid is
+  first_turned mid is = put_turned t new_pair changes w p slots move k.turn (record { used = k.ready.used; size = k.ready.size }) mid is
 
   module _ (mid : KeptThread) (x : TurnedTo t w p slots move mid) where
     abbrev q : Pair

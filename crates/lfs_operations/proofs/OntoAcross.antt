@@ -194,15 +194,11 @@ module _ (t : KeptThread) (old_pair old_id first new_pair new_id : ℕ) (name : 
   empty = shows_nothing t.disk w.chain (dirs_at w (p ∷ [])) rename.to accepted site_is.chain (no_move_from (thread_at w (p ∷ [])) settled) front
       (ap (λ (z : Pair). is_hard_tail z.content.tail) first_is.1 ∙ rename.alone) (ap (λ (z : Pair). z.content.slots) first_is.1 ∙ rename.empty)
 
-  has_slot : (xs : List Slot) (y : Slot) (ys : List Slot) → xs ++ y ∷ ys ≡ [] → ⊥
-  has_slot [] y ys k = absurd (cc)
-  has_slot (z ∷ xs) y ys k = absurd (cc)
-
   not_new : p ≡ o → ⊥
-  not_new k = has_slot l g r (sym tb.stands.held ∙ ap (λ (z : Pair). z.content.slots) k ∙ rename.empty)
+  not_new k = some_filled l r g (sym tb.stands.held ∙ ap (λ (z : Pair). z.content.slots) k ∙ rename.empty)
 
   not_old : q0 ≡ o → ⊥
-  not_old k = has_slot lo s ro (sym can.stands.stands.held ∙ ap (λ (z : Pair). z.content.slots) k ∙ rename.empty)
+  not_old k = some_filled lo ro s (sym can.stands.stands.held ∙ ap (λ (z : Pair). z.content.slots) k ∙ rename.empty)
 
   -- ---- and after the move
 

@@ -1,5 +1,5 @@
 -- Which blocks an image uses after a commit: those that it used, and those of a pair that came.
-use Rattle.std.proofs.Common.{ℕ, ◌≡◌, ◌≢◌, ◌+◌, ◌≤◌, Bool, true, false, cond, eqb-true, eq-eqb, nat_eq, List, [], ◌∷◌, ◌++◌, length, Some, refl, sym, ap, subst, ◌∙◌, arith, append-nil, set, slice_get, length-set}
+use Rattle.std.proofs.Common.{ℕ, ◌≡◌, ◌≢◌, ◌+◌, ◌≤◌, Bool, true, false, cond, eqb-true, eq-eqb, nat_eq, List, [], ◌∷◌, ◌++◌, length, Some, refl, sym, ap, subst, ◌∙◌, arith, append-nil, set, slice_get, length-set, zero, suc}
 use Rattle.std.specs.Prelude.{Contains, ◌↔◌}
 use Rattle.std.specs.List.{flat_map}
 use Rattle.std.proofs.lemmas.List.Elements.{recursion_from_All}
@@ -134,6 +134,17 @@ used_count_now disk new w p q more l olds news r gone come c blocks = turned_cou
     }) blocks
 
 -- ---- the map
+
+unlike : Some Free ≡ Some Used → ⊥
+unlike e = absurd (cc)
+
+-- a free block isn't among the used ones
+pub not_used : (sets : BlockStateList) (bs : List ℕ) → AreExactlyTheUsedBlocks sets bs → (b : ℕ) → IsBlockFree sets b → occurrence_count_of_number b bs ≡ 0
+not_used sets bs used b free = go (occurrence_count_of_number b bs) refl
+  where
+    go : (n : ℕ) → occurrence_count_of_number b bs ≡ n → n ≡ 0
+    go zero e = refl
+    go (suc n) e = absurd (unlike (sym free ∙ (used b).1 (Contains-occurrence_count_of_number bs b (omega arith))))
 
 -- where the image uses the same
 pub used_same : (sets : BlockStateList) (us vs : List ℕ) → ((b : ℕ) → occurrence_count_of_number b vs ≡ occurrence_count_of_number b us) → AreExactlyTheUsedBlocks sets us → AreExactlyTheUsedBlocks sets vs

@@ -1,10 +1,9 @@
 -- An empty directory that goes in two steps of the thread.
-use Rattle.std.proofs.Common.{ℕ, ◌≡◌, ◌≢◌, ◌⊎◌, inl, inr, ◌+◌, ◌-◌, ◌<◌, true, false, nat_eq, slice_get, set, List, [], ◌∷◌, ◌++◌, length, Some, None, refl, sym, ap, ap₂, subst, ◌∙◌, arith, append_assoc, append-nil, length-append}
+use Rattle.std.proofs.Common.{ℕ, ◌≡◌, ◌≢◌, ◌⊎◌, inl, inr, ◌+◌, ◌-◌, ◌<◌, true, false, nat_eq, slice_get, List, [], ◌∷◌, ◌++◌, length, Some, None, refl, sym, ap, ap₂, subst, ◌∙◌, arith, append_assoc, append-nil, length-append}
 use Rattle.std.specs.List.{IsDistinct}
 use Rattle.lfs_model.specs.TreeEdits.{tree_after_removal, tree_after_subtree_replacement}
 use Rattle.lfs_model.specs.Blocks.{Blocks}
 use Rattle.lfs_model.specs.BlockSets.{AreExactlyTheUsedBlocks}
-use Rattle.lfs_model.specs.Content.{content_of_pair_at, current_block_of_pair_at}
 use Rattle.lfs_model.specs.Disk.{Disk}
 use Rattle.lfs_model.specs.InDirectory.{IsPairAtAddress}
 use Rattle.lfs_model.specs.Operations as ops
@@ -12,13 +11,13 @@ use Rattle.lfs_model.specs.PowerLoss.{HasTreeBeforeOrAfterOperation as IsLeftOf,
 use Rattle.lfs_model.specs.SlotEdits.{pair_with_slots}
 use Rattle.lfs_model.specs.Slots.{PairContent, Gstate, Slot, gstate_xor, zero_gstate, same_pair}
 use Rattle.lfs_model.specs.Thread.{Pair, blocks_of_pairs, gstate_of_pairs, is_hard_tail, starts_with_superblock, pair_count_before_root}
-use Rattle.lfs_model.specs.View.{BeginsWithLogEntry, IsAcceptedImage, superblock_name_log_entry}
+use Rattle.lfs_model.specs.View.{IsAcceptedImage}
 use Rattle.lfs_model.specs.Profile.{IsWritableImage}
 use Rattle.lfs_model.specs.Shown.{IsPathToDirectory, entries_by_directory_in_thread, tree_on_disk, used_blocks}
 use Rattle.lfs_model.proofs.Became.{fits_same}
 use Rattle.lfs_model.proofs.Committed.{IsImageAfterCompletedOperation, no_move_from}
 use Rattle.lfs_model.proofs.Counts.{occurrence_count_of_number}
-use Rattle.lfs_model.proofs.Global.{HasNoMove, gstate_comm, gstate_cons, gstate_moved, gstate_right, sync_bit_delta}
+use Rattle.lfs_model.proofs.Global.{HasNoMove, sync_bit_delta}
 use Rattle.lfs_model.proofs.Indexes.{site_shows}
 use Rattle.lfs_model.proofs.Moves.{IsStep, directory_goes, entry_only, get_here, place_at, shown_before, shown_behind}
 use Rattle.lfs_model.proofs.RmdirSteps.{step_chain}
@@ -28,14 +27,13 @@ use Rattle.lfs_model.proofs.Splices.{IsDevice, stays_shape}
 use Rattle.lfs_model.proofs.StepsTaken.{IsWritableImageAfterTreeChange, commit_taken}
 use Rattle.lfs_model.proofs.Unchanged.{HasFirst}
 use Rattle.lfs_model.proofs.Writable.{ends_in_hard_tail}
-use Rattle.lfs_pair.specs.Commit.{KeepsBlocksOutsidePair}
 use Rattle.lfs_thread.specs.Kept.{KeptThread}
 use Rattle.lfs_thread.specs.Steps.{IsPairWrittenOnDisk, SlotsBeginWithSuperblock, empty_pair_at_anchor, thread_pair_at_index}
 use Rattle.lfs_operations.specs.Dropping.{IsNextPairDropped, IsLeftByStoppedPairDrop, HasSameBlocksInFlight, ShowsTreeAfterPairDrops}
 use Rattle.lfs_operations.specs.Editing.{CanEditEntryOfPair}
 use Rattle.lfs_operations.specs.Removing.{is_pair_dropped_with_slot, tree_without_named_entry}
 use Rattle.lfs_operations.specs.Unlinking.{CanRemoveDirectory, IsDirectoryRemoved, IsLeftByStoppedUnlink, IsDirectoryEntryUnlinked, content_without_directory_entry}
-use Rattle.lfs_operations.proofs.Placing.{IsPlaced, all_apart, device, left_after, left_still}
+use Rattle.lfs_operations.proofs.Placing.{device, left_after, left_still}
 use Rattle.lfs_operations.proofs.Removed.{alone, flag_ends, stays_there}
 use Rattle.lfs_operations.proofs.Rmdir.{HasPlace, Unlinks, place_of, unlinked_count}
 use Rattle.lfs_operations.proofs.RmdirPlaces.{HasFront, directory_led, flag_from, get_some, has_front, number_of_first, shows_nothing}
@@ -44,10 +42,7 @@ use Rattle.lfs_operations.proofs.LastDrop.{IsAllButDropped, is_gone, left_last, 
 use Rattle.lfs_operations.proofs.Owning.{used_same}
 use Rattle.lfs_model.proofs.Superblocks.{IsChain}
 use Rattle.lfs_model.specs.Tree.{Path}
-
-get_at : (xs : List Pair) (p : Pair) (zs : List Pair) (n : ℕ) (q : Pair) → length xs ≡ n → set (xs ++ p ∷ zs) n q ≡ xs ++ q ∷ zs
-get_at [] p zs n q e = ap (λ (k : ℕ). set (p ∷ zs) k q) (sym e)
-get_at (x ∷ xs) p zs n q e = ap (λ (k : ℕ). set (x ∷ (xs ++ p ∷ zs)) k q) (sym e) ∙ ap (λ z. x ∷ z) (get_at xs p zs (length xs) q refl)
+use Rattle.lfs_operations.proofs.Threads.{one_now, placed_one, sync_turned}
 
 module _ (t : KeptThread) (index id first gone : ℕ) (take : CanRemoveDirectory t index id first gone) (goes : is_pair_dropped_with_slot t index first ≡ false) where
   abbrev can : CanEditEntryOfPair t index id
@@ -152,9 +147,6 @@ module _ (t : KeptThread) (index id first gone : ℕ) (take : CanRemoveDirectory
   abbrev q : Pair
   q = record { at = p.at; content = c }
 
-  at_is : (thread_pair_at_index t index).at ≡ p.at
-  at_is = ap (λ (z : Pair). z.at) (pair_there t index id can)
-
   kept : q.content.slots ≡ l ++ r
   kept = slots_gone t index id can
 
@@ -170,15 +162,8 @@ module _ (t : KeptThread) (index id first gone : ℕ) (take : CanRemoveDirectory
   grouped : (z : Pair) → thread_at w (z ∷ []) ≡ ahead ++ z ∷ behind
   grouped z = sym (append_assoc w.chain (w.before ++ w.left) (z ∷ (w.right ++ w.after)))
 
-  number_ahead : length ahead ≡ index
-  number_ahead = length-append w.chain (w.before ++ w.left) ∙ sym number_there
-
   gstate_middle : gstate_of_pairs (thread_at w (q ∷ [])) ≡ sync_bit_delta
-  gstate_middle =
-      let turned : gstate_of_pairs (q ∷ []) ≡ gstate_xor sync_bit_delta (gstate_of_pairs (p ∷ []))
-      = gstate_cons q [] ∙ gstate_right q.content.move ∙ ap (λ (z : Pair). gstate_xor z.content.move sync_bit_delta) (pair_there t index id can) ∙ gstate_comm p.content.move sync_bit_delta
-      ∙ ap (gstate_xor sync_bit_delta) (sym (gstate_cons p [] ∙ gstate_right p.content.move)) in
-      ap gstate_of_pairs (grouped q) ∙ gstate_moved sync_bit_delta ahead (p ∷ []) (q ∷ []) behind turned ∙ ap (λ z. gstate_xor sync_bit_delta (gstate_of_pairs z)) (sym (grouped p)) ∙ ap (gstate_xor sync_bit_delta) settled ∙ gstate_right sync_bit_delta
+  gstate_middle = sync_turned w p q (ap (λ (z : Pair). gstate_xor z.content.move sync_bit_delta) (pair_there t index id can)) settled
 
   no_move_middle : HasNoMove (gstate_of_pairs (thread_at w (q ∷ [])))
   no_move_middle = subst HasNoMove (sym gstate_middle) (record { kind = refl; id = refl; pair = refl })
@@ -191,16 +176,8 @@ module _ (t : KeptThread) (index id first gone : ℕ) (take : CanRemoveDirectory
       go [] f e = absurd (let z = sym (f refl) ∙ e.0 in cc)
       go (s ∷ l) f e = e
 
-  placed : (disk : Disk) (d : PairContent) → (HasFirst p.content.slots → SlotsBeginWithSuperblock d.slots) → IsPairWrittenOnDisk t index d disk → IsPlaced t.disk disk p (record { at = p.at; content = d }) [] []
-  placed disk d first h = record {
-    geometry = record { block_size = h.shape.block_size; page = h.shape.page; order = h.shape.order; profile = h.shape.profile; count = h.shape.count };
-    same = λ b none. (subst (λ at. KeepsBlocksOutsidePair at t.disk.blocks disk.blocks) at_is h.others).others b (all_apart (p.at.0 ∷ p.at.1 ∷ []) b none);
-    contents = (ap (content_of_pair_at disk) (sym at_is) ∙ h.holds, tt);
-    first = λ k b. subst (λ at. BeginsWithLogEntry (current_block_of_pair_at disk at) superblock_name_log_entry) at_is (h.first (subst (λ at. BeginsWithLogEntry (current_block_of_pair_at t.disk at) superblock_name_log_entry) (sym at_is) b) (first k));
-  }
-
   device_of : (disk : Disk) → IsPairWrittenOnDisk t index c disk → IsDevice t.disk disk (thread_at w (p ∷ [])) (thread_at w (q ∷ []))
-  device_of disk h = device t.disk disk w p q [] [] accepted accepted.owned_once (placed disk c still_has h)
+  device_of disk h = device t.disk disk w p q [] [] accepted accepted.owned_once (placed_one t index w p there number_there disk c still_has h)
 
   front_same : starts_with_superblock p.content.slots ≡ true → starts_with_superblock q.content.slots ≡ true
   front_same e = ap starts_with_superblock kept ∙ go l (λ k. can.stands.stands.entry) (sym (ap starts_with_superblock held) ∙ e)
@@ -264,9 +241,7 @@ module _ (t : KeptThread) (index id first gone : ℕ) (take : CanRemoveDirectory
     k = place m.disk h.written
 
     pairs_middle : m.pairs ≡ thread_at w (q ∷ [])
-    pairs_middle = h.pairs
-        ∙ ap (λ (z : Pair). set t.pairs index (record { at = z.at; content = c })) (pair_there t index id can)
-        ∙ ap (λ (z : List Pair). set z index q) (there ∙ grouped p) ∙ get_at ahead p behind index q number_ahead ∙ sym (grouped q)
+    pairs_middle = h.pairs ∙ one_now t index w p there number_there c
 
     used_middle : (b : ℕ) → occurrence_count_of_number b (used_blocks m.disk m.pairs) ≡ occurrence_count_of_number b (used_blocks t.disk t.pairs)
     used_middle b = ap (λ z. occurrence_count_of_number b (used_blocks m.disk z)) (pairs_middle ∙ grouped q)
@@ -327,7 +302,7 @@ module _ (t : KeptThread) (index id first gone : ℕ) (take : CanRemoveDirectory
           let same = e ∙ ap (λ (z : Pair). z.content) (pair_there t index id can) in
           left_still t.disk left (thread_at w (p ∷ [])) accepted writable
           (device t.disk (disk_with_blocks left t.disk) w p p [] [] accepted accepted.owned_once
-          (placed (disk_with_blocks left t.disk) p.content (λ h. (h.kind, h.name)) (subst (λ z. IsPairWrittenOnDisk t index z (disk_with_blocks left t.disk)) same g.written)))
+          (placed_one t index w p there number_there (disk_with_blocks left t.disk) p.content (λ h. (h.kind, h.name)) (subst (λ z. IsPairWrittenOnDisk t index z (disk_with_blocks left t.disk)) same g.written)))
           (inl (ap (tree_on_disk t.disk) (sym there)))
       go (inr e) = left_after (first_taken (disk_with_blocks left t.disk) (subst (λ z. IsPairWrittenOnDisk t index z (disk_with_blocks left t.disk)) e g.written))
           (inr (ap₂ (λ n z. tree_after_removal (can.path ++ n ∷ []) (tree_on_disk t.disk z)) can.stands.stands.named (sym there)))

@@ -70,8 +70,6 @@ pub mod MovEndGoes
 pub mod RenameOver
 pub mod RenameReadOver
 pub mod RecoverMoved
-pub mod RecoverStays
-pub mod RecoverGoes
 pub mod RecoverBefore
 pub mod RecoverWrites
 pub mod RecoverEnded

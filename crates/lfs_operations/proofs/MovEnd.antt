@@ -6,21 +6,21 @@ use Rattle.std.proofs.lemmas.List.Concat.{flat_map-append}
 use Rattle.std.proofs.lemmas.List.Elements.{recursion_from_All}
 use Rattle.lfs_model.specs.Disk.{Disk}
 use Rattle.lfs_model.specs.Slots.{Slot, Gstate, is_superblock, same_pair, gstate_xor}
-use Rattle.lfs_model.specs.SlotEdits.{pair_with_slots}
-use Rattle.lfs_model.specs.Thread.{Pair, blocks_of_pairs, gstate_of_pairs, starts_with_superblock, slots_not_moved}
+use Rattle.lfs_model.specs.SlotEdits.{pair_with_slots, pairs_without_moved_slot}
+use Rattle.lfs_model.specs.Thread.{Pair, blocks_of_pairs, gstate_of_pairs, starts_with_superblock, slots_not_moved, is_hard_tail, pair_count_before_root}
 use Rattle.lfs_model.specs.Shown.{directories_in_thread, used_blocks, all_slots_not_moved}
 use Rattle.lfs_model.specs.Slots.{gstate_kind_of_set_move}
 use Rattle.lfs_model.specs.View.{IsAcceptedImage}
 use Rattle.lfs_model.specs.Profile.{IsWritableImage}
 use Rattle.lfs_model.proofs.Became.{became_front, became_shape}
-use Rattle.lfs_model.proofs.Changes.{slots_files}
+use Rattle.lfs_model.proofs.Changes.{slots_files, chain_now}
 use Rattle.lfs_model.proofs.Counts.{Each, each_append, each_left, each_right, each_weaker, occurrence_count_of_number, count_append}
 use Rattle.lfs_model.proofs.Files.{HasSameFileBlocksOfStructOnDisks}
 use Rattle.lfs_model.proofs.Global.{HasNoMove, gstate_cons, gstate_right}
 use Rattle.lfs_model.proofs.Listings.{flip_false}
 use Rattle.lfs_model.proofs.Moves.{remove_here}
 use Rattle.lfs_model.proofs.Pairs.{pair_back}
-use Rattle.lfs_model.proofs.Rests.{IsMoveEnd, move_ends, site_gstate_moved, unmoved_elsewhere}
+use Rattle.lfs_model.proofs.Rests.{IsMoveEnd, move_ends, site_gstate_moved, unmoved_elsewhere, end_change}
 use Rattle.lfs_model.proofs.Searches.{avoids_front, avoids_behind}
 use Rattle.lfs_model.proofs.Sites.{Site, thread_at, IsSite}
 use Rattle.lfs_model.proofs.Splices.{slots_of_pairs_in_order, file_blocks_of_slots, unmoved_in}
@@ -32,6 +32,7 @@ use Rattle.lfs_operations.proofs.MovFirsts.{end_firsts}
 use Rattle.lfs_model.proofs.MoveSets.{addresses_of_first_pairs_of_directories}
 use Rattle.lfs_operations.specs.EndingMove.{gstate_without_move}
 use Rattle.lfs_operations.proofs.Owning.{count_pairs}
+use Rattle.lfs_operations.proofs.RecoverBefore.{AreKin, hidden, hidden_append, hidden_far, kin_append}
 
 pub move_out : (g : Gstate) → gstate_xor (gstate_without_sync g) g ≡ gstate_without_move g
 move_out g = λ j. record { sync = g.sync; kind = xor_self g.kind j; id = xor_self g.id j; pair = (xor_self g.pair.0 j, xor_self g.pair.1 j) }
@@ -54,14 +55,24 @@ module _ (disk new : Disk) (w : Site) (p : Pair) (mids : List Pair) (q : Pair) (
   slots_three f zs = flat_map-append f w.chain ((w.before ++ w.left) ++ (zs ++ (w.right ++ w.after)))
       ∙ ap (λ z. flat_map f w.chain ++ z) (flat_map-append f (w.before ++ w.left) (zs ++ (w.right ++ w.after)) ∙ ap (λ z. flat_map f (w.before ++ w.left) ++ z) (flat_map-append f zs (w.right ++ w.after)))
 
-  far_behind : Each Apart ((w.before ++ w.left) ++ (w.right ++ w.after))
-  far_behind = each_right Apart w.chain ((w.before ++ w.left) ++ (w.right ++ w.after)) k.elsewhere
+  pub far_chain : Each Apart w.chain
+  far_chain = each_left Apart w.chain ((w.before ++ w.left) ++ (w.right ++ w.after)) k.elsewhere
+
+  pub far_before : Each Apart (w.before ++ w.left)
+  far_before = each_left Apart (w.before ++ w.left) (w.right ++ w.after) (each_right Apart w.chain ((w.before ++ w.left) ++ (w.right ++ w.after)) k.elsewhere)
+
+  pub far_after : Each Apart (w.right ++ w.after)
+  far_after = each_right Apart (w.before ++ w.left) (w.right ++ w.after) (each_right Apart w.chain ((w.before ++ w.left) ++ (w.right ++ w.after)) k.elsewhere)
+
+  -- the root directory begins where it did
+  pub end_chain : pair_count_before_root (thread_at w (q ∷ [])) ≡ length w.chain
+  end_chain = chain_now disk new w.chain (w.before ++ w.left) p mids q [] (w.right ++ w.after) [] k.site.chain k.accepted (end_change disk new w p mids q [] l u r k)
 
   visible_same : all_slots_not_moved (thread_at w (q ∷ [])) ≡ all_slots_not_moved (thread_at w (p ∷ mids))
   visible_same = unmoved_in (gstate_of_pairs (thread_at w (q ∷ []))) k.still_none (thread_at w (q ∷ [])) ∙ slots_three (λ s. s.content.slots) (q ∷ [])
-      ∙ ap₂ (λ a z. a ++ (slots_of_pairs_in_order (w.before ++ w.left) ++ z)) (sym (hidden_none w.chain (each_left Apart w.chain ((w.before ++ w.left) ++ (w.right ++ w.after)) k.elsewhere)))
-      (ap₂ (λ a z. a ++ z) (k.is ∙ sym k.hidden) (sym (hidden_none (w.right ++ w.after) (each_right Apart (w.before ++ w.left) (w.right ++ w.after) far_behind))))
-      ∙ ap (λ z. flat_map (slots_not_moved G) w.chain ++ (z ++ (flat_map (slots_not_moved G) (p ∷ mids) ++ flat_map (slots_not_moved G) (w.right ++ w.after)))) (sym (hidden_none (w.before ++ w.left) (each_left Apart (w.before ++ w.left) (w.right ++ w.after) far_behind)))
+      ∙ ap₂ (λ a z. a ++ (slots_of_pairs_in_order (w.before ++ w.left) ++ z)) (sym (hidden_none w.chain far_chain))
+      (ap₂ (λ a z. a ++ z) (k.is ∙ sym k.hidden) (sym (hidden_none (w.right ++ w.after) far_after)))
+      ∙ ap (λ z. flat_map (slots_not_moved G) w.chain ++ (z ++ (flat_map (slots_not_moved G) (p ∷ mids) ++ flat_map (slots_not_moved G) (w.right ++ w.after)))) (sym (hidden_none (w.before ++ w.left) far_before))
       ∙ sym (slots_three (slots_not_moved G) (p ∷ mids))
 
   pub end_count : (b : ℕ) → occurrence_count_of_number b (used_blocks new (thread_at w (q ∷ []))) + occurrence_count_of_number b (blocks_of_pairs (p ∷ mids)) ≡ occurrence_count_of_number b (used_blocks disk (thread_at w (p ∷ mids))) + occurrence_count_of_number b (blocks_of_pairs (q ∷ []))
@@ -74,6 +85,13 @@ module _ (disk new : Disk) (w : Site) (p : Pair) (mids : List Pair) (q : Pair) (
       (recursion_from_All (λ (s : Slot). HasSameFileBlocksOfStructOnDisks disk new s.struct) (all_slots_not_moved (thread_at w (p ∷ mids))) k.device.files)) in
       let f = ap (λ z. occurrence_count_of_number b (file_blocks_of_slots new z)) visible_same in
       omega arith
+
+-- so a recovery may go on, where the pair stays
+pub end_kin : (disk new : Disk) (w : Site) (p q : Pair) (l : List Slot) (u : Slot) (r : List Slot) → IsMoveEnd disk new w p [] q [] l u r → is_hard_tail q.content.tail ≡ is_hard_tail p.content.tail → AreKin (pairs_without_moved_slot (thread_at w (p ∷ []))) (thread_at w (q ∷ []))
+end_kin disk new w p q l u r k hard = subst (λ x. AreKin x (thread_at w (q ∷ []))) (sym (hidden_append (gstate_of_pairs (thread_at w (p ∷ []))) w.chain ((w.before ++ w.left) ++ p ∷ (w.right ++ w.after)) ∙ ap (λ x. hidden (gstate_of_pairs (thread_at w (p ∷ []))) w.chain ++ x) (hidden_append (gstate_of_pairs (thread_at w (p ∷ []))) (w.before ++ w.left) (p ∷ (w.right ++ w.after)))))
+    (kin_append (hidden (gstate_of_pairs (thread_at w (p ∷ []))) w.chain) (hidden (gstate_of_pairs (thread_at w (p ∷ []))) (w.before ++ w.left) ++ hidden (gstate_of_pairs (thread_at w (p ∷ []))) (p ∷ (w.right ++ w.after))) w.chain ((w.before ++ w.left) ++ q ∷ (w.right ++ w.after)) (hidden_far (gstate_of_pairs (thread_at w (p ∷ []))) w.chain (far_chain disk new w p [] q l u r k))
+    (kin_append (hidden (gstate_of_pairs (thread_at w (p ∷ []))) (w.before ++ w.left)) (hidden (gstate_of_pairs (thread_at w (p ∷ []))) (p ∷ (w.right ++ w.after))) (w.before ++ w.left) (q ∷ (w.right ++ w.after)) (hidden_far (gstate_of_pairs (thread_at w (p ∷ []))) (w.before ++ w.left) (far_before disk new w p [] q l u r k))
+    (record { at = k.shape.at; slots = sym (append-nil q.content.slots) ∙ k.is ∙ sym k.hidden ∙ append-nil (slots_not_moved (gstate_of_pairs (thread_at w (p ∷ []))) p); hard = hard }, hidden_far (gstate_of_pairs (thread_at w (p ∷ []))) (w.right ++ w.after) (far_after disk new w p [] q l u r k))))
 
 -- ---- the slot goes
 
@@ -163,6 +181,12 @@ module _ (disk : Disk) (w : Site) (p : Pair) (l : List Slot) (u : Slot) (r : Lis
     -- the directories begin where they did
     pub ended_firsts : addresses_of_first_pairs_of_directories (directories_in_thread qs) ≡ addresses_of_first_pairs_of_directories (directories_in_thread ps)
     ended_firsts = end_firsts disk new w p [] q [] l u r end_step
+
+    pub ended_chain : pair_count_before_root qs ≡ length w.chain
+    ended_chain = end_chain disk new w p [] q l u r end_step
+
+    pub ended_kin : AreKin (pairs_without_moved_slot (thread_at w (p ∷ []))) (thread_at w (q ∷ []))
+    ended_kin = end_kin disk new w p q l u r end_step (ap is_hard_tail x.became.0)
 
     pub ended_count : (b : ℕ) → occurrence_count_of_number b (used_blocks new qs) ≡ occurrence_count_of_number b (used_blocks disk ps)
     ended_count b =

@@ -1,5 +1,5 @@
 -- The end of a set move where the pair goes with the slot, as a step of the thread.
-use Rattle.std.proofs.Common.{ℕ, ◌≡◌, ◌≢◌, ◌⊎◌, inl, inr, ◌+◌, ◌-◌, true, false, List, [], ◌∷◌, ◌++◌, length, refl, sym, ap, ap₂, subst, ◌∙◌, arith, append_assoc, append-nil, length-append, remove}
+use Rattle.std.proofs.Common.{ℕ, ◌≡◌, ◌≢◌, ◌⊎◌, inl, inr, ◌+◌, ◌-◌, true, false, List, [], ◌∷◌, ◌++◌, length, refl, sym, ap, ap₂, subst, ◌∙◌, arith, append_assoc, append-nil, length-append, remove, subst₂}
 use Rattle.std.proofs.lemmas.List.Elements.{recursion_from_All}
 use Rattle.lfs_model.specs.Blocks.{Blocks}
 use Rattle.lfs_model.specs.Disk.{Disk}
@@ -7,7 +7,7 @@ use Rattle.lfs_model.specs.History.{DeviceCallEvent}
 use Rattle.lfs_model.specs.LoggedContent.{AreMoveStateFieldsWithinBitWidths}
 use Rattle.lfs_model.specs.PowerLoss.{HasTreeBeforeOrAfterOperation as IsLeftOf, SurvivesPowerLossInCallsSince, disk_with_blocks}
 use Rattle.lfs_model.specs.Slots.{PairContent, IsContentFittingPair, Gstate, Slot, same_pair}
-use Rattle.lfs_model.specs.Thread.{Pair, gstate_of_pairs, is_hard_tail}
+use Rattle.lfs_model.specs.Thread.{Pair, gstate_of_pairs, is_hard_tail, pair_count_before_root}
 use Rattle.lfs_model.specs.View.{IsAcceptedImage}
 use Rattle.lfs_model.specs.Profile.{IsWritableImage}
 use Rattle.lfs_model.specs.Shown.{directories_in_thread, tree_on_disk, used_blocks}
@@ -30,11 +30,13 @@ use Rattle.lfs_operations.specs.MoveEnds.{CanEndMoveAt, HasEndedMoveAt, is_pair_
 use Rattle.lfs_operations.proofs.Dropped.{device_dropped, device_kept}
 use Rattle.lfs_operations.proofs.DroppedTails.{front_is, gone_is, gstate_is, remove_next, without_is}
 use Rattle.lfs_operations.proofs.MovEnding.{get_from, led_is}
-use Rattle.lfs_operations.proofs.MovEndWhole.{HasTakenOver, IsEndingWhole, whole_count, whole_ended, whole_firsts}
+use Rattle.lfs_operations.proofs.MovEndWhole.{HasTakenOver, IsEndingWhole, whole_count, whole_ended, whole_firsts, whole_chain, whole_leads}
 use Rattle.lfs_operations.proofs.Placing.{left_after, left_still}
 use Rattle.lfs_operations.proofs.Removed.{flag_ends}
 use Rattle.lfs_operations.proofs.RemovedWhole.{LastPair, last_pair, only_slot, over_hard, run_hard}
 use Rattle.lfs_operations.specs.EndingMove.{gstate_without_move}
+use Rattle.lfs_operations.proofs.RecoverBefore.{go_alike}
+use Rattle.lfs_model.proofs.Global.{HasNoMove}
 
 sync_state : (g : Gstate) → AreMoveStateFieldsWithinBitWidths (gstate_without_move g)
 sync_state g = record { kind = omega arith; id = omega arith; pair = (omega arith, omega arith) }
@@ -205,22 +207,26 @@ module _ (t : KeptThread) (index id : ℕ) (can : CanEndMoveAt t index id true) 
   pub has_gone : (new : KeptThread) → IsNextPairDropped t (index - 1) (gstate_without_move (gstate_of_pairs t.pairs)) new → HasEndedMoveAt t index id true new
   has_gone new d =
       let pairs : new.pairs ≡ thread_at w (q ∷ []) = d.pairs ∙ without_is t (index - 1) ahead x o back is number c ∙ sym (grouped (q ∷ [])) in
-      let taken = goes_on new.disk d.written in
+      let over = over_on new.disk d.written in
+      let all = subst₂ (λ z qs. IsWritableImageAfterTreeChange t.disk z new.disk qs (λ t. t) (λ d. d)) (sym there) (sym pairs) (goes_on new.disk d.written) in
+      let root = ap pair_count_before_root pairs ∙ whole_chain t.disk w x o u ending new.disk q over ∙ sym (ap pair_count_before_root there ∙ site_now.chain) in
       let left : remove t.pairs index ≡ ahead ++ x ∷ back = ap₂ (λ (z : List Pair) (i : ℕ). remove z i) is (sym place) ∙ remove_next ahead x o back in
       record {
-        taken = subst (λ z. IsWritableImageAfterTreeChange t.disk z new.disk new.pairs (λ t. t) (λ d. d)) (sym there) (subst (λ z. IsWritableImageAfterTreeChange t.disk (thread_at w (x ∷ o ∷ [])) new.disk z (λ t. t) (λ d. d)) (sym pairs) taken);
+        taken = all;
         state = d.gstate;
         alike = subst (λ z. ArePairsWithSameAddressesAndSlots z new.pairs) (sym left) (subst (ArePairsWithSameAddressesAndSlots (ahead ++ x ∷ back)) (sym (pairs ∙ grouped (q ∷ [])))
             (alike_append ahead (x ∷ back) ahead (q ∷ back) (alike_itself ahead) (refl, slots_same, alike_itself back)));
         map = d.map ∙ ap (λ (i : ℕ). block_map_with_freed_pair t.map (thread_pair_at_index t i).at) (let e = place in omega arith);
         blocks = λ b.
-            let e = whole_count t.disk w x o u ending new.disk q (over_on new.disk d.written) b in
+            let e = whole_count t.disk w x o u ending new.disk q over b in
             let f = ap (λ z. occurrence_count_of_number b (used_blocks new.disk z)) pairs in
             let g = ap (λ z. occurrence_count_of_number b (used_blocks t.disk z)) there in
             let k = ap (λ (z : Pair). occurrence_count_of_number b (z.at.0 ∷ z.at.1 ∷ [])) here in
             omega arith;
         shape = d.written.shape;
-        begins = ap (λ z. addresses_of_first_pairs_of_directories (directories_in_thread z)) pairs ∙ whole_firsts t.disk w x o u ending new.disk q (over_on new.disk d.written) ∙ ap (λ z. addresses_of_first_pairs_of_directories (directories_in_thread z)) (sym there);
+        begins = ap (λ z. addresses_of_first_pairs_of_directories (directories_in_thread z)) pairs ∙ whole_firsts t.disk w x o u ending new.disk q over ∙ ap (λ z. addresses_of_first_pairs_of_directories (directories_in_thread z)) (sym there);
+        root = root;
+        leads_on = whole_leads t.disk w x o u ending new.disk q over t new (go_alike t new all.follows d.written.shape) (subst HasNoMove (sym d.gstate) (record { kind = refl; id = refl; pair = refl })) root there pairs hard;
         kept = λ z none soft among. subst (IsTrueOfSomeElement (λ y. y ≡ z)) (sym (pairs ∙ grouped (q ∷ []))) (still_there z none soft (subst (IsTrueOfSomeElement (λ y. y ≡ z)) is among));
       }
 

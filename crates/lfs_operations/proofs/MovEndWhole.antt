@@ -1,9 +1,10 @@
 -- A set move ends where the slot that it hides is all that its pair holds: the pair goes with it, and the one in front of it takes over its tail.
-use Rattle.std.proofs.Common.{ℕ, ◌≡◌, ◌+◌, true, false, cond, nat_eq, ◌&&◌, List, [], ◌∷◌, ◌++◌, sym, ap, ap₂, subst, ◌∙◌, arith, flat_map, append_assoc, remove}
+use Rattle.std.proofs.Common.{ℕ, ◌≡◌, ◌+◌, true, false, cond, nat_eq, ◌&&◌, List, [], ◌∷◌, ◌++◌, sym, ap, ap₂, subst, ◌∙◌, arith, flat_map, append_assoc, remove, length, length-append, ◌≤◌}
 use Rattle.std.specs.List.{IsDistinct}
 use Rattle.lfs_model.specs.Disk.{Disk}
+use Rattle.lfs_model.specs.Operations as ops
 use Rattle.lfs_model.specs.Slots.{Slot, Gstate, is_superblock, same_pair}
-use Rattle.lfs_model.specs.Thread.{Pair, blocks_of_pairs, gstate_of_pairs, starts_with_superblock, slots_not_moved}
+use Rattle.lfs_model.specs.Thread.{Pair, blocks_of_pairs, gstate_of_pairs, starts_with_superblock, slots_not_moved, is_hard_tail, pair_count_before_root}
 use Rattle.lfs_model.specs.View.{IsAcceptedImage}
 use Rattle.lfs_model.specs.Profile.{IsWritableImage}
 use Rattle.lfs_model.specs.Shown.{directories_in_thread, used_blocks}
@@ -19,8 +20,12 @@ use Rattle.lfs_model.proofs.Splices.{drop_shape, IsDevice}
 use Rattle.lfs_model.proofs.StepsTaken.{IsWritableImageAfterTreeChange, end_drop_taken}
 use Rattle.lfs_model.proofs.MoveSets.{addresses_of_first_pairs_of_directories}
 use Rattle.lfs_operations.proofs.MovFirsts.{end_firsts}
-use Rattle.lfs_operations.specs.EndingMove.{gstate_without_move}
-use Rattle.lfs_operations.proofs.MovEnd.{end_count}
+use Rattle.lfs_operations.specs.EndingMove.{gstate_without_move, IsEachRecoveryOfNewAllowedForOld}
+use Rattle.lfs_operations.proofs.MovEnd.{end_count, end_chain}
+use Rattle.lfs_operations.proofs.RecoverBefore.{GoAlike, hidden, hidden_append, hidden_far, hidden_length, laid_out_gap}
+use Rattle.lfs_model.specs.Layout.{IsDirectoryUnreachedOrRemoved}
+use Rattle.lfs_model.specs.SlotEdits.{pair_with_slots, pairs_without_moved_slot}
+use Rattle.lfs_thread.specs.Kept.{KeptThread}
 
 -- At the site stand p and o behind it, joined by a hard tail, and the move hides o's only slot u.
 pub record IsEndingWhole (disk : Disk) (w : Site) (p o : Pair) (u : Slot) : Type 0 where
@@ -112,6 +117,19 @@ module _ (disk : Disk) (w : Site) (p o : Pair) (u : Slot) (k : IsEndingWhole dis
     -- the directories begin where they did
     pub whole_firsts : addresses_of_first_pairs_of_directories (directories_in_thread (thread_at w (q ∷ []))) ≡ addresses_of_first_pairs_of_directories (directories_in_thread (thread_at w (p ∷ o ∷ [])))
     whole_firsts = end_firsts disk new w p (o ∷ []) q [] p.content.slots u [] whole_step
+
+    pub whole_chain : pair_count_before_root (thread_at w (q ∷ [])) ≡ length w.chain
+    whole_chain = end_chain disk new w p (o ∷ []) q p.content.slots u [] whole_step
+
+    -- a recovery may go on
+    pub whole_leads : (old next : KeptThread) → GoAlike old.disk next.disk (IsDirectoryUnreachedOrRemoved old.pairs ops.Recover) (IsDirectoryUnreachedOrRemoved next.pairs ops.Recover) → HasNoMove (gstate_of_pairs next.pairs) → pair_count_before_root next.pairs ≡ pair_count_before_root old.pairs
+        → old.pairs ≡ thread_at w (p ∷ o ∷ []) → next.pairs ≡ thread_at w (q ∷ []) → is_hard_tail p.content.tail ≡ true → IsEachRecoveryOfNewAllowedForOld old next
+    whole_leads old next alike none root was is hard = laid_out_gap old next alike none root
+        (hidden g (w.chain ++ ahead)) (pair_with_slots (slots_not_moved g p) p) (pair_with_slots (slots_not_moved g o) o) (hidden g back) (w.chain ++ ahead) q back
+        (ap (λ z. pairs_without_moved_slot z) was ∙ ap (hidden g) (sym (append_assoc w.chain ahead (p ∷ o ∷ back))) ∙ hidden_append g (w.chain ++ ahead) (p ∷ o ∷ back))
+        (is ∙ sym (append_assoc w.chain ahead (q ∷ back)))
+        (let c = ap pair_count_before_root was ∙ k.site.chain in let l = hidden_length g (w.chain ++ ahead) in let a = length-append w.chain ahead in omega arith)
+        (hidden_far g (w.chain ++ ahead) far_ahead) (record { at = x.at; slots = x.slots ∙ sym (unmoved_elsewhere g p far_p); led = hard; tail = ap is_hard_tail x.tail; none = hides }) (hidden_far g back far_back)
 
     -- the blocks that the image used, without the pair's
     pub whole_count : (b : ℕ) → occurrence_count_of_number b (used_blocks new (thread_at w (q ∷ []))) + occurrence_count_of_number b (blocks_of_pairs (o ∷ [])) ≡ occurrence_count_of_number b (used_blocks disk (thread_at w (p ∷ o ∷ [])))

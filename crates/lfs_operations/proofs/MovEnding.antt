@@ -1,5 +1,5 @@
 -- The end of a set move, as a step of the thread.
-use Rattle.std.proofs.Common.{ℕ, zero, suc, ◌≡◌, ◌≢◌, ◌-◌, ◌<◌, ◌⊎◌, inl, inr, true, false, take, List, [], ◌∷◌, Option, ◌++◌, length, Some, refl, sym, ap, ap₂, subst, ◌∙◌, arith, length-append, remove, get_or, slice_get, sum_by}
+use Rattle.std.proofs.Common.{ℕ, zero, suc, ◌≡◌, ◌≢◌, ◌-◌, ◌<◌, ◌⊎◌, inl, inr, true, false, take, List, [], ◌∷◌, Option, ◌++◌, length, Some, refl, sym, ap, ap₂, subst, ◌∙◌, arith, length-append, remove, get_or, slice_get, sum_by, subst₂}
 use Rattle.std.specs.Option.{option_and_then}
 use Rattle.std.proofs.lemmas.Nat.{xor_lt}
 use Rattle.std.proofs.lemmas.Option.{same_Some}
@@ -34,12 +34,15 @@ use Rattle.lfs_thread.specs.Kept.{KeptThread}
 use Rattle.lfs_thread.specs.Steps.{CanChangePair, IsPairChanged, PowerLossLeavesPairOldOrChanged, IsCommitRefused, SlotsBeginWithSuperblock, complete_content_after_changes, empty_pair_at_anchor, thread_pair_at_index, thread_pairs_with_content_replaced_at_index}
 use Rattle.lfs_operations.specs.MoveEnds.{CanEndMoveAt, HasEndedMoveAt, content_after_move_ends, end_move_changes, is_pair_named_by_hard_tail, gstate_without_sync, delta_without_move}
 use Rattle.lfs_operations.proofs.Held.{CompletesTo, completes_to}
-use Rattle.lfs_operations.proofs.MovEnd.{IsEnding, ended, ended_count, ended_firsts, ended_state}
+use Rattle.lfs_operations.proofs.MovEnd.{IsEnding, ended, ended_count, ended_firsts, ended_state, ended_chain, ended_kin}
 use Rattle.lfs_operations.proofs.MovSet.{HasTurned}
 use Rattle.lfs_operations.proofs.MovTurned.{ChangedOne, IsTurn, Stays, changed_one, content_with, left_alone}
 use Rattle.lfs_operations.proofs.Placing.{left_after, left_still}
 use Rattle.lfs_operations.specs.EndingMove.{gstate_without_move}
 use Rattle.lfs_operations.proofs.Threads.{take_front}
+use Rattle.lfs_operations.proofs.RecoverBefore.{AreKin, go_alike, laid_out_kin}
+use Rattle.lfs_model.specs.SlotEdits.{pairs_without_moved_slot}
+use Rattle.lfs_model.proofs.Global.{HasNoMove}
 
 pub get_from : (xs : List Pair) (i : ℕ) (p d : Pair) → slice_get xs i ≡ Some p → get_or xs i d ≡ p
 get_from [] i p d e = absurd (cc)
@@ -238,17 +241,22 @@ module _ (t : KeptThread) (pair id : ℕ) (can : CanEndMoveAt t pair id false) (
     where
       go : ChangedOne t pair w p (l ++ r) move new → HasEndedMoveAt t pair id false new
       go x =
-          let taken = turned_alone new.disk x.turned in
+          let all = subst₂ (λ z qs. IsWritableImageAfterTreeChange t.disk z new.disk qs (λ t. t) (λ d. d)) (sym h.is) (sym x.pairs) (turned_alone new.disk x.turned) in
           let y = subst (λ m. HasTurned t.disk w p (l ++ r) m new.disk q_of []) move_is x.turned in
+          let state : gstate_of_pairs new.pairs ≡ gstate_without_move (gstate_of_pairs t.pairs) = ap gstate_of_pairs x.pairs ∙ ended_state t.disk w p l u r ending new.disk q_of y ∙ ap (λ z. gstate_without_move (gstate_of_pairs z)) (sym h.is) in
+          let root = ap pair_count_before_root x.pairs ∙ ended_chain t.disk w p l u r ending new.disk q_of y ∙ sym (ap pair_count_before_root h.is ∙ h.is_site.chain) in
           record {
-            taken = subst (λ z. IsWritableImageAfterTreeChange t.disk z new.disk new.pairs (λ t. t) (λ d. d)) (sym h.is) (subst (λ z. IsWritableImageAfterTreeChange t.disk (thread_at w (p ∷ [])) new.disk z (λ t. t) (λ d. d)) (sym x.pairs) taken);
-            state = ap gstate_of_pairs x.pairs ∙ ended_state t.disk w p l u r ending new.disk q_of y ∙ ap (λ z. gstate_without_move (gstate_of_pairs z)) (sym h.is);
+            taken = all;
+            state = state;
             alike = subst (ArePairsWithSameAddressesAndSlots (thread_pairs_with_content_replaced_at_index t pair (content_after_move_ends t pair id))) (sym (x.is ∙ ap (λ d. thread_pairs_with_content_replaced_at_index t pair d) (ap₂ (λ s (z : Pair). record { slots = s; tail = z.content.tail; move = move })
                 (sym slots_now ∙ ap (λ (z : Pair). remove z.content.slots id) (sym here)) (sym here)))) (alike_itself (thread_pairs_with_content_replaced_at_index t pair (content_after_move_ends t pair id)));
             map = x.map;
             blocks = λ b. (let e = ap (λ z. occurrence_count_of_number b (used_blocks new.disk z)) x.pairs ∙ ended_count t.disk w p l u r ending new.disk q_of y b ∙ ap (λ z. occurrence_count_of_number b (used_blocks t.disk z)) (sym h.is) in omega arith);
             shape = x.shape;
             begins = ap (λ z. addresses_of_first_pairs_of_directories (directories_in_thread z)) x.pairs ∙ ended_firsts t.disk w p l u r ending new.disk q_of y ∙ ap (λ z. addresses_of_first_pairs_of_directories (directories_in_thread z)) (sym h.is);
+            root = root;
+            leads_on = laid_out_kin t new (go_alike t new all.follows x.shape) (subst HasNoMove (sym state) (record { kind = refl; id = refl; pair = refl })) root
+                (subst (λ z. AreKin (pairs_without_moved_slot z) new.pairs) (sym h.is) (subst (AreKin (pairs_without_moved_slot (thread_at w (p ∷ [])))) (sym x.pairs) (ended_kin t.disk w p l u r ending new.disk q_of y)));
             kept = λ z none soft among. subst (IsTrueOfSomeElement (λ y. y ≡ z)) (sym x.pairs) (still_there z none (subst (IsTrueOfSomeElement (λ y. y ≡ z)) h.is among));
           }
 

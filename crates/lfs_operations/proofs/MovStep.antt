@@ -55,7 +55,6 @@ use Rattle.lfs_operations.proofs.MovSet.{HasTurned, IsSetting, set_count, set_st
 use Rattle.lfs_operations.proofs.Owning.{used_same}
 use Rattle.lfs_operations.proofs.MovTurned.{IsTurn, Stays, TurnedOn, TurnedTo, left_put, put_turned}
 use Rattle.lfs_operations.proofs.Placing.{blocks_append, left_after, left_still}
-use Rattle.lfs_operations.proofs.RootStays.{move_end_stays}
 use Rattle.lfs_operations.specs.EndingMove.{gstate_without_move}
 use Rattle.lfs_operations.proofs.Threads.{get_at, set_at, take_front}
 
@@ -455,7 +454,7 @@ module _ (t : KeptThread) (sync : Bool) (old_pair : ℕ) (goes : Bool) (new_pair
 
       -- the root directory begins where it did
       pub last_root : KeepsPairCountBeforeRoot t last
-      last_root = move_end_stays mid last index (length lo) goes mid_ends e ∙ ap pair_count_before_root mid_is ∙ mid_chain ∙ sym (ap pair_count_before_root k.turn.there ∙ k.setting.site.chain)
+      last_root = e.root ∙ ap pair_count_before_root mid_is ∙ mid_chain ∙ sym (ap pair_count_before_root k.turn.there ∙ k.setting.site.chain)
 
       pub rename_becomes : sync ≡ false → ShowsTreeAfterPairDrops t last (tree_after_rename old_path new_path (tree_on_disk t.disk t.pairs)) (file_blocks_of_slots t.disk (target_slots target))
       rename_becomes plain = record {

@@ -1,10 +1,10 @@
 -- What the commits of a recovery make of a pair.
-use Rattle.std.proofs.Common.{ℕ, ◌≡◌, ◌<◌, ◌&&◌, ◌==◌, not, Bool, true, false, cond, List, [], ◌∷◌, Option, Some, None, refl, sym, ap, subst, ◌∙◌, arith, get_or, length, nat_eq, remove, zero, suc}
+use Rattle.std.proofs.Common.{ℕ, ◌≡◌, ◌<◌, ◌&&◌, ◌==◌, not, Bool, true, false, cond, List, [], ◌∷◌, Option, Some, None, refl, sym, ap, subst, ◌∙◌, arith, get_or, length, zero, suc}
 use Rattle.std.specs.Option.{option_and_then, option_map}
 use Rattle.std.proofs.lemmas.Nat.{xor_lt}
 use Rattle.std.proofs.lemmas.Option.{same_Some}
 use Rattle.std.proofs.lemmas.List.Elements.{recursion_from_All}
-use Rattle.lfs_model.specs.Changes.{PairContentChange, Delete, PutMove, PutTail, raw_pair_content_after_changes}
+use Rattle.lfs_model.specs.Changes.{PairContentChange, PutMove, PutTail, raw_pair_content_after_changes}
 use Rattle.lfs_model.specs.Content.{RawPairContent, RawSlot, pair_content_if_slots_complete, content_after_log_entry, content_after_log_entries, content_of_pair_at, current_block_of_pair_at, empty_raw_pair_content, raw_content_of_pair_at, slots_after_log_entry}
 use Rattle.lfs_model.specs.EntryTypes.{gstate_of_bytes, hard_tail_type, has_tag_id_if_needed, is_tag_of_known_type_and_length, pair_address_of_bytes, tail_of_log_entry, tail_to_pair_if_any}
 use Rattle.lfs_model.specs.Disk.{Disk}
@@ -12,18 +12,15 @@ use Rattle.lfs_model.specs.Log.{LogEntry, log_entries_of_block}
 use Rattle.lfs_model.specs.LoggedContent.{Are32BitPairAddresses, AreMoveStateFieldsWithinBitWidths, is_null_pair}
 use Rattle.lfs_model.specs.Slots.{PairContent, IsContentFittingPair, Gstate, Tail, gstate_xor, zero_gstate}
 use Rattle.lfs_model.specs.Tag.{abstract_type_of_tag, type_of_tag}
-use Rattle.lfs_model.specs.Thread.{Pair, gstate_of_pairs, pair_address_named_by_tail, slots_not_moved}
+use Rattle.lfs_model.specs.Thread.{Pair, gstate_of_pairs, pair_address_named_by_tail}
 use Rattle.lfs_model.specs.View.{IsAcceptedImage}
-use Rattle.lfs_model.proofs.Completed.{complete_length, complete_remove, completed_from, completed_parts}
+use Rattle.lfs_model.proofs.Completed.{completed_from, completed_parts}
 use Rattle.lfs_model.proofs.Counts.{Each}
-use Rattle.lfs_model.proofs.Effects.{deletes, does_first, does_nothing, ends_tail, puts_move, puts_tail}
+use Rattle.lfs_model.proofs.Effects.{does_first, does_nothing, ends_tail, puts_move, puts_tail}
 use Rattle.lfs_model.proofs.Global.{gstate_cons}
-use Rattle.lfs_model.proofs.Pairs.{pair_itself}
-use Rattle.lfs_model.proofs.RecoveredImage.{fits_unmoved}
 use Rattle.lfs_thread.specs.Kept.{KeptThread}
 use Rattle.lfs_thread.specs.Steps.{CanChangePair, CanDropNextPair, IsCommitRefused, complete_content_after_changes, empty_pair_at_anchor, thread_pair_at_index}
 use Rattle.lfs_operations.specs.Deltas.{CanSetGstateInPair, CanTakeOverNextPair, FitsGstateFields, Is32BitPairAddressIfSome, has_hard_tail_at, gstate_setting_changes, delta_reaching_gstate, delta_after_taking_over_next_pair, next_pair_takeover_changes, pair_named_by_optional_tail}
-use Rattle.lfs_operations.specs.EndingMove.{CanRemoveMovedSlot, remove_moved_slot_changes}
 use Rattle.lfs_operations.proofs.Held.{completes_to}
 
 -- ---- what a log can come to
@@ -236,45 +233,3 @@ pub over_not_refused : (t : KeptThread) (index behind : ℕ) (g : Gstate) → Ca
 over_not_refused t index behind g can address words new is =
     is.too_large (subst (IsContentFittingPair t.disk.block_size t.disk.page) (sym (same_Some is.content (over_content t index behind g) (sym is.made ∙ over_made t index behind g can address words)))
     (over_fits t index behind g can address words))
-
--- ---- a slot goes
-
-abbrev pub without_content : KeptThread → ℕ → ℕ → Gstate → PairContent
-without_content t index id g = record { slots = remove (thread_pair_at_index t index).content.slots id; tail = (thread_pair_at_index t index).content.tail; move = delta_reaching_gstate t index g }
-
-module _ (t : KeptThread) (index id : ℕ) (g : Gstate) (take : CanRemoveMovedSlot t index id g) where
-  abbrev the_pair : Pair
-  the_pair = thread_pair_at_index t index
-
-  pair_fits : IsContentFittingPair t.disk.block_size t.disk.page the_pair.content
-  pair_fits = each_at (λ x. IsContentFittingPair t.disk.block_size t.disk.page x.content) t.pairs index take.can.below
-      (recursion_from_All (λ (x : Pair). IsContentFittingPair t.disk.block_size t.disk.page x.content) t.pairs take.can.writable.pairs)
-
-  pub take_made : Are32BitPairAddresses (delta_reaching_gstate t index g).pair → complete_content_after_changes t index (remove_moved_slot_changes t index id g) ≡ Some (without_content t index id g)
-  take_made address =
-      let k = completes_to (raw_content_of_pair_at t.disk the_pair.at) the_pair.content (holds_at t take.can.accepted index take.can.below) in
-      let parts = completed_parts k.raw the_pair.content k.complete in
-      let few = pair_fits.count in
-      let n = complete_length k.raw.slots the_pair.content.slots parts.slots in
-      let low = take.below in
-      let first : RawPairContent = record k.raw { slots = remove k.raw.slots id } in
-      let now : RawPairContent = record k.raw { slots = remove k.raw.slots id; move = delta_reaching_gstate t index g } in
-      ap (λ o. option_and_then pair_content_if_slots_complete (option_and_then (λ (x : RawPairContent). raw_pair_content_after_changes x (remove_moved_slot_changes t index id g)) o)) k.is
-      ∙ ap (λ o. option_and_then pair_content_if_slots_complete o) (does_first (Delete id) (PutMove (delta_reaching_gstate t index g) ∷ []) k.raw first now (deletes k.raw id (omega arith) (omega arith))
-      (does_first (PutMove (delta_reaching_gstate t index g)) [] first now now
-      (puts_move first (delta_reaching_gstate t index g) (small_state (delta_reaching_gstate t index g) (delta_fits t take.can.accepted index g take.can.below take.can.fields) address)) (does_nothing now)))
-      ∙ completed_from now (remove the_pair.content.slots id) (complete_remove k.raw.slots the_pair.content.slots id parts.slots)
-      ∙ ap (λ tail. Some (record { slots = remove the_pair.content.slots id; tail = tail; move = delta_reaching_gstate t index g })) (sym parts.tail)
-
-  pub can_take_slot : Are32BitPairAddresses (delta_reaching_gstate t index g).pair → CanChangePair t index (remove_moved_slot_changes t index id g)
-  can_take_slot address = record { below = take.can.below; content = without_content t index id g; made = take_made address; next = refl }
-
-  pub take_fits : IsContentFittingPair t.disk.block_size t.disk.page (without_content t index id g)
-  take_fits =
-      let hide : Gstate = record { sync = false; kind = 0x4ff; id = id; pair = the_pair.at } in
-      let f = fits_unmoved t.disk hide the_pair pair_fits in
-      let e : slots_not_moved hide the_pair ≡ remove the_pair.content.slots id = ap (λ b. cond (nat_eq 0x4ff 0x4ff && b) (remove the_pair.content.slots id) the_pair.content.slots) (pair_itself the_pair.at) in
-      subst (λ slots. IsContentFittingPair t.disk.block_size t.disk.page (record { slots = slots; tail = the_pair.content.tail; move = delta_reaching_gstate t index g })) e (record { size = f.size; count = f.count })
-
-  pub take_not_refused : Are32BitPairAddresses (delta_reaching_gstate t index g).pair → (new : KeptThread) → IsCommitRefused t index (remove_moved_slot_changes t index id g) new → ⊥
-  take_not_refused address new is = is.too_large (subst (IsContentFittingPair t.disk.block_size t.disk.page) (sym (same_Some is.content (without_content t index id g) (sym is.made ∙ take_made address))) take_fits)

@@ -16,9 +16,11 @@ ghost use Rattle.lfs_thread.specs.Device.{PowerLossLeavesSuchBlocksAfterCleanEra
 ghost use Rattle.lfs_thread.specs.Steps.{IsPairChanged, IsPairAfterIndexDropped, PowerLossLeavesPairOldOrChanged, ThreadChangesOnlyTheseBlocks, thread_pair_at_index};
 ghost use Rattle.lfs_operations.specs.Deltas.{CanSetGstateInPair, CanTakeOverNextPair, Is32BitPairAddressIfSome, has_hard_tail_at, gstate_setting_changes, delta_reaching_gstate, next_pair_takeover_changes, delta_after_taking_over_next_pair, pair_named_by_optional_tail};
 ghost use Rattle.lfs_operations.specs.Recovering.{CanClearSyncBit, CanDropUnreachedPairs, HasDroppedUnreachedPairsAndRecovered, IsSyncBitCleared, ReportsErrorsOfRecovery, gstate_zero_after_last_unreached_pair_drop};
-ghost use Rattle.lfs_operations.specs.EndingMove.{CanEndMove, CanRemoveMovedSlot, HasEndedMove, HasMovedSlotInPair, has_one_slot_after_hard_tail, remove_moved_slot_changes, gstate_without_move};
+ghost use Rattle.lfs_operations.specs.EndingMove.{CanEndMove, HasEndedMove, HasMovedSlotInPair, has_one_slot_after_hard_tail};
 ghost use Rattle.lfs_operations.specs.Removing.{ReportsErrorsOfCommitTakingNoBlock};
 
+use crate::moves;
+use crate::new_directories::show_device_facts_to_proof;
 use lfs_device::{BlockDevice, Error};
 use lfs_pair::Change;
 use lfs_tag::kinds::DELETE;
@@ -226,18 +228,6 @@ fn pair_number_of_moved_slot<D: BlockDevice>(thread: &Thread<D>, state: &MoveSta
     pair_number_at_address(thread, state.pair)
 }
 
-// Returns the global state without a move.
-fn move_state_with_sync_only(state: &MoveState) -> MoveState
-    ensures { move_view result ≡ gstate_without_move (move_view state.now) }
-{
-    MoveState {
-        sync: state.sync,
-        kind: 0,
-        id: 0,
-        pair: [0, 0],
-    }
-}
-
 // Returns whether a pair has one slot, and a hard tail names the pair.
 fn is_one_slot_after_hard_tail<D: BlockDevice>(thread: &Thread<D>, index: usize) -> bool
     requires works { thread.now.failed ≡ false }
@@ -245,32 +235,6 @@ fn is_one_slot_after_hard_tail<D: BlockDevice>(thread: &Thread<D>, index: usize)
     ensures { result ≡ has_one_slot_after_hard_tail thread.now.kept index }
 {
     index > 0 && thread.slot_count(index) == 1 && is_tail_of_pair_hard(thread, index - 1)
-}
-
-// Removes the slot at the id from a pair, so that the global state becomes `wanted`.
-fn remove_moved_slot_of_pair<D: BlockDevice>(
-    alloc: Global,
-    thread: &mut Thread<D>,
-    index: usize,
-    id: u16,
-    wanted: &MoveState,
-) -> Result<(), Error>
-    requires works { thread.old.failed ≡ false }
-    requires can { CanRemoveMovedSlot thread.old.kept index id (move_view wanted.now) }
-    ensures is_taken { OnOk result (IsPairChanged thread.old.kept index (remove_moved_slot_changes thread.old.kept index id (move_view wanted.now)) thread.new.kept) }
-    ensures errors { ReportsErrorsOfCommitTakingNoBlock thread.old thread.new result }
-    ensures words { Are32BitPairAddresses (delta_reaching_gstate thread.old.kept index (move_view wanted.now)).pair }
-    ensures device { ThreadChangesOnlyTheseBlocks (blocks_of_pair_address (thread_pair_at_index thread.old.kept index).at) thread.old.kept thread.new.kept }
-    ensures stops { PowerLossLeavesSuchBlocksAfterCleanErases thread.old.kept.history thread.new.kept.history (PowerLossLeavesPairOldOrChanged thread.old.kept index (remove_moved_slot_changes thread.old.kept index id (move_view wanted.now))) }
-{
-    let state = show_gstate_address_to_proof(delta_that_reaches_gstate(thread, index, wanted));
-    // The pair has a slot less than before, so the commit is never refused.
-    thread.commit_pair_changes(
-        alloc,
-        index,
-        &[Change::Delete { id }, Change::Move { state }],
-    )?;
-    Ok(())
 }
 
 /// Ends a set move in one commit: the slot that the move names is removed (DESIGN.md of littlefs,
@@ -293,11 +257,8 @@ pub fn end_move<D: BlockDevice>(alloc: Global, thread: &mut Thread<D>) -> Result
     let Some(index) = pair_number_of_moved_slot(thread, &state) else {
         return Ok(());
     };
-    let wanted = move_state_with_sync_only(&state);
-    if is_one_slot_after_hard_tail(thread, index) {
-        drop_pair_behind_index(alloc, thread, index - 1, index, &wanted)?;
-    } else {
-        remove_moved_slot_of_pair(alloc, thread, index, state.id, &wanted)?;
-    }
+    let goes = is_one_slot_after_hard_tail(thread, index);
+    show_device_facts_to_proof(thread);
+    moves::end_move(alloc, thread, index, state.id, goes)?;
     Ok(())
 }

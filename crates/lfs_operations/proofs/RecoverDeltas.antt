@@ -4,74 +4,55 @@ use Rattle.std.specs.Option.{option_and_then, option_map}
 use Rattle.std.proofs.lemmas.Nat.{xor_lt}
 use Rattle.std.proofs.lemmas.Option.{same_Some}
 use Rattle.std.proofs.lemmas.List.Elements.{recursion_from_All}
-use Rattle.lfs_model.specs.Changes.{PairContentChange, PutMove, PutTail, raw_pair_content_after_changes}
+use Rattle.lfs_model.specs.Changes.{PutMove, raw_pair_content_after_changes}
 use Rattle.lfs_model.specs.Content.{RawPairContent, RawSlot, pair_content_if_slots_complete, content_after_log_entry, content_after_log_entries, content_of_pair_at, current_block_of_pair_at, empty_raw_pair_content, raw_content_of_pair_at, slots_after_log_entry}
-use Rattle.lfs_model.specs.EntryTypes.{gstate_of_bytes, hard_tail_type, has_tag_id_if_needed, is_tag_of_known_type_and_length, pair_address_of_bytes, tail_of_log_entry, tail_to_pair_if_any}
+use Rattle.lfs_model.specs.EntryTypes.{gstate_of_bytes, has_tag_id_if_needed, is_tag_of_known_type_and_length, tail_of_log_entry}
 use Rattle.lfs_model.specs.Disk.{Disk}
 use Rattle.lfs_model.specs.Log.{LogEntry, log_entries_of_block}
-use Rattle.lfs_model.specs.LoggedContent.{Are32BitPairAddresses, AreMoveStateFieldsWithinBitWidths, is_null_pair}
-use Rattle.lfs_model.specs.Slots.{PairContent, IsContentFittingPair, Gstate, Tail, gstate_xor, zero_gstate}
-use Rattle.lfs_model.specs.Tag.{abstract_type_of_tag, type_of_tag}
-use Rattle.lfs_model.specs.Thread.{Pair, gstate_of_pairs, pair_address_named_by_tail}
+use Rattle.lfs_model.specs.LoggedContent.{Are32BitPairAddresses, AreMoveStateFieldsWithinBitWidths}
+use Rattle.lfs_model.specs.Slots.{PairContent, IsContentFittingPair, Gstate, gstate_xor, zero_gstate}
+use Rattle.lfs_model.specs.Tag.{abstract_type_of_tag}
+use Rattle.lfs_model.specs.Thread.{Pair, gstate_of_pairs}
 use Rattle.lfs_model.specs.View.{IsAcceptedImage}
 use Rattle.lfs_model.proofs.Completed.{completed_from, completed_parts}
 use Rattle.lfs_model.proofs.Counts.{Each}
-use Rattle.lfs_model.proofs.Effects.{does_first, does_nothing, ends_tail, puts_move, puts_tail}
+use Rattle.lfs_model.proofs.Effects.{does_first, does_nothing, puts_move}
 use Rattle.lfs_model.proofs.Global.{gstate_cons}
 use Rattle.lfs_thread.specs.Kept.{KeptThread}
-use Rattle.lfs_thread.specs.Steps.{CanChangePair, CanDropNextPair, IsCommitRefused, complete_content_after_changes, empty_pair_at_anchor, thread_pair_at_index}
-use Rattle.lfs_operations.specs.Deltas.{CanSetGstateInPair, CanTakeOverNextPair, FitsGstateFields, Is32BitPairAddressIfSome, has_hard_tail_at, gstate_setting_changes, delta_reaching_gstate, delta_after_taking_over_next_pair, next_pair_takeover_changes, pair_named_by_optional_tail}
+use Rattle.lfs_thread.specs.Steps.{CanChangePair, IsCommitRefused, complete_content_after_changes, empty_pair_at_anchor, thread_pair_at_index}
+use Rattle.lfs_operations.specs.Deltas.{CanSetGstateInPair, FitsGstateFields, gstate_setting_changes, delta_reaching_gstate}
 use Rattle.lfs_operations.proofs.Held.{completes_to}
 
 -- ---- what a log can come to
 
--- a tail doesn't name two null addresses
-abbrev IsNamed : Option Tail → Type 0
-IsNamed None = Unit {0}
-IsNamed (Some t) = is_null_pair t.to ≡ false
-
-record IsKnown (c : RawPairContent) : Type 0 where
-  fields : FitsGstateFields c.move
-  tail : IsNamed c.tail
-
-named_with : (hard : Bool) (to : ℕ × ℕ) → IsNamed (tail_to_pair_if_any hard to)
-named_with hard to = go (is_null_pair to) refl
-  where
-    go : (b : Bool) → is_null_pair to ≡ b → IsNamed (cond b None (Some (record { hard = hard; to = to })))
-    go true n = tt
-    go false n = n
-
-known_tail : (e : LogEntry) → IsNamed (tail_of_log_entry e)
-known_tail e = named_with (type_of_tag e.tag == hard_tail_type) (pair_address_of_bytes e.bytes)
-
-known_after : (c : RawPairContent) (e : LogEntry) (d : RawPairContent) → IsKnown c → content_after_log_entry c e ≡ Some d → IsKnown d
+known_after : (c : RawPairContent) (e : LogEntry) (d : RawPairContent) → FitsGstateFields c.move → content_after_log_entry c e ≡ Some d → FitsGstateFields d.move
 known_after c e d h is = go (abstract_type_of_tag e.tag == 5) (is_tag_of_known_type_and_length e.tag) (has_tag_id_if_needed e.tag) (abstract_type_of_tag e.tag == 6) (abstract_type_of_tag e.tag == 7) (slots_after_log_entry c.slots e) is
   where
     go : (five t i six seven : Bool) (slots : Option (List RawSlot))
         → cond five (Some c) (cond (not (t && i)) None (cond six (Some (record c { tail = tail_of_log_entry e })) (cond seven (Some (record c { move = gstate_of_bytes e.bytes })) (option_map (λ all. record c { slots = all }) slots)))) ≡ Some d
-        → IsKnown d
-    go true t i six seven slots f = subst IsKnown (same_Some c d f) h
+        → FitsGstateFields d.move
+    go true t i six seven slots f = subst (λ (x : RawPairContent). FitsGstateFields x.move) (same_Some c d f) h
     go false false i six seven slots f = absurd (cc)
     go false true false six seven slots f = absurd (cc)
-    go false true true true seven slots f = subst IsKnown (same_Some _ d f) (record { fields = h.fields; tail = known_tail e })
-    go false true true false true slots f = subst IsKnown (same_Some _ d f) (record { fields = record { kind = omega arith; id = omega arith }; tail = h.tail })
+    go false true true true seven slots f = subst (λ (x : RawPairContent). FitsGstateFields x.move) (same_Some _ d f) h
+    go false true true false true slots f = subst (λ (x : RawPairContent). FitsGstateFields x.move) (same_Some _ d f) (record { kind = omega arith; id = omega arith })
     go false true true false false None f = absurd (cc)
-    go false true true false false (Some all) f = subst IsKnown (same_Some _ d f) (record { fields = h.fields; tail = h.tail })
+    go false true true false false (Some all) f = subst (λ (x : RawPairContent). FitsGstateFields x.move) (same_Some _ d f) h
 
-known_after_all : (c : RawPairContent) (es : List LogEntry) (d : RawPairContent) → IsKnown c → content_after_log_entries c es ≡ Some d → IsKnown d
-known_after_all c [] d h is = subst IsKnown (same_Some c d is) h
+known_after_all : (c : RawPairContent) (es : List LogEntry) (d : RawPairContent) → FitsGstateFields c.move → content_after_log_entries c es ≡ Some d → FitsGstateFields d.move
+known_after_all c [] d h is = subst (λ (x : RawPairContent). FitsGstateFields x.move) (same_Some c d is) h
 known_after_all c (e ∷ es) d h is = go (content_after_log_entry c e) refl is (λ b k. known_after_all b es d k)
   where
-    go : (o : Option RawPairContent) → content_after_log_entry c e ≡ o → option_and_then (λ b. content_after_log_entries b es) o ≡ Some d → ((b : RawPairContent) → IsKnown b → content_after_log_entries b es ≡ Some d → IsKnown d) → IsKnown d
+    go : (o : Option RawPairContent) → content_after_log_entry c e ≡ o → option_and_then (λ b. content_after_log_entries b es) o ≡ Some d → ((b : RawPairContent) → FitsGstateFields b.move → content_after_log_entries b es ≡ Some d → FitsGstateFields d.move) → FitsGstateFields d.move
     go None f g more = absurd (cc)
     go (Some b) f g more = more b (known_after c e b h f) g
 
-known_at : (disk : Disk) (at : ℕ × ℕ) (raw : RawPairContent) → raw_content_of_pair_at disk at ≡ Some raw → IsKnown raw
+known_at : (disk : Disk) (at : ℕ × ℕ) (raw : RawPairContent) → raw_content_of_pair_at disk at ≡ Some raw → FitsGstateFields raw.move
 known_at disk at raw is = go (current_block_of_pair_at disk at) is
   where
-    go : (o : Option (List ℕ)) → option_and_then (λ block. content_after_log_entries empty_raw_pair_content (log_entries_of_block block)) o ≡ Some raw → IsKnown raw
+    go : (o : Option (List ℕ)) → option_and_then (λ block. content_after_log_entries empty_raw_pair_content (log_entries_of_block block)) o ≡ Some raw → FitsGstateFields raw.move
     go None e = absurd (cc)
-    go (Some block) e = known_after_all empty_raw_pair_content (log_entries_of_block block) raw (record { fields = record { kind = omega arith; id = omega arith }; tail = tt }) e
+    go (Some block) e = known_after_all empty_raw_pair_content (log_entries_of_block block) raw (record { kind = omega arith; id = omega arith }) e
 
 -- ---- deltas
 
@@ -84,7 +65,7 @@ none_fits = record { kind = omega arith; id = omega arith }
 content_fits : (disk : Disk) (at : ℕ × ℕ) (c : PairContent) → content_of_pair_at disk at ≡ Some c → FitsGstateFields c.move
 content_fits disk at c is =
     let k = completes_to (raw_content_of_pair_at disk at) c is in
-    subst FitsGstateFields (sym (completed_parts k.raw c k.complete).move) (known_at disk at k.raw k.is).fields
+    subst FitsGstateFields (sym (completed_parts k.raw c k.complete).move) (known_at disk at k.raw k.is)
 
 state_fits : (ps : List Pair) → Each (λ p. FitsGstateFields p.content.move) ps → FitsGstateFields (gstate_of_pairs ps)
 state_fits [] h = none_fits
@@ -116,33 +97,14 @@ module _ (t : KeptThread) (ok : IsAcceptedImage t.disk t.pairs) where
   pub delta_fits : (index : ℕ) (g : Gstate) → index < length t.pairs → FitsGstateFields g → FitsGstateFields (delta_reaching_gstate t index g)
   delta_fits index g low h = xor_fits (gstate_xor g (gstate_of_pairs t.pairs)) (thread_pair_at_index t index).content.move (xor_fits g (gstate_of_pairs t.pairs) h thread_fits) (fits_at index low)
 
-  pub tail_named : (index : ℕ) → index < length t.pairs → IsNamed (thread_pair_at_index t index).content.tail
-  tail_named index low =
-      let k = completes_to (raw_content_of_pair_at t.disk (thread_pair_at_index t index).at) (thread_pair_at_index t index).content (holds_at index low) in
-      subst IsNamed (sym (completed_parts k.raw (thread_pair_at_index t index).content k.complete).tail) (known_at t.disk (thread_pair_at_index t index).at k.raw k.is).tail
-
 -- ---- another delta
 
 -- the pair with another delta
 abbrev pub with_move : PairContent → Gstate → PairContent
 with_move c m = record { slots = c.slots; tail = c.tail; move = m }
 
--- the tail that is taken over, as a hard one or a soft one
-abbrev pub taken_tail : Bool → Option Tail → Option Tail
-taken_tail hard None = None
-taken_tail hard (Some t) = Some (record { hard = hard; to = t.to })
-
-abbrev pub with_tail : PairContent → Option Tail → Gstate → PairContent
-with_tail c t m = record { slots = c.slots; tail = t; move = m }
-
 small_state : (g : Gstate) → FitsGstateFields g → Are32BitPairAddresses g.pair → AreMoveStateFieldsWithinBitWidths g
 small_state g h a = record { kind = h.kind; id = h.id; pair = a }
-
-raw_tail : (raw : RawPairContent) (hard : Bool) (tail : Option Tail) (rest : List PairContentChange) (e : RawPairContent) → IsNamed tail → Is32BitPairAddressIfSome (pair_named_by_optional_tail tail)
-    → raw_pair_content_after_changes (record raw { tail = taken_tail hard tail }) rest ≡ Some e → raw_pair_content_after_changes raw (PutTail hard (pair_named_by_optional_tail tail) ∷ rest) ≡ Some e
-raw_tail raw hard None rest e n a h = does_first (PutTail hard None) rest raw (record raw { tail = None }) e (ends_tail raw hard) h
-raw_tail raw hard (Some t) rest e n a h = does_first (PutTail hard (Some t.to)) rest raw (record raw { tail = tail_to_pair_if_any hard t.to }) e (puts_tail raw hard t.to a)
-    (ap (λ b. raw_pair_content_after_changes (record raw { tail = cond b None (Some (record { hard = hard; to = t.to })) }) rest) n ∙ h)
 
 abbrev pub set_content : KeptThread → ℕ → Gstate → PairContent
 set_content t index g = with_move (thread_pair_at_index t index).content (delta_reaching_gstate t index g)
@@ -171,65 +133,8 @@ module _ (t : KeptThread) (index : ℕ) (g : Gstate) (can : CanSetGstateInPair t
       (recursion_from_All (λ (x : Pair). IsContentFittingPair t.disk.block_size t.disk.page x.content) t.pairs can.writable.pairs) in
       record { size = f.size; count = f.count }
 
--- ---- a tail and a delta taken over
-
-abbrev pub over_content : KeptThread → ℕ → ℕ → Gstate → PairContent
-over_content t index behind g = with_tail (thread_pair_at_index t index).content (taken_tail (has_hard_tail_at t index && has_hard_tail_at t behind) (thread_pair_at_index t behind).content.tail) (delta_after_taking_over_next_pair t index behind g)
-
-module _ (t : KeptThread) (index behind : ℕ) (g : Gstate) (can : CanTakeOverNextPair t index behind g) (address : Are32BitPairAddresses (delta_after_taking_over_next_pair t index behind g).pair)
-    (words : Is32BitPairAddressIfSome (pair_named_by_optional_tail (thread_pair_at_index t behind).content.tail)) where
-  abbrev first : Pair
-  first = thread_pair_at_index t index
-
-  abbrev next : Pair
-  next = thread_pair_at_index t behind
-
-  abbrev hard : Bool
-  hard = has_hard_tail_at t index && has_hard_tail_at t behind
-
-  below_first : index < length t.pairs
-  below_first = let l = can.below in let n = can.next in omega arith
-
-  over_fields : FitsGstateFields (delta_after_taking_over_next_pair t index behind g)
-  over_fields = xor_fits (delta_reaching_gstate t index g) next.content.move (delta_fits t can.accepted index g below_first can.fields) (fits_at t can.accepted behind can.below)
-
-  pub over_made : complete_content_after_changes t index (next_pair_takeover_changes t index behind g) ≡ Some (over_content t index behind g)
-  over_made =
-      let k = completes_to (raw_content_of_pair_at t.disk first.at) first.content (holds_at t can.accepted index below_first) in
-      let parts = completed_parts k.raw first.content k.complete in
-      let mid : RawPairContent = record k.raw { tail = taken_tail hard next.content.tail } in
-      let now : RawPairContent = record k.raw { tail = taken_tail hard next.content.tail; move = delta_after_taking_over_next_pair t index behind g } in
-      ap (λ o. option_and_then pair_content_if_slots_complete (option_and_then (λ (x : RawPairContent). raw_pair_content_after_changes x (next_pair_takeover_changes t index behind g)) o)) k.is
-      ∙ ap (λ o. option_and_then pair_content_if_slots_complete o) (raw_tail k.raw hard next.content.tail (PutMove (delta_after_taking_over_next_pair t index behind g) ∷ []) now (tail_named t can.accepted behind can.below) words
-      (does_first (PutMove (delta_after_taking_over_next_pair t index behind g)) [] mid now now (puts_move mid (delta_after_taking_over_next_pair t index behind g) (small_state (delta_after_taking_over_next_pair t index behind g) over_fields address)) (does_nothing now)))
-      ∙ completed_from now first.content.slots parts.slots
-
-  pub can_drop : CanDropNextPair t index (next_pair_takeover_changes t index behind g)
-  can_drop = record {
-    below = let l = can.below in let n = can.next in omega arith;
-    content = over_content t index behind g;
-    made = over_made;
-    next = same next.content.tail ∙ ap (λ (i : ℕ). pair_address_named_by_tail (thread_pair_at_index t i).content.tail) can.next;
-  }
-    where
-      same : (tail : Option Tail) → pair_address_named_by_tail (taken_tail hard tail) ≡ pair_address_named_by_tail tail
-      same None = refl
-      same (Some x) = refl
-
-  pub over_fits : IsContentFittingPair t.disk.block_size t.disk.page (over_content t index behind g)
-  over_fits =
-      let f = each_at (λ x. IsContentFittingPair t.disk.block_size t.disk.page x.content) t.pairs index below_first
-      (recursion_from_All (λ (x : Pair). IsContentFittingPair t.disk.block_size t.disk.page x.content) t.pairs can.writable.pairs) in
-      record { size = f.size; count = f.count }
-
--- ---- neither is refused
+-- ---- it is never refused
 
 pub set_not_refused : (t : KeptThread) (index : ℕ) (g : Gstate) → CanSetGstateInPair t index g → Are32BitPairAddresses (delta_reaching_gstate t index g).pair → (new : KeptThread) → IsCommitRefused t index (gstate_setting_changes t index g) new → ⊥
 set_not_refused t index g can address new is =
     is.too_large (subst (IsContentFittingPair t.disk.block_size t.disk.page) (sym (same_Some is.content (set_content t index g) (sym is.made ∙ set_made t index g can address))) (set_fits t index g can address))
-
-pub over_not_refused : (t : KeptThread) (index behind : ℕ) (g : Gstate) → CanTakeOverNextPair t index behind g → Are32BitPairAddresses (delta_after_taking_over_next_pair t index behind g).pair → Is32BitPairAddressIfSome (pair_named_by_optional_tail (thread_pair_at_index t behind).content.tail)
-    → (new : KeptThread) → IsCommitRefused t index (next_pair_takeover_changes t index behind g) new → ⊥
-over_not_refused t index behind g can address words new is =
-    is.too_large (subst (IsContentFittingPair t.disk.block_size t.disk.page) (sym (same_Some is.content (over_content t index behind g) (sym is.made ∙ over_made t index behind g can address words)))
-    (over_fits t index behind g can address words))

@@ -1,7 +1,6 @@
 // The recovery: what a loss of power left half done is ended.
 
-ghost use Rattle.std.specs.Prelude.{ℕ, ◌≡◌, ◌<◌, ◌+◌, ◌-◌, ◌&&◌, false, OnOk, length, if◌then◌else◌, IfNone, IfSome, Option};
-ghost use Rattle.std.specs.Option.{option_map};
+ghost use Rattle.std.specs.Prelude.{◌≡◌, ◌<◌, ◌+◌, ◌-◌, ◌&&◌, false, OnOk, length, if◌then◌else◌, IfNone, IfSome, Option};
 ghost use Rattle.lfs_model.specs.LoggedContent.{Are32BitPairAddresses};
 ghost use Rattle.lfs_model.specs.PowerLoss.{SurvivesPowerLossInCallsSince};
 ghost use Rattle.lfs_model.specs.Recovery.{IsNothingLeftToRecover};
@@ -10,21 +9,21 @@ ghost use Rattle.lfs_model.specs.Thread.{blocks_of_pairs, gstate_of_pairs, block
 ghost use Rattle.lfs_model.specs.View.{IsAcceptedImage};
 ghost use Rattle.lfs_model.specs.Shown.{tree_on_disk};
 ghost use Rattle.lfs_model.specs.Steps.{HasNoMove};
-ghost use Rattle.lfs_tag.specs.ContentView.{tail_view};
 ghost use Rattle.lfs_tag.specs.FieldsView.{move_view};
 ghost use Rattle.lfs_thread.specs.Device.{PowerLossLeavesSuchBlocksAfterCleanErases};
-ghost use Rattle.lfs_thread.specs.Steps.{IsPairChanged, IsPairAfterIndexDropped, PowerLossLeavesPairOldOrChanged, ThreadChangesOnlyTheseBlocks, thread_pair_at_index};
-ghost use Rattle.lfs_operations.specs.Deltas.{CanSetGstateInPair, CanTakeOverNextPair, Is32BitPairAddressIfSome, has_hard_tail_at, gstate_setting_changes, delta_reaching_gstate, next_pair_takeover_changes, delta_after_taking_over_next_pair, pair_named_by_optional_tail};
+ghost use Rattle.lfs_thread.specs.Steps.{IsPairChanged, PowerLossLeavesPairOldOrChanged, ThreadChangesOnlyTheseBlocks, thread_pair_at_index};
+ghost use Rattle.lfs_operations.specs.Deltas.{CanSetGstateInPair, has_hard_tail_at, gstate_setting_changes, delta_reaching_gstate};
 ghost use Rattle.lfs_operations.specs.Recovering.{CanClearSyncBit, CanDropUnreachedPairs, HasDroppedUnreachedPairsAndRecovered, IsSyncBitCleared, ReportsErrorsOfRecovery, gstate_zero_after_last_unreached_pair_drop};
 ghost use Rattle.lfs_operations.specs.EndingMove.{CanEndMove, HasEndedMove, HasMovedSlotInPair, has_one_slot_after_hard_tail};
 ghost use Rattle.lfs_operations.specs.Removing.{ReportsErrorsOfCommitTakingNoBlock};
 
+use crate::drops::drop_pair_at;
 use crate::moves;
 use crate::new_directories::show_device_facts_to_proof;
 use lfs_device::{BlockDevice, Error};
 use lfs_pair::Change;
+use lfs_tag::MoveState;
 use lfs_tag::kinds::DELETE;
-use lfs_tag::{MoveState, Tail};
 use lfs_thread::{Thread, gstate_xor_delta, pair_number_at_address};
 use std::alloc::Global;
 
@@ -73,27 +72,6 @@ fn is_tail_of_pair_hard<D: BlockDevice>(thread: &Thread<D>, index: usize) -> boo
     thread.next(index).is_some()
 }
 
-// Returns the address of the pair that a tail names.
-fn address_named_by_tail(tail: Option<Tail>) -> Option<[u32; 2]>
-    ensures same { option_map pair_address_of_array result ≡ pair_named_by_optional_tail (option_map tail_view tail) }
-    ensures words { Is32BitPairAddressIfSome (option_map pair_address_of_array result) }
-{
-    match tail {
-        None => None,
-        Some(tail) => Some(show_pair_address_to_proof(tail.pair)),
-    }
-}
-
-// Returns whether the tails of both pairs are hard ones.
-fn have_both_hard_tails<D: BlockDevice>(thread: &Thread<D>, index: usize, behind: usize) -> bool
-    requires works { thread.now.failed ≡ false }
-    requires first { index < length thread.now.kept.pairs }
-    requires second { behind < length thread.now.kept.pairs }
-    ensures { result ≡ (has_hard_tail_at thread.now.kept index && has_hard_tail_at thread.now.kept behind) }
-{
-    is_tail_of_pair_hard(thread, index) && is_tail_of_pair_hard(thread, behind)
-}
-
 // Changes a pair's delta, so that the global state becomes `wanted`.
 fn set_gstate_in_pair<D: BlockDevice>(
     alloc: Global,
@@ -112,36 +90,6 @@ fn set_gstate_in_pair<D: BlockDevice>(
     let state = show_gstate_address_to_proof(delta_that_reaches_gstate(thread, index, wanted));
     // The pair has the slots that it had, so the commit is never refused.
     thread.commit_pair_changes(alloc, index, &[Change::Move { state }])?;
-    Ok(())
-}
-
-// Drops the pair after the one at the index, so that the global state becomes `wanted`. The pair at
-// the index takes over its delta and its tail, which is hard only where both tails are.
-fn drop_pair_behind_index<D: BlockDevice>(
-    alloc: Global,
-    thread: &mut Thread<D>,
-    index: usize,
-    behind: usize,
-    wanted: &MoveState,
-) -> Result<(), Error>
-    requires works { thread.old.failed ≡ false }
-    requires can { CanTakeOverNextPair thread.old.kept index behind (move_view wanted.now) }
-    ensures is_dropped { OnOk result (IsPairAfterIndexDropped thread.old.kept index (next_pair_takeover_changes thread.old.kept index behind (move_view wanted.now)) thread.new.kept) }
-    ensures errors { ReportsErrorsOfCommitTakingNoBlock thread.old thread.new result }
-    ensures words { Are32BitPairAddresses (delta_after_taking_over_next_pair thread.old.kept index behind (move_view wanted.now)).pair × Is32BitPairAddressIfSome (pair_named_by_optional_tail (thread_pair_at_index thread.old.kept behind).content.tail) }
-    ensures device { ThreadChangesOnlyTheseBlocks (blocks_of_pair_address (thread_pair_at_index thread.old.kept index).at) thread.old.kept thread.new.kept }
-    ensures stops { PowerLossLeavesSuchBlocksAfterCleanErases thread.old.kept.history thread.new.kept.history (PowerLossLeavesPairOldOrChanged thread.old.kept index (next_pair_takeover_changes thread.old.kept index behind (move_view wanted.now))) }
-{
-    let delta = delta_that_reaches_gstate(thread, index, wanted);
-    let state = show_gstate_address_to_proof(gstate_xor_delta(&delta, &thread.delta(behind)));
-    let hard = have_both_hard_tails(thread, index, behind);
-    let pair = address_named_by_tail(thread.tail_of_pair(behind));
-    // The pair has the slots that it had, so the commit is never refused.
-    thread.drop_next(
-        alloc,
-        index,
-        &[Change::Tail { hard, pair }, Change::Move { state }],
-    )?;
     Ok(())
 }
 
@@ -209,7 +157,7 @@ pub fn drop_unreached_pairs<D: BlockDevice>(
             thread,
             dropped + 1 == unreached.len(),
         );
-        drop_pair_behind_index(alloc, thread, behind - 1, behind, &wanted)?;
+        drop_pair_at(alloc, thread, behind, &wanted)?;
     }
     clear_sync_bit(alloc, thread)?;
     Ok(())

@@ -27,7 +27,6 @@ use Rattle.lfs_operations.specs.Changing.{IsLeftByStoppedChangeOrSplit, IsPairCh
 use Rattle.lfs_operations.specs.Ready.{HasNoNewBlockInFlight, KeepsStatesOfTakenBlocks}
 use Rattle.lfs_operations.proofs.MakingCounts.{used_count_now}
 use Rattle.lfs_operations.proofs.Owning.{used_same}
-use Rattle.lfs_operations.proofs.Placing.{device}
 use Rattle.lfs_operations.proofs.MovTurned.{IsMapped, IsTurn, TurnedOn, TurnedTo, left_put, put_turned}
 use Rattle.lfs_operations.proofs.MovSet.{HasTurned}
 

@@ -290,12 +290,6 @@ module _ (t : KeptThread) (old_pair old_id first new_pair new_id : ℕ) (name : 
       left : IsLeftOver t true old_pair goes new_pair changes wo q0 lo s ro w p l (Some g) v r from to name first_step is.mid x m e
       left = left_over t true old_pair goes new_pair changes wo q0 lo s ro w p l (Some g) v r from to name first_step is.mid x m e
 
-      keeps : Piece
-      keeps = Keeps q0 (lo ++ ro) left.os
-
-      gains : Piece
-      gains = Gains p (l ++ v ∷ r) x.q x.more
-
       abbrev pieces_of : Bool → List Piece
       pieces_of true = Stays a.front ∷ Keeps q0 (lo ++ ro) left.os ∷ Stays a.mid ∷ Gains p (l ++ v ∷ r) x.q x.more ∷ Stays a.back ∷ []
       pieces_of false = Stays a.front ∷ Gains p (l ++ v ∷ r) x.q x.more ∷ Stays a.mid ∷ Keeps q0 (lo ++ ro) left.os ∷ Stays a.back ∷ []

@@ -3,7 +3,6 @@ use Rattle.std.proofs.Common.{ℕ, ◌≡◌, ◌≢◌, ◌≤◌, ◌<◌, ◌
 use Rattle.std.proofs.lemmas.Bool.{and_parts, cases_lt, lt-ltb}
 use Rattle.std.proofs.lemmas.List.Elements.{recursion_from_All}
 use Rattle.lfs_model.specs.BlockSets.{AreExactlyTheUsedBlocks}
-use Rattle.lfs_model.specs.Slots.{Slot}
 use Rattle.lfs_model.specs.Shown.{used_blocks}
 use Rattle.lfs_model.specs.Thread.{Pair, gstate_of_pairs, is_hard_tail, pair_count_before_root}
 use Rattle.lfs_model.specs.View.{HasSuperblockIfAnySlot}
@@ -24,16 +23,7 @@ use Rattle.lfs_operations.proofs.DroppedTails.{front_is}
 use Rattle.lfs_operations.proofs.MovEnding.{led_is}
 use Rattle.lfs_operations.proofs.Owning.{used_same}
 use Rattle.lfs_operations.proofs.RecoverMoved.{heads, in_directory}
-use Rattle.lfs_operations.proofs.RemovedWhole.{last_pair}
-
-last_flag : (xs : List Pair) (b : Bool) (p : Pair) → ends_in_hard_tail b (xs ++ p ∷ []) ≡ is_hard_tail p.content.tail
-last_flag [] b p = refl
-last_flag (x ∷ xs) b p = last_flag xs (is_hard_tail x.content.tail) p
-
-only_one : (l : List Slot) (u : Slot) (r : List Slot) → length (l ++ u ∷ r) ≡ 1 → l ++ u ∷ r ≡ u ∷ []
-only_one [] u [] e = refl
-only_one [] u (s ∷ r) e = absurd (omega arith)
-only_one (s ∷ l) u r e = absurd (let k = length-append l (u ∷ r) in omega arith)
+use Rattle.lfs_operations.proofs.RemovedWhole.{last_pair, flag_last, only_slot}
 
 pub written_below : (t : KeptThread) (index : ℕ) (goes : Bool) → index < length t.pairs → pair_written_at_move_end index goes < length t.pairs
 written_below t index true low = omega arith
@@ -68,7 +58,7 @@ module _ (t : KeptThread) (can : CanEndMove t) (index : ℕ) (m : HasMovedSlotIn
   front_led : front ≢ [] → is_pair_named_by_hard_tail t.pairs index ≡ has_hard_tail_at t (index - 1)
   front_led some =
       let l = last_pair front some in
-      named ∙ ap (ends_in_hard_tail false) l.is ∙ last_flag l.front false l.last ∙ ap (λ (z : Pair). is_hard_tail z.content.tail) (sym (before_is l.front l.last l.is))
+      named ∙ ap (ends_in_hard_tail false) l.is ∙ flag_last l.front l.last false ∙ ap (λ (z : Pair). is_hard_tail z.content.tail) (sym (before_is l.front l.last l.is))
 
   abbrev goes : Bool
   goes = has_one_slot_after_hard_tail t index
@@ -105,7 +95,7 @@ module _ (t : KeptThread) (can : CanEndMove t) (index : ℕ) (m : HasMovedSlotIn
       single = eqb-true (length (thread_pair_at_index t index).content.slots) 1 parts.0
 
       slots_are : (thread_pair_at_index t index).content.slots ≡ m.slot ∷ []
-      slots_are = m.held ∙ only_one m.left m.slot m.right (sym (ap length m.held) ∙ single)
+      slots_are = m.held ∙ only_slot m.left m.right m.slot (sym (ap length m.held) ∙ single)
 
       -- the pair isn't the root's first, which has a superblock
       later : (pair_count_before_root t.pairs < index) ⊎ (index ≤ pair_count_before_root t.pairs) → pair_count_before_root t.pairs < index

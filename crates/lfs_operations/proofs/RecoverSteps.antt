@@ -1,9 +1,8 @@
 -- The steps of a recovery, on the disk that they write and on those that a stop leaves.
-use Rattle.std.proofs.Common.{ℕ, ◌≡◌, ◌+◌, ◌<◌, ◌≤◌, ◌⊎◌, inl, inr, true, false, List, [], ◌∷◌, ◌++◌, length, Some, refl, sym, ap, ap₂, subst, ◌∙◌, arith, length-append, append_assoc, subst₂}
+use Rattle.std.proofs.Common.{ℕ, ◌≡◌, ◌<◌, ◌≤◌, ◌⊎◌, inl, inr, true, false, List, [], ◌∷◌, ◌++◌, length, Some, refl, sym, ap, ap₂, subst, ◌∙◌, arith, length-append, append_assoc, subst₂}
 use Rattle.std.proofs.lemmas.Option.{same_Some}
 use Rattle.lfs_model.specs.Blocks.{Blocks}
 use Rattle.lfs_model.specs.Disk.{Disk}
-use Rattle.lfs_model.specs.LoggedContent.{Are32BitPairAddresses}
 use Rattle.lfs_model.specs.PowerLoss.{HasTreeBeforeOrAfterOperation as IsLeftOf, disk_with_blocks}
 use Rattle.lfs_model.specs.Slots.{IsContentFittingPair, Gstate, zero_gstate, same_pair}
 use Rattle.lfs_model.specs.Thread.{Pair, gstate_of_pairs, is_hard_tail, pair_count_before_root}
@@ -23,9 +22,8 @@ use Rattle.lfs_model.proofs.StepsTaken.{IsWritableImageAfterTreeChange, taken_be
 use Rattle.lfs_model.proofs.Unthreaded.{IsReady, IsUnthreaded, Unthreads, unthread}
 use Rattle.lfs_thread.specs.Kept.{KeptThread}
 use Rattle.lfs_thread.specs.Steps.{PowerLossLeavesPairOldOrChanged, IsPairWrittenOnDisk, complete_content_after_changes, thread_pair_at_index, thread_pairs_with_content_replaced_at_index}
-use Rattle.lfs_operations.specs.Deltas.{CanSetGstateInPair, gstate_setting_changes, delta_reaching_gstate}
+use Rattle.lfs_operations.specs.Deltas.{gstate_setting_changes, delta_reaching_gstate, content_reaching_gstate}
 use Rattle.lfs_operations.proofs.RecoverPlaced.{IsAt, here_is, placed_device, set_state_is, with_is}
-use Rattle.lfs_operations.proofs.RecoverDeltas.{set_content, set_made, with_move}
 use Rattle.lfs_operations.proofs.Placing.{left_still, left_after}
 use Rattle.lfs_operations.specs.Dropping.{IsLeftByStoppedPairDrop, content_after_next_pair_drop, tail_over_dropped_pair}
 use Rattle.lfs_operations.proofs.Dropped.{device_dropped, device_kept}
@@ -114,10 +112,10 @@ module _ (t : KeptThread) (index : ℕ) (can : CanClear t index) where
   place = record { there = h.is; number = sym h.number ∙ length-append h.site.chain (h.site.before ++ h.site.left) }
 
   abbrev pub y : Pair
-  y = record { at = h.pair.at; content = with_move h.pair.content (delta_reaching_gstate t index zero_gstate) }
+  y = record { at = h.pair.at; content = record { slots = h.pair.content.slots; tail = h.pair.content.tail; move = delta_reaching_gstate t index zero_gstate } }
 
-  content_is : set_content t index zero_gstate ≡ with_move h.pair.content (delta_reaching_gstate t index zero_gstate)
-  content_is = ap (λ (z : Pair). with_move z.content (delta_reaching_gstate t index zero_gstate)) (here_is t h.site.chain (h.site.before ++ h.site.left) h.pair (h.site.right ++ h.site.after) index place)
+  content_is : content_reaching_gstate t index zero_gstate ≡ record { slots = h.pair.content.slots; tail = h.pair.content.tail; move = delta_reaching_gstate t index zero_gstate }
+  content_is = ap (λ (z : Pair). record { slots = z.content.slots; tail = z.content.tail; move = delta_reaching_gstate t index zero_gstate }) (here_is t h.site.chain (h.site.before ++ h.site.left) h.pair (h.site.right ++ h.site.after) index place)
 
   accepted : IsAcceptedImage t.disk (thread_at h.site (h.pair ∷ []))
   accepted = subst (IsAcceptedImage t.disk) h.is can.accepted
@@ -128,8 +126,8 @@ module _ (t : KeptThread) (index : ℕ) (can : CanClear t index) where
   pub clear_state : gstate_of_pairs (thread_at h.site (y ∷ [])) ≡ zero_gstate
   clear_state = set_state_is t h.site.chain (h.site.before ++ h.site.left) h.pair (h.site.right ++ h.site.after) index place zero_gstate y refl
 
-  pub clear_pairs : thread_pairs_with_content_replaced_at_index t index (set_content t index zero_gstate) ≡ thread_at h.site (y ∷ [])
-  clear_pairs = ap (thread_pairs_with_content_replaced_at_index t index) content_is ∙ with_is t h.site.chain (h.site.before ++ h.site.left) h.pair (h.site.right ++ h.site.after) index place (with_move h.pair.content (delta_reaching_gstate t index zero_gstate))
+  pub clear_pairs : thread_pairs_with_content_replaced_at_index t index (content_reaching_gstate t index zero_gstate) ≡ thread_at h.site (y ∷ [])
+  clear_pairs = ap (thread_pairs_with_content_replaced_at_index t index) content_is ∙ with_is t h.site.chain (h.site.before ++ h.site.left) h.pair (h.site.right ++ h.site.after) index place (record { slots = h.pair.content.slots; tail = h.pair.content.tail; move = delta_reaching_gstate t index zero_gstate })
 
   pub clear_alike : ArePairsWithSameAddressesAndSlots t.pairs (thread_at h.site (y ∷ []))
   clear_alike = subst (λ z. ArePairsWithSameAddressesAndSlots z (thread_at h.site (y ∷ []))) (sym h.is)
@@ -137,11 +135,11 @@ module _ (t : KeptThread) (index : ℕ) (can : CanClear t index) where
       (alike_append (h.site.before ++ h.site.left) (h.pair ∷ (h.site.right ++ h.site.after)) (h.site.before ++ h.site.left) (y ∷ (h.site.right ++ h.site.after)) (alike_itself (h.site.before ++ h.site.left))
       (refl, refl, alike_itself (h.site.right ++ h.site.after))))
 
-  pub device_on : (disk : Disk) → IsPairWrittenOnDisk t index (set_content t index zero_gstate) disk → IsDevice t.disk disk (thread_at h.site (h.pair ∷ [])) (thread_at h.site (y ∷ []))
-  device_on disk is = placed_device t h.site.chain (h.site.before ++ h.site.left) h.pair (h.site.right ++ h.site.after) index place disk (with_move h.pair.content (delta_reaching_gstate t index zero_gstate)) refl accepted
+  pub device_on : (disk : Disk) → IsPairWrittenOnDisk t index (content_reaching_gstate t index zero_gstate) disk → IsDevice t.disk disk (thread_at h.site (h.pair ∷ [])) (thread_at h.site (y ∷ []))
+  device_on disk is = placed_device t h.site.chain (h.site.before ++ h.site.left) h.pair (h.site.right ++ h.site.after) index place disk (record { slots = h.pair.content.slots; tail = h.pair.content.tail; move = delta_reaching_gstate t index zero_gstate }) refl accepted
       (subst (λ c. IsPairWrittenOnDisk t index c disk) content_is is)
 
-  step : (disk : Disk) → IsPairWrittenOnDisk t index (set_content t index zero_gstate) disk → IsStep t.disk disk h.site h.pair [] y [] [] [] h.pair.content.slots [] [] []
+  step : (disk : Disk) → IsPairWrittenOnDisk t index (content_reaching_gstate t index zero_gstate) disk → IsStep t.disk disk h.site h.pair [] y [] [] [] h.pair.content.slots [] [] []
   step disk is = record {
     accepted = accepted;
     site = h.is_site;
@@ -155,16 +153,16 @@ module _ (t : KeptThread) (index : ℕ) (can : CanClear t index) where
     splice = record { front = λ e. refl; entries = tt; lists = tt; blocks = λ b. omega arith };
   }
 
-  pub clear_taken : (disk : Disk) → IsPairWrittenOnDisk t index (set_content t index zero_gstate) disk → IsWritableImageAfterTreeChange t.disk (thread_at h.site (h.pair ∷ [])) disk (thread_at h.site (y ∷ [])) (λ t. t) (λ d. d)
+  pub clear_taken : (disk : Disk) → IsPairWrittenOnDisk t index (content_reaching_gstate t index zero_gstate) disk → IsWritableImageAfterTreeChange t.disk (thread_at h.site (h.pair ∷ [])) disk (thread_at h.site (y ∷ [])) (λ t. t) (λ d. d)
   clear_taken disk is = record {
     follows = slots_stay t.disk disk h.site h.pair [] y [] [] h.pair.content.slots [] (step disk is) (λ off. subst AllReached h.is can.reached);
     writable = step_writable t.disk disk h.site h.pair [] y [] [] [] h.pair.content.slots [] [] [] (step disk is) fits (within_same t.disk h.pair y refl (within_at t.disk h.site h.pair [] fits), tt) (λ x. x);
   }
 
   -- a stop leaves the tree
-  pub clear_left : CanSetGstateInPair t index zero_gstate → Are32BitPairAddresses (delta_reaching_gstate t index zero_gstate).pair
+  pub clear_left : complete_content_after_changes t index (gstate_setting_changes t index zero_gstate) ≡ Some (content_reaching_gstate t index zero_gstate)
       → (left : Blocks) → PowerLossLeavesPairOldOrChanged t index (gstate_setting_changes t index zero_gstate) left → IsLeftOf (disk_with_blocks left t.disk) (tree_on_disk t.disk t.pairs) (tree_on_disk t.disk t.pairs)
-  clear_left set address left is = subst (λ z. IsLeftOf (disk_with_blocks left t.disk) (tree_on_disk t.disk z) (tree_on_disk t.disk z)) (sym h.is) (go is.is)
+  clear_left made left is = subst (λ z. IsLeftOf (disk_with_blocks left t.disk) (tree_on_disk t.disk z) (tree_on_disk t.disk z)) (sym h.is) (go is.is)
     where
       old : List Pair
       old = thread_at h.site (h.pair ∷ [])
@@ -177,6 +175,6 @@ module _ (t : KeptThread) (index : ℕ) (can : CanClear t index) where
           (subst (λ c. IsPairWrittenOnDisk t index c (disk_with_blocks left t.disk)) same is.written) in
           left_still t.disk left old accepted fits on (inl refl)
       go (inr m) =
-          let same : is.content ≡ set_content t index zero_gstate = same_Some is.content (set_content t index zero_gstate) (sym m.0 ∙ set_made t index zero_gstate set address) in
+          let same : is.content ≡ content_reaching_gstate t index zero_gstate = same_Some is.content (content_reaching_gstate t index zero_gstate) (sym m.0 ∙ made) in
           taken_before t.disk old (disk_with_blocks left t.disk) (thread_at h.site (y ∷ [])) (λ d. d) (tree_on_disk t.disk old)
           (clear_taken (disk_with_blocks left t.disk) (subst (λ c. IsPairWrittenOnDisk t index c (disk_with_blocks left t.disk)) same is.written))

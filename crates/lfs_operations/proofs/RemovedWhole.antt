@@ -70,7 +70,7 @@ run_hard [] x o right h = h.0
 run_hard (y ∷ []) x o right h = h.1.0
 run_hard (y ∷ z ∷ left) x o right h = run_hard (z ∷ left) x o right h.1
 
-flag_last : (xs : List Pair) (x : Pair) (b : Bool) → ends_in_hard_tail b (xs ++ x ∷ []) ≡ is_hard_tail x.content.tail
+pub flag_last : (xs : List Pair) (x : Pair) (b : Bool) → ends_in_hard_tail b (xs ++ x ∷ []) ≡ is_hard_tail x.content.tail
 flag_last [] x b = refl
 flag_last (y ∷ xs) x b = flag_last xs x (is_hard_tail y.content.tail)
 

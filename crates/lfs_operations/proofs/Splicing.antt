@@ -21,7 +21,6 @@ use Rattle.lfs_model.proofs.Splices.{file_blocks_of_slots}
 use Rattle.lfs_thread.specs.Kept.{KeptThread}
 use Rattle.lfs_thread.specs.Steps.{complete_content_after_changes, SlotsBeginWithSuperblock}
 use Rattle.lfs_operations.specs.Ready.{IsImageReadyForChange}
-use Rattle.lfs_operations.proofs.Placing.{device}
 use Rattle.lfs_operations.proofs.MovTurned.{IsTurn}
 use Rattle.lfs_operations.proofs.MovSet.{HasTurned}
 use Rattle.lfs_operations.proofs.Owning.{count_pairs}

@@ -1,18 +1,17 @@
 // The recovery: what a loss of power left half done is ended.
 
-ghost use Rattle.std.specs.Prelude.{◌≡◌, ◌<◌, ◌+◌, ◌-◌, ◌&&◌, false, OnOk, length, if◌then◌else◌, IfNone, IfSome, Option};
-ghost use Rattle.lfs_model.specs.LoggedContent.{Are32BitPairAddresses};
+ghost use Rattle.std.specs.Prelude.{◌≡◌, ◌<◌, ◌+◌, ◌-◌, ◌&&◌, false, OnOk, length, if◌then◌else◌, IfNone, IfSome, Option, Some};
 ghost use Rattle.lfs_model.specs.PowerLoss.{SurvivesPowerLossInCallsSince};
 ghost use Rattle.lfs_model.specs.Recovery.{IsNothingLeftToRecover};
-ghost use Rattle.lfs_model.specs.Slots.{pair_address_of_array, zero_gstate};
+ghost use Rattle.lfs_model.specs.Slots.{zero_gstate};
 ghost use Rattle.lfs_model.specs.Thread.{blocks_of_pairs, gstate_of_pairs, blocks_of_pair_address};
 ghost use Rattle.lfs_model.specs.View.{IsAcceptedImage};
 ghost use Rattle.lfs_model.specs.Shown.{tree_on_disk};
 ghost use Rattle.lfs_model.specs.Steps.{HasNoMove};
 ghost use Rattle.lfs_tag.specs.FieldsView.{move_view};
 ghost use Rattle.lfs_thread.specs.Device.{PowerLossLeavesSuchBlocksAfterCleanErases};
-ghost use Rattle.lfs_thread.specs.Steps.{IsPairChanged, PowerLossLeavesPairOldOrChanged, ThreadChangesOnlyTheseBlocks, thread_pair_at_index};
-ghost use Rattle.lfs_operations.specs.Deltas.{CanSetGstateInPair, has_hard_tail_at, gstate_setting_changes, delta_reaching_gstate};
+ghost use Rattle.lfs_thread.specs.Steps.{complete_content_after_changes, IsPairChanged, PowerLossLeavesPairOldOrChanged, ThreadChangesOnlyTheseBlocks, thread_pair_at_index};
+ghost use Rattle.lfs_operations.specs.Deltas.{content_reaching_gstate, CanSetGstateInPair, has_hard_tail_at, gstate_setting_changes, delta_reaching_gstate};
 ghost use Rattle.lfs_operations.specs.Recovering.{CanClearSyncBit, CanDropUnreachedPairs, HasDroppedUnreachedPairsAndRecovered, IsSyncBitCleared, ReportsErrorsOfRecovery, gstate_zero_after_last_unreached_pair_drop};
 ghost use Rattle.lfs_operations.specs.EndingMove.{CanEndMove, HasEndedMove, HasMovedSlotInPair, has_one_slot_after_hard_tail};
 ghost use Rattle.lfs_operations.specs.Removing.{ReportsErrorsOfCommitTakingNoBlock};
@@ -27,14 +26,6 @@ use lfs_tag::kinds::DELETE;
 use lfs_thread::{Thread, gstate_xor_delta, pair_number_at_address};
 use std::alloc::Global;
 
-// Returns the address as it is. For the proof, its blocks are words of 32 bits.
-fn show_pair_address_to_proof(pair: [u32; 2]) -> [u32; 2]
-    ensures same { pair_address_of_array result ≡ pair_address_of_array pair }
-    ensures words { Are32BitPairAddresses (pair_address_of_array pair) }
-{
-    [pair[0], pair[1]]
-}
-
 // Returns the delta that a pair gets, so that the global state becomes `wanted`.
 fn delta_that_reaches_gstate<D: BlockDevice>(
     thread: &Thread<D>,
@@ -47,20 +38,6 @@ fn delta_that_reaches_gstate<D: BlockDevice>(
 {
     let change = gstate_xor_delta(wanted, &thread.state());
     gstate_xor_delta(&change, &thread.delta(index))
-}
-
-// Returns a global state as it can be stored.
-fn show_gstate_address_to_proof(state: MoveState) -> MoveState
-    ensures same { move_view result ≡ move_view state }
-    ensures words { Are32BitPairAddresses (move_view result).pair }
-{
-    let pair = show_pair_address_to_proof(state.pair);
-    MoveState {
-        sync: state.sync,
-        kind: state.kind,
-        id: state.id,
-        pair,
-    }
 }
 
 // Returns whether a pair's tail is a hard one.
@@ -83,11 +60,12 @@ fn set_gstate_in_pair<D: BlockDevice>(
     requires can { CanSetGstateInPair thread.old.kept index (move_view wanted.now) }
     ensures is_set { OnOk result (IsPairChanged thread.old.kept index (gstate_setting_changes thread.old.kept index (move_view wanted.now)) thread.new.kept) }
     ensures errors { ReportsErrorsOfCommitTakingNoBlock thread.old thread.new result }
-    ensures words { Are32BitPairAddresses (delta_reaching_gstate thread.old.kept index (move_view wanted.now)).pair }
+    ensures made { complete_content_after_changes thread.old.kept index (gstate_setting_changes thread.old.kept index (move_view wanted.now)) ≡ Some (content_reaching_gstate thread.old.kept index (move_view wanted.now)) }
     ensures device { ThreadChangesOnlyTheseBlocks (blocks_of_pair_address (thread_pair_at_index thread.old.kept index).at) thread.old.kept thread.new.kept }
     ensures stops { PowerLossLeavesSuchBlocksAfterCleanErases thread.old.kept.history thread.new.kept.history (PowerLossLeavesPairOldOrChanged thread.old.kept index (gstate_setting_changes thread.old.kept index (move_view wanted.now))) }
 {
-    let state = show_gstate_address_to_proof(delta_that_reaches_gstate(thread, index, wanted));
+    show_device_facts_to_proof(thread);
+    let state = delta_that_reaches_gstate(thread, index, wanted);
     // The pair has the slots that it had, so the commit is never refused.
     thread.commit_pair_changes(alloc, index, &[Change::Move { state }])?;
     Ok(())

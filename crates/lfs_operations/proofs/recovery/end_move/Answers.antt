@@ -1,8 +1,7 @@
-use Rattle.std.proofs.Common.{ℕ, ◌≡◌, ◌-◌, Bool, ap, sym, subst₂, ◌∙◌, Err, refl, arith, true, false, ◌<◌}
+use Rattle.std.proofs.Common.{ℕ, ◌≡◌, Bool, ap, sym, subst₂, ◌∙◌, Err, refl}
 use Rattle.std.proofs.lemmas.Result.{err_from_is_err_and}
 use Rattle.lfs_model.specs.Slots.{Gstate}
 use Rattle.lfs_model.specs.Thread.{blocks_of_pairs, gstate_of_pairs}
-use Rattle.lfs_operations.specs.EndingMove.{HasMovedSlotInPair}
 use Rattle.lfs_operations.specs.MoveEnds.{CanEndMoveAt, HasEndedMoveAt, pair_written_at_move_end}
 use Rattle.lfs_operations.proofs.MakingContents.{logged_there}
 use Rattle.lfs_operations.proofs.RecoverEnd.{reports_steps}

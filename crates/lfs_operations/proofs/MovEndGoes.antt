@@ -15,12 +15,10 @@ use Rattle.lfs_model.proofs.Alike.{ArePairsWithSameAddressesAndSlots, alike_appe
 use Rattle.lfs_model.proofs.Counts.{Each, each_right, occurrence_count_of_number}
 use Rattle.lfs_model.proofs.Histories.{IsTrueAfterAnyPowerLossSince-weaker}
 use Rattle.lfs_model.proofs.Indexes.{HasSite, site_of_number}
-use Rattle.lfs_model.proofs.Listings.{IsRun}
 use Rattle.lfs_model.proofs.MoveSets.{addresses_of_first_pairs_of_directories}
-use Rattle.lfs_model.proofs.Sites.{IsTrueOfSomeElement, IsSite, Site, among_left, among_parts, among_right, dirs_at, thread_at}
+use Rattle.lfs_model.proofs.Sites.{IsTrueOfSomeElement, Site, among_left, among_parts, among_right, thread_at}
 use Rattle.lfs_model.proofs.Splices.{IsDevice}
 use Rattle.lfs_model.proofs.StepsTaken.{IsWritableImageAfterTreeChange}
-use Rattle.lfs_model.proofs.Superblocks.{IsChain}
 use Rattle.lfs_model.proofs.Writable.{ends_in_hard_tail}
 use Rattle.lfs_thread.specs.Device.{PowerLossLeavesSuchBlocksAfterCleanErases}
 use Rattle.lfs_thread.specs.Kept.{KeptThread}
@@ -33,7 +31,7 @@ use Rattle.lfs_operations.proofs.MovEnding.{get_from, led_is}
 use Rattle.lfs_operations.proofs.MovEndWhole.{HasTakenOver, IsEndingWhole, whole_count, whole_ended, whole_firsts, whole_chain, whole_leads}
 use Rattle.lfs_operations.proofs.Placing.{left_after, left_still}
 use Rattle.lfs_operations.proofs.Removed.{flag_ends}
-use Rattle.lfs_operations.proofs.RemovedWhole.{LastPair, last_pair, only_slot, over_hard, run_hard}
+use Rattle.lfs_operations.proofs.RemovedWhole.{only_slot, over_hard, StandsBehind, stands_behind}
 use Rattle.lfs_operations.specs.EndingMove.{gstate_without_move}
 use Rattle.lfs_operations.proofs.RecoverBefore.{go_alike}
 use Rattle.lfs_model.proofs.Global.{HasNoMove}
@@ -79,61 +77,32 @@ module _ (t : KeptThread) (index id : ℕ) (can : CanEndMoveAt t index id true) 
   some_left : v.left ≢ []
   some_left none = absurd (let z = sym led ∙ ap (λ z. ends_in_hard_tail false (v.before ++ z)) none ∙ ap (ends_in_hard_tail false) (append-nil v.before) ∙ flag_ends v.before h.is_site.ends in cc)
 
-  front : LastPair v.left
-  front = last_pair v.left some_left
+  before_it : StandsBehind t.pairs v o index
+  before_it = stands_behind t.pairs v o index h.is h.is_site (sym h.number ∙ length-append v.chain (v.before ++ v.left)) some_left
 
   abbrev x : Pair
-  x = front.last
+  x = before_it.x
 
   abbrev w : Site
-  w = record { chain = v.chain; before = v.before; left = front.front; right = v.right; after = v.after }
-
-  dirs_is : dirs_at v (o ∷ []) ≡ dirs_at w (x ∷ o ∷ [])
-  dirs_is =
-      let rest = v.right ++ v.after in
-      ap (λ z. (v.before ++ z) ++ o ∷ rest) front.is
-      ∙ append_assoc v.before (front.front ++ x ∷ []) (o ∷ rest)
-      ∙ ap (λ z. v.before ++ z) (append_assoc front.front (x ∷ []) (o ∷ rest))
-      ∙ sym (append_assoc v.before front.front (x ∷ o ∷ rest))
+  w = before_it.w
 
   there : t.pairs ≡ thread_at w (x ∷ o ∷ [])
-  there = h.is ∙ ap (λ z. v.chain ++ z) dirs_is
+  there = before_it.there
 
   abbrev ahead : List Pair
-  ahead = v.chain ++ (v.before ++ front.front)
+  ahead = w.chain ++ (w.before ++ w.left)
 
   abbrev back : List Pair
-  back = v.right ++ v.after
+  back = w.right ++ w.after
 
   grouped : (ps : List Pair) → thread_at w ps ≡ ahead ++ (ps ++ back)
-  grouped ps = sym (append_assoc v.chain (v.before ++ front.front) (ps ++ (v.right ++ v.after)))
+  grouped ps = sym (append_assoc w.chain (w.before ++ w.left) (ps ++ (w.right ++ w.after)))
 
   is : t.pairs ≡ ahead ++ x ∷ o ∷ back
   is = there ∙ grouped (x ∷ o ∷ [])
 
-  place : length ahead + 1 ≡ index
-  place =
-      let a = length-append v.chain (v.before ++ front.front) in
-      let b = length-append v.before front.front in
-      let c = length-append v.before v.left in
-      let d = ap length front.is in
-      let e = length-append front.front (x ∷ []) in
-      let f = length-append v.chain (v.before ++ v.left) in
-      let n = h.number in
-      omega arith
-
   number : length ahead ≡ index - 1
-  number = let e = place in omega arith
-
-  site_now : IsSite w (x ∷ o ∷ [])
-  site_now = record {
-    chain = subst (IsChain v.chain) dirs_is h.is_site.chain;
-    ends = h.is_site.ends;
-    run = subst IsRun (ap (λ z. z ++ o ∷ v.right) front.is ∙ append_assoc front.front (x ∷ []) (o ∷ v.right)) h.is_site.run;
-  }
-
-  hard : is_hard_tail x.content.tail ≡ true
-  hard = run_hard front.front x o v.right site_now.run
+  number = let e = before_it.number in omega arith
 
   front_there : thread_pair_at_index t (index - 1) ≡ x
   front_there = front_is t (index - 1) ahead x o back is number
@@ -146,7 +115,7 @@ module _ (t : KeptThread) (index id : ℕ) (can : CanEndMoveAt t index id true) 
 
   pub can_drop_moved : CanDropPairAt t index (gstate_without_move (gstate_of_pairs t.pairs))
   can_drop_moved = record {
-    above = let e = place in omega arith;
+    above = let e = before_it.number in omega arith;
     below = can.below;
     thread = can.accepted.thread;
     fits = subst (λ (z : Pair). IsContentFittingPair t.disk.block_size t.disk.page z.content) (sym front_there)
@@ -170,7 +139,7 @@ module _ (t : KeptThread) (index id : ℕ) (can : CanEndMoveAt t index id true) 
   ending = record {
     accepted = subst (IsAcceptedImage t.disk) there can.accepted;
     writable = subst (IsWritableImage t.disk) there can.writable;
-    site = site_now;
+    site = before_it.site;
     kind = sym (ap (λ z. (gstate_of_pairs z).kind) there) ∙ can.kind;
     pair = ap₂ (λ z (y : Pair). same_pair (gstate_of_pairs z).pair y.at) (sym there) (sym here) ∙ can.named;
     id = sym (ap (λ z. (gstate_of_pairs z).id) there) ∙ can.id_is ∙ first;
@@ -182,7 +151,7 @@ module _ (t : KeptThread) (index id : ℕ) (can : CanEndMoveAt t index id true) 
   over_on disk written = record {
     at = refl;
     slots = slots_same;
-    tail = ap₂ (λ (y z : Pair). tail_over_dropped_pair y.content.tail z.content.tail) front_there gone_there ∙ over_hard x.content.tail o.content.tail hard;
+    tail = ap₂ (λ (y z : Pair). tail_over_dropped_pair y.content.tail z.content.tail) front_there gone_there ∙ over_hard x.content.tail o.content.tail before_it.hard;
     state = ap gstate_of_pairs (grouped (q ∷ [])) ∙ gstate_is t (index - 1) ahead x o back is number (gstate_without_move (gstate_of_pairs t.pairs)) q refl ∙ ap (λ z. gstate_without_move (gstate_of_pairs z)) there;
     device = subst (λ z. IsDevice t.disk disk z (thread_at w (q ∷ []))) (sym (grouped (x ∷ o ∷ [])))
         (subst (IsDevice t.disk disk (ahead ++ x ∷ o ∷ back)) (sym (grouped (q ∷ []))) (device_dropped t (index - 1) ahead x o back is number (subst (IsAcceptedImage t.disk) is can.accepted) disk c slots_same written));
@@ -196,7 +165,7 @@ module _ (t : KeptThread) (index id : ℕ) (can : CanEndMoveAt t index id true) 
   still_there z none soft among = go (among_parts (λ y. y ≡ z) ahead (x ∷ o ∷ back) among)
     where
       behind : IsTrueOfSomeElement (λ y. y ≡ z) (x ∷ o ∷ back) → IsTrueOfSomeElement (λ y. y ≡ z) (q ∷ back)
-      behind (inl e) = absurd (let k = sym hard ∙ ap (λ (y : Pair). is_hard_tail y.content.tail) e ∙ soft in cc)
+      behind (inl e) = absurd (let k = sym before_it.hard ∙ ap (λ (y : Pair). is_hard_tail y.content.tail) e ∙ soft in cc)
       behind (inr (inl e)) = absurd (let k = sym held ∙ ap (λ (y : Pair). y.content.slots) e ∙ none in cc)
       behind (inr (inr a)) = inr a
 
@@ -209,14 +178,14 @@ module _ (t : KeptThread) (index id : ℕ) (can : CanEndMoveAt t index id true) 
       let pairs : new.pairs ≡ thread_at w (q ∷ []) = d.pairs ∙ without_is t (index - 1) ahead x o back is number c ∙ sym (grouped (q ∷ [])) in
       let over = over_on new.disk d.written in
       let all = subst₂ (λ z qs. IsWritableImageAfterTreeChange t.disk z new.disk qs (λ t. t) (λ d. d)) (sym there) (sym pairs) (goes_on new.disk d.written) in
-      let root = ap pair_count_before_root pairs ∙ whole_chain t.disk w x o u ending new.disk q over ∙ sym (ap pair_count_before_root there ∙ site_now.chain) in
-      let left : remove t.pairs index ≡ ahead ++ x ∷ back = ap₂ (λ (z : List Pair) (i : ℕ). remove z i) is (sym place) ∙ remove_next ahead x o back in
+      let root = ap pair_count_before_root pairs ∙ whole_chain t.disk w x o u ending new.disk q over ∙ sym (ap pair_count_before_root there ∙ before_it.site.chain) in
+      let left : remove t.pairs index ≡ ahead ++ x ∷ back = ap₂ (λ (z : List Pair) (i : ℕ). remove z i) is (sym before_it.number) ∙ remove_next ahead x o back in
       record {
         taken = all;
         state = d.gstate;
         alike = subst (λ z. ArePairsWithSameAddressesAndSlots z new.pairs) (sym left) (subst (ArePairsWithSameAddressesAndSlots (ahead ++ x ∷ back)) (sym (pairs ∙ grouped (q ∷ [])))
             (alike_append ahead (x ∷ back) ahead (q ∷ back) (alike_itself ahead) (refl, slots_same, alike_itself back)));
-        map = d.map ∙ ap (λ (i : ℕ). block_map_with_freed_pair t.map (thread_pair_at_index t i).at) (let e = place in omega arith);
+        map = d.map ∙ ap (λ (i : ℕ). block_map_with_freed_pair t.map (thread_pair_at_index t i).at) (let e = before_it.number in omega arith);
         blocks = λ b.
             let e = whole_count t.disk w x o u ending new.disk q over b in
             let f = ap (λ z. occurrence_count_of_number b (used_blocks new.disk z)) pairs in
@@ -226,7 +195,7 @@ module _ (t : KeptThread) (index id : ℕ) (can : CanEndMoveAt t index id true) 
         shape = d.written.shape;
         begins = ap (λ z. addresses_of_first_pairs_of_directories (directories_in_thread z)) pairs ∙ whole_firsts t.disk w x o u ending new.disk q over ∙ ap (λ z. addresses_of_first_pairs_of_directories (directories_in_thread z)) (sym there);
         root = root;
-        leads_on = whole_leads t.disk w x o u ending new.disk q over t new (go_alike t new all.follows d.written.shape) (subst HasNoMove (sym d.gstate) (record { kind = refl; id = refl; pair = refl })) root there pairs hard;
+        leads_on = whole_leads t.disk w x o u ending new.disk q over t new (go_alike t new all.follows d.written.shape) (subst HasNoMove (sym d.gstate) (record { kind = refl; id = refl; pair = refl })) root there pairs before_it.hard;
         kept = λ z none soft among. subst (IsTrueOfSomeElement (λ y. y ≡ z)) (sym (pairs ∙ grouped (q ∷ []))) (still_there z none soft (subst (IsTrueOfSomeElement (λ y. y ≡ z)) is among));
       }
 

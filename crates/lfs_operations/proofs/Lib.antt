@@ -16,6 +16,7 @@ pub mod Removed
 pub mod DroppedTails
 pub mod Dropped
 pub mod RemovedWhole
+pub mod MovPlaced
 pub mod MovPlaces
 pub mod MovSet
 pub mod MovFirsts

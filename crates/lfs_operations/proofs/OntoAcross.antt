@@ -37,9 +37,9 @@ use Rattle.lfs_model.proofs.Pieces.{Gains, GoesAt, Keeps, Piece, Stays, olds_of,
 use Rattle.lfs_model.proofs.RenamedOnto.{IsRenameOnto, onto_completed}
 use Rattle.lfs_model.proofs.Renames.{directory_addresses_after_rename}
 use Rattle.lfs_model.proofs.Replacing.{IsReplaced}
-use Rattle.lfs_model.proofs.Searches.{avoids_behind, avoids_front, is_site, same, site, slot_of_stands, thread_is}
+use Rattle.lfs_model.proofs.Searches.{avoids_behind, avoids_front, same, site, slot_of_stands}
 use Rattle.lfs_model.proofs.Segments.{drafts_of, parts_of}
-use Rattle.lfs_model.proofs.Sites.{IsTrueOfSomeElement, IsSite, Site, begin_of, dirs_at, thread_at}
+use Rattle.lfs_model.proofs.Sites.{IsTrueOfSomeElement, Site, begin_of, dirs_at, thread_at}
 use Rattle.lfs_model.proofs.Splices.{file_blocks_of_slots}
 use Rattle.lfs_model.proofs.StepsTaken.{IsWritableImageAfterTreeChange}
 use Rattle.lfs_model.proofs.Superblocks.{IsChain, pairs_behind}
@@ -151,47 +151,35 @@ module _ (t : KeptThread) (old_pair old_id first new_pair new_id : ℕ) (name : 
   e : HasEndedMoveAt is.mid (pair_number_after_insertion old_pair new_pair (length is.mid.pairs - length t.pairs)) (length lo) goes m
   e = subst (λ i. HasEndedMoveAt is.mid (pair_number_after_insertion old_pair new_pair (length is.mid.pairs - length t.pairs)) i goes m) (sym can.stands.stands.number) is.ended
 
-  there : t.pairs ≡ thread_at w (p ∷ [])
-  there = thread_is t.disk t.pairs rename.path rename.at can.ready.accepted rename.leads rename.to_first new_pair p tb.rest tb.place rename.begins
-
-  site_is : IsSite w (p ∷ [])
-  site_is = is_site t.disk t.pairs rename.path rename.at can.ready.accepted rename.leads rename.to_first new_pair p tb.rest tb.place rename.begins
-
   same_begin : same_pair (begin_of w (p ∷ [])) rename.at ≡ true
   same_begin = same t.disk t.pairs rename.path rename.at can.ready.accepted rename.leads rename.to_first new_pair p tb.rest tb.place rename.begins
 
-  accepted : IsAcceptedImage t.disk (thread_at w (p ∷ []))
-  accepted = subst (IsAcceptedImage t.disk) there can.ready.accepted
-
-  settled : gstate_of_pairs (thread_at w (p ∷ [])) ≡ zero_gstate
-  settled = ap gstate_of_pairs (sym there) ∙ can.ready.settled
-
   leads : IsPathToDirectory (thread_at w (p ∷ [])) rename.path rename.at
-  leads = subst (λ z. IsPathToDirectory z rename.path rename.at) there rename.leads
+  leads = subst (λ z. IsPathToDirectory z rename.path rename.at) first_step.turn.there rename.leads
 
   -- ---- the directory before
 
   entry_there : slice_get (entries_by_directory_in_thread (thread_at w (p ∷ [])) rename.at) (place_at w l) ≡ Some g
-  entry_there = ap (λ z. slice_get z (place_at w l)) (site_shows t.disk w p l (g ∷ []) r rename.at accepted site_is (no_move_from (thread_at w (p ∷ [])) settled) same_begin tb.stands.held
+  entry_there = ap (λ z. slice_get z (place_at w l)) (site_shows t.disk w p l (g ∷ []) r rename.at first_step.setting.accepted first_step.setting.site (no_move_from (thread_at w (p ∷ [])) first_step.setting.settled) same_begin tb.stands.held
       ∙ ap (λ z. shown_before w l ++ (z ++ shown_behind w r)) (entry_only g tb.stands.entry)) ∙ get_here (shown_before w l) (shown_behind w r) g
 
   led : IsPathToDirectory (thread_at w (p ∷ [])) (rename.path ++ g.name ∷ []) rename.to
-  led = directory_led t.disk (thread_at w (p ∷ [])) rename.path rename.at (place_at w l) g rename.to accepted leads entry_there rename.branch
+  led = directory_led t.disk (thread_at w (p ∷ [])) rename.path rename.at (place_at w l) g rename.to first_step.setting.accepted leads entry_there rename.branch
 
   front : HasFront (dirs_at w (p ∷ [])) rename.to
-  front = has_front t.disk w.chain (dirs_at w (p ∷ [])) rename.path g.name rename.to accepted site_is.chain led
+  front = has_front t.disk w.chain (dirs_at w (p ∷ [])) rename.path g.name rename.to first_step.setting.accepted first_step.setting.site.chain led
 
   o_there : slice_get t.pairs gone ≡ Some o
   o_there = get_some t.pairs gone empty_pair_at_anchor rename.below
 
   first_is : (gone ≡ length (w.chain ++ front.front) + 1) × (front.first ≡ o)
-  first_is = number_of_first t.disk w.chain (dirs_at w (p ∷ [])) rename.to accepted front gone o (subst (λ z. slice_get z gone ≡ Some o) there o_there) rename.alike
+  first_is = number_of_first t.disk w.chain (dirs_at w (p ∷ [])) rename.to first_step.setting.accepted front gone o (subst (λ z. slice_get z gone ≡ Some o) first_step.turn.there o_there) rename.alike
 
   pub gone_above : 0 < gone
   gone_above = let e = first_is.0 in omega arith
 
   empty : entries_by_directory_in_thread (thread_at w (p ∷ [])) rename.to ≡ []
-  empty = shows_nothing t.disk w.chain (dirs_at w (p ∷ [])) rename.to accepted site_is.chain (no_move_from (thread_at w (p ∷ [])) settled) front
+  empty = shows_nothing t.disk w.chain (dirs_at w (p ∷ [])) rename.to first_step.setting.accepted first_step.setting.site.chain (no_move_from (thread_at w (p ∷ [])) first_step.setting.settled) front
       (ap (λ (z : Pair). is_hard_tail z.content.tail) first_is.1 ∙ rename.alone) (ap (λ (z : Pair). z.content.slots) first_is.1 ∙ rename.empty)
 
   not_new : p ≡ o → ⊥
@@ -206,7 +194,7 @@ module _ (t : KeptThread) (old_pair old_id first new_pair new_id : ℕ) (name : 
   moved = last_taken t true old_pair goes new_pair changes wo q0 lo s ro w p l (Some g) v r from to name first_step is.mid x m e
 
   led_there : IsPathToDirectory t.pairs (rename.path ++ g.name ∷ []) rename.to
-  led_there = subst (λ z. IsPathToDirectory z (rename.path ++ g.name ∷ []) rename.to) (sym there) led
+  led_there = subst (λ z. IsPathToDirectory z (rename.path ++ g.name ∷ []) rename.to) (sym first_step.turn.there) led
 
   begun : IsAddressOfDirectoryFirstPair (directories_in_thread m.pairs) rename.to
   begun = begins_at_firsts (directories_in_thread t.pairs) (directories_in_thread m.pairs) (last_firsts t true old_pair goes new_pair changes wo q0 lo s ro w p l (Some g) v r from to name first_step is.mid x m e) rename.to (can.ready.accepted.branches (rename.path ++ g.name ∷ []) rename.to led_there)
@@ -266,9 +254,9 @@ module _ (t : KeptThread) (old_pair old_id first new_pair new_id : ℕ) (name : 
           (pair_on at.pair.at o.at rename.to at.same rename.alike)).0;
       soft = now.soft;
       drops = replaced_drops t m from to rename.to (take (pair_count_before_root m.pairs) m.pairs) now.front now.before o (now.run ++ now.after) can.ready moved no_move_now there_now chain_now
-          (subst (λ z. IsReplaced (directory_address_at_path (entries_by_directory_in_thread z) (root_directory_address_of_pairs z)) from to rename.to) (sym there)
+          (subst (λ z. IsReplaced (directory_address_at_path (entries_by_directory_in_thread z) (root_directory_address_of_pairs z)) from to rename.to) (sym first_step.turn.there)
           (subst (λ (n : Name). IsReplaced (directory_address_at_path (entries_by_directory_in_thread (thread_at w (p ∷ []))) (root_directory_address_of_pairs (thread_at w (p ∷ [])))) from (rename.path ++ n ∷ []) rename.to) tb.stands.named
-          (replaced_by t.disk (thread_at w (p ∷ [])) rename.path rename.at (place_at w l) g rename.to from accepted leads entry_there rename.branch empty
+          (replaced_by t.disk (thread_at w (p ∷ [])) rename.path rename.at (place_at w l) g rename.to from first_step.setting.accepted leads entry_there rename.branch empty
           (ap (λ (n : Name). path_without_prefix from (rename.path ++ n ∷ [])) tb.stands.named ∙ rename.not_beneath))))
           (λ Q h. all_at_firsts Q (directories_in_thread t.pairs) (directories_in_thread m.pairs) (last_firsts t true old_pair goes new_pair changes wo q0 lo s ro w p l (Some g) v r from to name first_step is.mid x m e) h)
           rename.alike rename.alone;
@@ -324,10 +312,10 @@ module _ (t : KeptThread) (old_pair old_id first new_pair new_id : ℕ) (name : 
       -- ---- before
 
       two_chain : IsChain w.chain (two a.b a.front (q0 ∷ []) a.mid (p ∷ []) a.back)
-      two_chain = ap pair_count_before_root (sym a.old_is) ∙ site_is.chain
+      two_chain = ap pair_count_before_root (sym a.old_is) ∙ first_step.setting.site.chain
 
       two_is : dirs_at w (p ∷ []) ≡ two a.b a.front (q0 ∷ []) a.mid (p ∷ []) a.back
-      two_is = sym (pairs_behind w.chain (dirs_at w (p ∷ [])) site_is.chain) ∙ ap pairs_from_root_directory_on a.old_is ∙ pairs_behind w.chain (two a.b a.front (q0 ∷ []) a.mid (p ∷ []) a.back) two_chain
+      two_is = sym (pairs_behind w.chain (dirs_at w (p ∷ [])) first_step.setting.site.chain) ∙ ap pairs_from_root_directory_on a.old_is ∙ pairs_behind w.chain (two a.b a.front (q0 ∷ []) a.mid (p ∷ []) a.back) two_chain
 
       abbrev ahead : List Pair
       ahead = front.front ++ front.before ∷ []
@@ -342,7 +330,7 @@ module _ (t : KeptThread) (old_pair old_id first new_pair new_id : ℕ) (name : 
       Apart z = same_pair z.at rename.to ≡ false
 
       distinct_were : IsDistinct nat_eq (blocks_of_pairs ((w.chain ++ ahead) ++ o ∷ behind))
-      distinct_were = subst (λ z. IsDistinct nat_eq (blocks_of_pairs z)) (ap (λ z. w.chain ++ z) dirs_were ∙ sym (append_assoc w.chain ahead (o ∷ behind))) accepted.thread.distinct
+      distinct_were = subst (λ z. IsDistinct nat_eq (blocks_of_pairs z)) (ap (λ z. w.chain ++ z) dirs_were ∙ sym (append_assoc w.chain ahead (o ∷ behind))) first_step.setting.accepted.thread.distinct
 
       cut : IsCutOut t.disk rename.to o None (pieces_of a.b)
       cut = cut_out t.disk rename.to o rename.alike rename.alone None (pieces_of a.b) ahead behind (olds a.b ∙ sym two_is ∙ dirs_were) (soft_end None front.front front.before front.soft)
@@ -385,7 +373,7 @@ module _ (t : KeptThread) (old_pair old_id first new_pair new_id : ℕ) (name : 
       ps = w.chain ++ two a.b a.front (q0 ∷ []) a.mid (p ∷ []) a.back
 
       were : t.pairs ≡ ps
-      were = there ∙ a.old_is
+      were = first_step.turn.there ∙ a.old_is
 
       unreached : NoneGoes (λ z. IsDirectoryAddressReachedBySomePath ps z → ⊥) None (two a.b a.front (q0 ∷ []) a.mid (p ∷ []) a.back)
       unreached = subst (NoneGoes (λ z. IsDirectoryAddressReachedBySomePath ps z → ⊥) None) (pairs_behind w.chain (two a.b a.front (q0 ∷ []) a.mid (p ∷ []) a.back) two_chain)

@@ -28,7 +28,7 @@ use Rattle.lfs_operations.proofs.AlteredBehind.{entered_alters, gone_alters}
 use Rattle.lfs_operations.proofs.MovAcross.{Arranged}
 use Rattle.lfs_operations.proofs.MovStep.{IsFirst, IsLeftOver, arr, last_taken, left_over}
 use Rattle.lfs_operations.proofs.MovTurned.{TurnedTo, pair_is}
-use Rattle.lfs_operations.proofs.Splicing.{not_used}
+use Rattle.lfs_operations.proofs.Owning.{not_used}
 
 -- ---- the pair of the new slot
 

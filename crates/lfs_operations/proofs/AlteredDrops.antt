@@ -12,9 +12,11 @@ use Rattle.lfs_operations.proofs.AlteredTails.{names_next, tail_goes}
 use Rattle.lfs_operations.proofs.DroppedTails.{gone_is, two_at, without_is}
 use Rattle.lfs_operations.proofs.Placing.{blocks_append}
 use Rattle.lfs_operations.proofs.RemovedWhole.{StandsWhole}
-use Rattle.lfs_operations.proofs.RmdirThread.{can_drop_gone}
+use Rattle.lfs_operations.proofs.RmdirThread as kept
 use Rattle.lfs_operations.proofs.UnlinkedSteps.{at_there}
-use Rattle.lfs_operations.proofs.UnlinkedWhole.{above_gone, can_drop_entry, can_drop_then, o_there}
+use Rattle.lfs_operations.proofs.UnlinkedWhole as whole
+use Rattle.lfs_operations.proofs.UnlinkedWhole.{above_gone, can_drop_entry}
+use Rattle.lfs_operations.proofs.LastDrop.{can_drop_last, o_there}
 use Rattle.lfs_thread.specs.Kept.{KeptThread}
 use Rattle.lfs_thread.specs.Steps.{thread_pair_at_index}
 
@@ -55,7 +57,7 @@ module _ (t : KeptThread) (index id first gone : ℕ) (take : CanRemoveDirectory
   beside_alters goes m u new d = record { front = front; entry = λ whole. absurd (let k = sym whole ∙ goes in cc) }
     where
       can : CanDropPairAt m gone zero_gstate
-      can = can_drop_gone t index id first gone take goes m u
+      can = can_drop_last (kept.may_go t index id first gone take goes m u)
 
       same : (thread_pair_at_index m (gone - 1 + 1)).at ≡ (thread_pair_at_index t (gone - 1 + 1)).at
       same = at_there t m index id (gone - 1 + 1) u
@@ -76,7 +78,7 @@ module _ (t : KeptThread) (index id first gone : ℕ) (take : CanRemoveDirectory
       can = can_drop_entry t index id first gone take s
 
       then : CanDropPairAt m (pair_number_after_drop index gone) zero_gstate
-      then = can_drop_then t index id first gone take s m h
+      then = can_drop_last (whole.may_go t index id first gone take s m h)
 
       low : index - 1 + 1 < length t.pairs
       low = let a = can.above in let b = can.below in omega arith
@@ -96,6 +98,6 @@ module _ (t : KeptThread) (index id first gone : ℕ) (take : CanRemoveDirectory
           let above = above_gone t index id first gone take s in
           let below = take.below in
           let number : gone ≡ gone - 1 + 1 = omega arith in
-          let same : thread_pair_at_index m (pair_number_after_drop index gone - 1 + 1) ≡ thread_pair_at_index t (gone - 1 + 1) = o_there t index id first gone take s m h ∙ ap (λ (i : ℕ). thread_pair_at_index t i) number in
+          let same : thread_pair_at_index m (pair_number_after_drop index gone - 1 + 1) ≡ thread_pair_at_index t (gone - 1 + 1) = o_there (whole.may_go t index id first gone take s m h) ∙ ap (λ (i : ℕ). thread_pair_at_index t i) number in
           tail_goes t new (gone - 1) (thread_pair_at_index m (pair_number_after_drop index gone - 1 + 1)).at (names_next t (gone - 1) (omega arith) links_are ∙ ap (λ (z : Pair). Some z.at) (sym same)) d.thread.links
           (none_left m (pair_number_after_drop index gone - 1) zero_gstate new low_now d (once_from_distinct (blocks_of_pairs m.pairs) h.thread.distinct (thread_pair_at_index m (pair_number_after_drop index gone - 1 + 1)).at.0))

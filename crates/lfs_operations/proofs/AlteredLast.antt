@@ -1,5 +1,5 @@
 -- What a rename across pairs onto a directory leaves with what it held.
-use Rattle.std.proofs.Common.{ℕ, ◌≢◌, ◌-◌, ◌<◌, ◌≤◌, ◌⊎◌, inl, inr, true, List, [], ◌∷◌, ◌++◌, subst, arith}
+use Rattle.std.proofs.Common.{ℕ, ◌≢◌, ◌-◌, ◌<◌, ◌≤◌, ◌⊎◌, inl, inr, true, List, ◌∷◌, ◌++◌, subst, arith}
 use Rattle.std.specs.Prelude.{Contains}
 use Rattle.std.proofs.lemmas.Bool.{cases_lt}
 use Rattle.std.proofs.lemmas.List.Elements.{All-from_recursion, recursion_from_All}
@@ -21,10 +21,10 @@ use Rattle.lfs_operations.proofs.AlteredLater.{onto_known}
 use Rattle.lfs_operations.proofs.AlteredOnto.{last_known}
 use Rattle.lfs_operations.proofs.MovReplace.{onto_directory}
 use Rattle.lfs_operations.proofs.OntoAcross.{can_drop_later, gone_above_later, renamed_directory, replacing_later}
-use Rattle.lfs_operations.proofs.OntoGone.{end_fewer}
 use Rattle.lfs_operations.proofs.OntoWritten.{there_counted}
 use Rattle.lfs_operations.proofs.Putting.{with_history}
 use Rattle.lfs_operations.proofs.UnlinkedSteps.{writes_trans, writes_wider}
+use Rattle.lfs_operations.proofs.LastDrop.{end_fewer}
 
 module _ (t : KeptThread) (old_pair old_id first new_pair new_id : ℕ) (name : Name) (gone : ℕ) (rename : CanReplaceDirectoryAcrossPairs t old_pair old_id first new_pair new_id name gone) (m : KeptThread)
     (h : IsEntryReplacedAcrossPairs t true old_pair old_id first new_pair new_id name m) (n : ℕ) (at : IsPairAtAddress m.pairs (thread_pair_at_index t gone).at n) (new : KeptThread) (g : IsNextPairDropped m (n - 1) zero_gstate new) where
@@ -62,9 +62,9 @@ module _ (t : KeptThread) (old_pair old_id first new_pair new_id : ℕ) (name : 
         writes = writes_trans (writes_wider (y.0 ∷ y.1 ∷ bs) (λ b a. All-from_recursion (λ c. c ≢ b) bs (recursion_from_All (λ c. c ≢ b) (y.0 ∷ y.1 ∷ bs) a).1.1) w.writes)
             (writes_wider (y.0 ∷ y.1 ∷ bs) (λ b a. let r = recursion_from_All (λ c. c ≢ b) (y.0 ∷ y.1 ∷ bs) a in All-from_recursion (λ c. c ≢ b) (blocks_of_pair_address y) (r.0, (r.1.0, tt))) second);
         each = each_known t new (blocks_of_two_pair_addresses (thread_pair_at_index t old_pair).at p) y bs
-            (λ b own. earlier (blocks_of_two_pair_addresses (thread_pair_at_index t old_pair).at p) b (last_known later m (rename.old.path ++ rename.old.name ∷ []) (rename.path ++ name ∷ []) rename.to gone n (gone_above_later t old_pair old_id first new_pair new_id name gone rename m h) rename.below k new g
+            (λ b own. earlier (blocks_of_two_pair_addresses (thread_pair_at_index t old_pair).at p) b (last_known later m gone n (gone_above_later t old_pair old_id first new_pair new_id name gone rename m h) rename.below k new g
             (blocks_of_two_pair_addresses (thread_pair_at_index t old_pair).at p) b (before b own) own))
             (onto_known true t h.from h.only old_pair old_id first new_pair new_id name (onto_directory rename) h.address m h.done new
             (renamed_directory t old_pair old_id first new_pair new_id name gone rename m h n at new g).now.ready.accepted
-            (end_fewer later m (rename.old.path ++ rename.old.name ∷ []) (rename.path ++ name ∷ []) rename.to (thread_pair_at_index t gone) n k new g) w);
+            (end_fewer k new g) w);
       }

@@ -6,7 +6,7 @@ use Rattle.lfs_model.specs.BlockSets.{IsBlockFree}
 use Rattle.lfs_model.specs.Shown.{all_slots_not_moved, used_blocks}
 use Rattle.lfs_model.specs.Slots.{zero_gstate}
 use Rattle.lfs_model.specs.Thread.{Pair, anchor_pair_address, blocks_of_pairs, pair_address_named_by_tail, blocks_of_pair_address, blocks_of_two_pair_addresses}
-use Rattle.lfs_model.specs.Tree.{Path}
+use Rattle.lfs_model.specs.Tree.{Tree}
 use Rattle.lfs_model.specs.View.{IsAcceptedImage}
 use Rattle.lfs_model.proofs.BlockSets.{Contains-occurrence_count_of_number, occurrence_count_of_number-Contains}
 use Rattle.lfs_model.proofs.Counts.{occurrence_count_of_number, count_append, count_here, once_from_distinct}
@@ -21,7 +21,8 @@ use Rattle.lfs_operations.proofs.Altered.{among_contains}
 use Rattle.lfs_operations.proofs.AlteredAcross.{IsKnown, each_known}
 use Rattle.lfs_operations.proofs.AlteredBehind.{gone_alters, owner_counted, same_next, same_owner}
 use Rattle.lfs_operations.proofs.DroppedTails.{over_next}
-use Rattle.lfs_operations.proofs.OntoGone.{IsReplacing, end_gone, o_there, pairs_end, taken_end, x_there, y}
+use Rattle.lfs_operations.proofs.LastDrop.{IsAllButDropped, end_gone, o_there, pairs_end, taken_end, x_there, y}
+use Rattle.lfs_model.specs.Steps.{DirectoryAddressByPath}
 
 -- ---- pairs of a thread
 
@@ -46,12 +47,12 @@ owned_at (x ∷ xs) b some = go (owned_at xs b) (cases_lt 0 (occurrence_count_of
         let k = behind (let c = count_append b (blocks_of_pair_address x.at) (blocks_of_pairs xs) in omega (arith, c, l, some)) in
         record { index = suc k.index; below = (let m = k.below in omega (arith, m)); own = k.own }
 
-module _ (t m : KeptThread) (from to : Path) (d : ℕ × ℕ) (gone n : ℕ) (some : 0 < gone) (low : gone < length t.pairs) (k : IsReplacing t m from to d (thread_pair_at_index t gone) n) (new : KeptThread) (g : IsNextPairDropped m (n - 1) zero_gstate new) where
+module _ (t m : KeptThread) (gone n : ℕ) {change : Tree → Tree} {walk : DirectoryAddressByPath → DirectoryAddressByPath} (some : 0 < gone) (low : gone < length t.pairs) (k : IsAllButDropped t m (thread_pair_at_index t gone) n change walk) (new : KeptThread) (g : IsNextPairDropped m (n - 1) zero_gstate new) where
   accepted : IsAcceptedImage new.disk new.pairs
-  accepted = (taken_end t m from to d (thread_pair_at_index t gone) n k new g).follows.accepted
+  accepted = (taken_end k new g).follows.accepted
 
   not_there : occurrence_count_of_number (thread_pair_at_index t gone).at.0 (blocks_of_pairs new.pairs) ≡ 0
-  not_there = end_gone t m from to d (thread_pair_at_index t gone) n k new g
+  not_there = end_gone k new g
 
   -- the pair in front of it
   pub replaced_alters : IsPairNotKeptUnchanged t (gone - 1) new
@@ -59,14 +60,14 @@ module _ (t m : KeptThread) (from to : Path) (d : ℕ × ℕ) (gone n : ℕ) (so
 
   -- the pair that the step writes, which is written then
   abbrev written : Pair
-  written = y t m from to d (thread_pair_at_index t gone) n k
+  written = y k
 
   written_there : IsTrueOfSomeElement (λ z. z ≡ written) new.pairs
-  written_there = subst (IsTrueOfSomeElement (λ z. z ≡ written)) (sym (pairs_end t m from to d (thread_pair_at_index t gone) n k new g))
+  written_there = subst (IsTrueOfSomeElement (λ z. z ≡ written)) (sym (pairs_end k new g))
       (among_right (λ z. z ≡ written) k.chain (k.front ++ written ∷ k.back) (among_right (λ z. z ≡ written) k.front (written ∷ k.back) (inl refl)))
 
   names_same : pair_address_named_by_tail written.content.tail ≡ pair_address_named_by_tail (thread_pair_at_index t gone).content.tail
-  names_same = over_next (thread_pair_at_index m (n - 1)).content.tail (thread_pair_at_index m (n - 1 + 1)).content.tail ∙ ap (λ (z : Pair). pair_address_named_by_tail z.content.tail) (o_there t m from to d (thread_pair_at_index t gone) n k)
+  names_same = over_next (thread_pair_at_index m (n - 1)).content.tail (thread_pair_at_index m (n - 1 + 1)).content.tail ∙ ap (λ (z : Pair). pair_address_named_by_tail z.content.tail) (o_there k)
 
   -- a pair of before doesn't stay that has one of its blocks: else its tail named what that of the pair does that is gone
   owner_alters : (b index : ℕ) → 1 ≤ occurrence_count_of_number b (blocks_of_pair_address (thread_pair_at_index m (n - 1)).at) → index < length t.pairs → 1 ≤ occurrence_count_of_number b (blocks_of_pair_address (thread_pair_at_index t index).at) → IsPairNotKeptUnchanged t index new
@@ -76,7 +77,7 @@ module _ (t m : KeptThread) (from to : Path) (d : ℕ × ℕ) (gone n : ℕ) (so
       let among = among_contains p new.pairs has in
       let shared : p ≡ written = same_owner b new.pairs p written
       (let l = once_from_distinct (used_blocks new.disk new.pairs) accepted.owned_once b in let c = count_append b (blocks_of_pairs new.pairs) (file_blocks_of_slots new.disk (all_slots_not_moved new.pairs)) in omega (arith, l, c)) among written_there there
-      (subst (λ (z : Pair). 1 ≤ occurrence_count_of_number b (blocks_of_pair_address z.at)) (x_there t m from to d o n k) own) in
+      (subst (λ (z : Pair). 1 ≤ occurrence_count_of_number b (blocks_of_pair_address z.at)) (x_there k) own) in
       let is : p ≡ o = same_next t.pairs p o (Some anchor_pair_address) k.ready.accepted.thread.links (λ c. once_from_distinct (blocks_of_pairs t.pairs) k.ready.accepted.thread.distinct c)
       (among_at t.pairs index below) (among_at t.pairs gone low) (ap (λ (z : Pair). pair_address_named_by_tail z.content.tail) shared ∙ names_same) in
       let here = owner_counted o.at.0 p new.pairs among (subst (λ (z : Pair). 1 ≤ occurrence_count_of_number o.at.0 (blocks_of_pair_address z.at)) (sym is) (let h = count_here o.at.0 (o.at.1 ∷ []) in omega (arith, h))) in

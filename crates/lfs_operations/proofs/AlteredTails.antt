@@ -14,7 +14,7 @@ use Rattle.lfs_operations.specs.Ready.{IsImageReadyForChange}
 use Rattle.lfs_operations.proofs.Altered.{among_contains, links_behind, only_there}
 use Rattle.lfs_operations.proofs.DroppedTails.{front_is, gone_is, two_at}
 use Rattle.lfs_operations.proofs.Placing.{blocks_append}
-use Rattle.lfs_operations.proofs.Splicing.{not_used}
+use Rattle.lfs_operations.proofs.Owning.{not_used}
 use Rattle.lfs_thread.specs.Kept.{KeptThread}
 use Rattle.lfs_thread.specs.Steps.{thread_pair_at_index}
 

@@ -1,8 +1,8 @@
 -- A file that comes, as a step of the thread.
-use Rattle.std.proofs.Common.{ℕ, ◌≡◌, ◌≤◌, ◌&&◌, Bool, true, false, List, [], ◌∷◌, ◌++◌, length, Some, refl, sym, ap, ap₂, subst, ◌∙◌, arith, length-append, insert}
-use Rattle.std.specs.Prelude.{Contains, nat_le}
+use Rattle.std.proofs.Common.{ℕ, ◌≡◌, ◌≤◌, true, List, [], ◌∷◌, ◌++◌, length, Some, refl, sym, ap, ap₂, subst, ◌∙◌, arith, length-append, insert}
+use Rattle.std.specs.Prelude.{Contains}
 use Rattle.std.specs.Option.{option_and_then}
-use Rattle.std.proofs.lemmas.Bool.{ne_eqb, leb-true}
+use Rattle.std.proofs.lemmas.Bool.{ne_eqb}
 use Rattle.lfs_model.specs.TreeEdits.{tree_after_creation}
 use Rattle.lfs_model.specs.Changes.{raw_pair_content_after_changes}
 use Rattle.lfs_model.specs.Content.{RawPairContent, raw_content_of_pair_at, pair_content_if_slots_complete}
@@ -12,7 +12,7 @@ use Rattle.lfs_model.specs.Disk.{Disk}
 use Rattle.lfs_model.specs.History.{DeviceCallEvent}
 use Rattle.lfs_model.specs.InDirectory.{IsPlaceWhereNameBelongs}
 use Rattle.lfs_model.specs.LoggedContent.{IsNameOrStructTheFormatAllows}
-use Rattle.lfs_model.specs.Names.{Name, is_valid_name, is_path_component}
+use Rattle.lfs_model.specs.Names.{Name}
 use Rattle.lfs_model.specs.Operations as ops
 use Rattle.lfs_model.specs.Operations.{FlagsOfOpen}
 use Rattle.lfs_model.specs.PowerLoss.{SurvivesPowerLossInCallsSince}
@@ -45,17 +45,12 @@ use Rattle.lfs_operations.specs.Changing.{IsPairNotKeptUnchanged, CanChangeOrSpl
 use Rattle.lfs_operations.specs.Creating.{CanCreateFileInPair, IsFileCreated, file_creation_changes, tree_with_new_file}
 use Rattle.lfs_operations.proofs.Altered.{commit_alters}
 use Rattle.lfs_operations.proofs.Held.{CompletesTo, below, fits_there, here, raw_there}
-use Rattle.lfs_operations.proofs.Splicing.{Commits, IsSplicing, pair_is}
+use Rattle.lfs_operations.proofs.Splicing.{Commits, IsSplicing}
+use Rattle.lfs_operations.proofs.Threads.{pair_is}
 use Rattle.lfs_operations.proofs.Stepped.{HasStep, becomes, put_step, ready_again, survives}
+use Rattle.lfs_operations.proofs.RenameSlots.{name_length}
 
 -- ---- the parts of a file's slot
-
-name_length : (name : Name) → is_valid_name name ≡ true → length name ≤ 255
-name_length name h = leb-true (length name) 255 (and_second (is_path_component name) (nat_le (length name) 255) h)
-  where
-    and_second : (a b : Bool) → (a && b) ≡ true → b ≡ true
-    and_second true b e = e
-    and_second false b e = absurd (cc)
 
 file_name : (name : Name) → length name ≤ 255 → IsNameOrStructTheFormatAllows 0 (file_name_type, name)
 file_name name short = record {
@@ -201,7 +196,7 @@ module _ (t : KeptThread) (index id : ℕ) (name : Name) (can : CanCreateFileInP
       go : HasStep t w p b.left [] (u ∷ []) b.right [] [] new → ⊥
       go s = commit_alters t.disk new.disk w p s.q [] b.left [] (u ∷ []) b.right (λ e. absurd (omega arith)) s.more
           (subst (IsAcceptedImage new.disk) s.pairs (created new is).now.ready.accepted) s.commit.commit
-          (subst (λ z. Contains z p) s.pairs (subst (Contains new.pairs) (pair_is t index (file_creation_changes id name) w p b.left [] (u ∷ []) b.right [] [] splicing) has))
+          (subst (λ z. Contains z p) s.pairs (subst (Contains new.pairs) (pair_is t index w p splicing.there splicing.place) has))
 
   pub create_survives : (new : List DeviceCallEvent) → PowerLossLeavesSuchBlocksAfterCleanErases t.history new (IsLeftByStoppedChangeOrSplit t index (file_creation_changes id name)) → SurvivesPowerLossInCallsSince t.disk t.history new (tree_on_disk t.disk t.pairs) (tree_with_new_file t can.path name)
   create_survives new stops = survives t index (file_creation_changes id name) w p b.left [] (u ∷ []) b.right [] [] splicing (tree_after_creation (can.path ++ name ∷ []) (FileNode [] []))

@@ -1,20 +1,16 @@
 -- A pair that went from the thread, in an accepted image: what the device holds then, and which blocks the image uses.
 use Rattle.std.proofs.Common.{ℕ, ◌≡◌, ◌≢◌, ◌+◌, ◌≤◌, Bool, true, false, cond, nat_eq, eqb-true, eq-eqb, List, [], ◌∷◌, ◌++◌, length, Option, Some, refl, sym, ap, subst, ◌∙◌, arith, length-set, set, slice_get}
-use Rattle.std.specs.Prelude.{All, Contains, ◌↔◌}
-use Rattle.std.specs.List.{flat_map}
+use Rattle.std.specs.Prelude.{Contains, ◌↔◌}
 use Rattle.std.proofs.lemmas.List.Elements.{All-from_recursion, recursion_from_All}
-use Rattle.std.proofs.lemmas.List.Concat.{flat_map-append}
 use Rattle.std.proofs.lemmas.Option.{same_Some}
 use Rattle.lfs_model.specs.BlockSets.{AreExactlyTheUsedBlocks, BlockStateList, BlockState, IsBlockInFlight, IsBlockMarkedUsedInMap}
 use Rattle.lfs_model.specs.BlockSets.BlockState.{Free, InFlight, Used}
 use Rattle.lfs_model.specs.Content.{content_of_pair_at, current_block_of_pair_at}
-use Rattle.lfs_model.specs.declared.limits.Profile.{Profile}
 use Rattle.lfs_model.specs.Disk.{Disk}
-use Rattle.lfs_model.specs.Slots.{PairContent, IsContentFittingPair, Slot}
-use Rattle.lfs_model.specs.Thread.{Pair, blocks_of_pairs, gstate_of_pairs, blocks_of_pair_address}
+use Rattle.lfs_model.specs.Slots.{PairContent, Slot}
+use Rattle.lfs_model.specs.Thread.{Pair, gstate_of_pairs, blocks_of_pair_address}
 use Rattle.lfs_model.specs.View.{BeginsWithLogEntry, IsAcceptedImage, superblock_name_log_entry}
-use Rattle.lfs_model.specs.Profile.{IsSlotWithinWritableLimits, IsWritableImage}
-use Rattle.lfs_model.specs.Shown.{all_slots_not_moved, skip_list_blocks_of_struct, used_blocks}
+use Rattle.lfs_model.specs.Shown.{all_slots_not_moved, used_blocks}
 use Rattle.lfs_model.proofs.BlockSets.{Contains-occurrence_count_of_number, occurrence_count_of_number-Contains, slice_get-set_other, slice_get-set_same}
 use Rattle.lfs_model.proofs.Changes.{SameFiles, slots_files}
 use Rattle.lfs_model.proofs.Counts.{occurrence_count_of_number, count_append, count_here, each_append, each_left, each_right}
@@ -29,16 +25,7 @@ use Rattle.lfs_operations.specs.Dropping.{HasSameBlocksInFlight}
 use Rattle.lfs_operations.proofs.DroppedTails.{front_is}
 use Rattle.lfs_operations.proofs.Placing.{IsPlaced, all_apart, blocks_append, device}
 use Rattle.lfs_operations.proofs.Taking.{within}
-
--- ---- the profile
-
-pub profile_same : (disk new : Disk) (ps : List Pair) → new.block_size ≡ disk.block_size → new.page ≡ disk.page → new.profile ≡ disk.profile → IsWritableImage disk ps → IsWritableImage new ps
-profile_same disk new ps e f g h = record {
-  pairs = subst (λ (n : ℕ). All (λ p. IsContentFittingPair n new.page p.content) ps) (sym e) (subst (λ (n : ℕ). All (λ p. IsContentFittingPair disk.block_size n p.content) ps) (sym f) h.pairs);
-  slots = subst (λ (x : Profile). All (λ p. All (IsSlotWithinWritableLimits x new.block_size new.page) p.content.slots) ps) (sym g)
-      (subst (λ (n : ℕ). All (λ p. All (IsSlotWithinWritableLimits disk.profile n new.page) p.content.slots) ps) (sym e) (subst (λ (n : ℕ). All (λ p. All (IsSlotWithinWritableLimits disk.profile disk.block_size n) p.content.slots) ps) (sym f) h.slots));
-  no_empty_pair = h.no_empty_pair;
-}
+use Rattle.lfs_operations.proofs.Owning.{slots_append, count_used}
 
 -- ---- the device
 
@@ -81,13 +68,6 @@ module _ (t : KeptThread) (n : ℕ) (ahead : List Pair) (p o : Pair) (back : Lis
   device_dropped disk c same w = device_without t.disk disk (ahead ++ p ∷ o ∷ back) ahead (record { at = p.at; content = c }) o back (device_kept disk c same w)
 
 -- ---- the blocks
-
-pub slots_append : (xs ys : List Pair) → slots_of_pairs_in_order (xs ++ ys) ≡ slots_of_pairs_in_order xs ++ slots_of_pairs_in_order ys
-slots_append xs ys = flat_map-append (λ (p : Pair). p.content.slots) xs ys
-
-pub count_used : (b : ℕ) (disk : Disk) (ps : List Pair) → HasNoMove (gstate_of_pairs ps) → occurrence_count_of_number b (used_blocks disk ps) ≡ occurrence_count_of_number b (blocks_of_pairs ps) + occurrence_count_of_number b (file_blocks_of_slots disk (slots_of_pairs_in_order ps))
-count_used b disk ps none = count_append b (blocks_of_pairs ps) (flat_map (λ s. skip_list_blocks_of_struct disk s.struct) (all_slots_not_moved ps))
-    ∙ ap (λ z. occurrence_count_of_number b (blocks_of_pairs ps) + occurrence_count_of_number b (file_blocks_of_slots disk z)) (unmoved_in (gstate_of_pairs ps) none ps)
 
 module _ (disk new : Disk) (ahead : List Pair) (p o q : Pair) (back : List Pair) (none : HasNoMove (gstate_of_pairs (ahead ++ p ∷ o ∷ back))) (still : HasNoMove (gstate_of_pairs (ahead ++ q ∷ back)))
     (d : IsDevice disk new (ahead ++ p ∷ o ∷ back) (ahead ++ q ∷ back)) (at : q.at ≡ p.at) (slots : q.content.slots ≡ p.content.slots) where

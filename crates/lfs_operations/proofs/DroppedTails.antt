@@ -22,6 +22,7 @@ use Rattle.lfs_thread.specs.Kept.{KeptThread}
 use Rattle.lfs_thread.specs.Steps.{CanDropNextPair, IsPairAfterIndexDropped, PowerLossLeavesPairOldOrChanged, IsCommitRefused, IsPairWrittenOnDisk, complete_content_after_changes, empty_pair_at_anchor, thread_pair_at_index, change_that_sets_tail, thread_pairs_with_content_replaced_at_index}
 use Rattle.lfs_operations.specs.Dropping.{IsNextPairDropped, IsLeftByStoppedPairDrop, delta_after_next_pair_drop, tail_after_next_pair_drop, tail_over_dropped_pair, drop_next_pair_changes, content_after_next_pair_drop}
 use Rattle.lfs_operations.proofs.Held.{completes_to}
+use Rattle.lfs_operations.proofs.Threads.{get_at, set_at}
 
 -- ---- what a log comes to
 
@@ -91,19 +92,11 @@ two_at (p ∷ []) zero l = absurd (omega arith)
 two_at (p ∷ q ∷ ps) zero l = record { ahead = []; one = p; other = q; back = ps; is = refl; number = refl }
 two_at (p ∷ ps) (suc n) l = let t = two_at ps n (omega arith) in record { ahead = p ∷ t.ahead; one = t.one; other = t.other; back = t.back; is = ap (λ z. p ∷ z) t.is; number = ap suc t.number }
 
-get_here : (xs : List Pair) (p : Pair) (zs : List Pair) (d : Pair) → get_or (xs ++ p ∷ zs) (length xs) d ≡ p
-get_here [] p zs d = refl
-get_here (x ∷ xs) p zs d = get_here xs p zs d
-
 get_next : (xs : List Pair) (p q : Pair) (zs : List Pair) (d : Pair) → get_or (xs ++ p ∷ q ∷ zs) (length xs + 1) d ≡ q
 get_next [] p q zs d = refl
 get_next (x ∷ xs) p q zs d =
     let e : suc (length xs) + 1 ≡ suc (length xs + 1) = omega arith in
     ap (λ (n : ℕ). get_or (x ∷ (xs ++ p ∷ q ∷ zs)) n d) e ∙ get_next xs p q zs d
-
-set_here : (xs : List Pair) (p : Pair) (zs : List Pair) (q : Pair) → set (xs ++ p ∷ zs) (length xs) q ≡ xs ++ q ∷ zs
-set_here [] p zs q = refl
-set_here (x ∷ xs) p zs q = ap (λ z. x ∷ z) (set_here xs p zs q)
 
 pub remove_next : (xs : List Pair) (q o : Pair) (zs : List Pair) → remove (xs ++ q ∷ o ∷ zs) (length xs + 1) ≡ xs ++ q ∷ zs
 remove_next [] q o zs = refl
@@ -113,7 +106,7 @@ remove_next (x ∷ xs) q o zs =
 
 module _ (t : KeptThread) (front : ℕ) (ahead : List Pair) (p o : Pair) (back : List Pair) (is : t.pairs ≡ ahead ++ p ∷ o ∷ back) (number : length ahead ≡ front) where
   pub front_is : thread_pair_at_index t front ≡ p
-  front_is = ap₂ (λ (z : List Pair) (i : ℕ). get_or z i empty_pair_at_anchor) is (sym number) ∙ get_here ahead p (o ∷ back) empty_pair_at_anchor
+  front_is = ap₂ (λ (z : List Pair) (i : ℕ). get_or z i empty_pair_at_anchor) is (sym number) ∙ get_at ahead p (o ∷ back) empty_pair_at_anchor
 
   pub gone_is : thread_pair_at_index t (front + 1) ≡ o
   gone_is = ap₂ (λ (z : List Pair) (i : ℕ). get_or z (i + 1) empty_pair_at_anchor) is (sym number) ∙ get_next ahead p o back empty_pair_at_anchor
@@ -124,7 +117,7 @@ module _ (t : KeptThread) (front : ℕ) (ahead : List Pair) (p o : Pair) (back :
       let q : Pair = record { at = p.at; content = c } in
       ap (λ (z : Pair). remove (set t.pairs front (record { at = z.at; content = c })) (front + 1)) front_is
       ∙ ap₂ (λ (z : List Pair) (i : ℕ). remove (set z i q) (i + 1)) is (sym number)
-      ∙ ap (λ (z : List Pair). remove z (length ahead + 1)) (set_here ahead p (o ∷ back) q) ∙ remove_next ahead q o back
+      ∙ ap (λ (z : List Pair). remove z (length ahead + 1)) (set_at ahead p (o ∷ back) q) ∙ remove_next ahead q o back
 
   -- what the two deltas and the turn of the global state come to
   deltas : (d : Gstate) (q : Pair) → q.content.move ≡ gstate_xor (gstate_xor p.content.move o.content.move) d → gstate_of_pairs (q ∷ []) ≡ gstate_xor d (gstate_of_pairs (p ∷ o ∷ []))

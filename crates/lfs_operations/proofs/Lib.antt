@@ -1,6 +1,7 @@
 pub mod Taking
 pub mod Putting
 pub mod Placing
+pub mod Threads
 pub mod Splicing
 pub mod Owning
 pub mod RootStays
@@ -15,6 +16,7 @@ pub mod Removed
 pub mod DroppedTails
 pub mod Dropped
 pub mod RemovedWhole
+pub mod MovPlaced
 pub mod MovPlaces
 pub mod MovSet
 pub mod MovFirsts
@@ -26,7 +28,6 @@ pub mod MovStep
 pub mod MakingContents
 pub mod MakingExamples
 pub mod MakingCounts
-pub mod MakingPlaces
 pub mod MakingEntered
 pub mod MakingThreaded
 pub mod MakingReported
@@ -49,7 +50,7 @@ pub mod Unlinked
 pub mod RmdirPlaces
 pub mod Rmdir
 mod DroppedRows
-pub mod RmdirEnd
+pub mod LastDrop
 pub mod RmdirThread
 pub mod RmdirWhole
 pub mod UnlinkedWhole
@@ -70,8 +71,6 @@ pub mod MovEndGoes
 pub mod RenameOver
 pub mod RenameReadOver
 pub mod RecoverMoved
-pub mod RecoverStays
-pub mod RecoverGoes
 pub mod RecoverBefore
 pub mod RecoverWrites
 pub mod RecoverEnded

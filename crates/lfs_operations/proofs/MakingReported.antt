@@ -9,10 +9,7 @@ use Rattle.lfs_thread.specs.Kept.{KeptThread, ThreadView}
 use Rattle.lfs_thread.specs.Steps.{IoMeantFaultNoMemoryKeptOtherBlocks}
 use Rattle.lfs_operations.specs.Changing.{ReportsErrorsOfCommitTakingBlocks, has_thread_failed_after_result}
 use Rattle.lfs_operations.specs.Making.{ReportsErrorsOfMakingDirectory}
-use Rattle.lfs_operations.proofs.Putting.{with_map}
-
-same_err : {A : Type 0} (a b : Error) (r : Result A Error) → r ≡ Err a → r ≡ Err b → a ≡ b
-same_err a b r h k = cc
+use Rattle.lfs_operations.proofs.Putting.{with_map, same_err}
 
 -- the same answer, passed on
 pub reported_again : {X Y : Type 0} (bs : List ℕ) (old new : KeptThread) (e : Error) (result : Result X Error) (given : Result Y Error) → result ≡ Err e → given ≡ Err e → IoMeantFaultNoMemoryKeptOtherBlocks bs old new result

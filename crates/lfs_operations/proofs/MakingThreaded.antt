@@ -33,10 +33,10 @@ use Rattle.lfs_thread.specs.Steps.{HasSameGeometry, HasPairOldContentOnDisk, IsF
 use Rattle.lfs_operations.specs.Changing.{AreTwoFreeBlocks, map_with_two_blocks_in_flight}
 use Rattle.lfs_operations.specs.Making.{changes_threading_new_pair}
 use Rattle.lfs_operations.specs.Ready.{IsImageReadyForChange}
-use Rattle.lfs_operations.proofs.MakingCounts.{count_pairs, used_count_now}
-use Rattle.lfs_operations.proofs.MakingPlaces.{at_is, fresh_distinct, fresh_range, pair_is, placed_still, same_four, shape_same, two_now}
-use Rattle.lfs_operations.proofs.Owning.{length_now, used_more}
-use Rattle.lfs_operations.proofs.Placing.{IsPlaced, all_apart, device, nothing_came}
+use Rattle.lfs_operations.proofs.MakingCounts.{used_count_now}
+use Rattle.lfs_operations.proofs.Threads.{at_is, fresh_distinct, fresh_range, pair_is, placed_still, same_four, shape_same, two_now}
+use Rattle.lfs_operations.proofs.Owning.{count_pairs, length_now, used_more}
+use Rattle.lfs_operations.proofs.Placing.{IsPlaced, all_apart, device, left_still}
 use Rattle.lfs_operations.proofs.Putting.{with_map}
 
 -- the pair of that number is the last of a directory
@@ -173,13 +173,7 @@ module _ (t : KeptThread) (ready : IsImageReadyForChange t) (last : ℕ) (chain 
   -- only the blocks of the fresh pair may differ: the image shows the tree that it showed
   pub left_beside : (blocks : Blocks) (tree : Tree) → AreBlocksEqualExceptThese (blocks_of_pair_address fresh) t.disk.blocks blocks → HasTreeBeforeOrAfterOperation (disk_with_blocks blocks t.disk) (tree_on_disk t.disk t.pairs) tree
   left_beside blocks tree others =
-      let n = nothing_came t.disk (disk_with_blocks blocks t.disk) w x e.site accepted_there (device t.disk (disk_with_blocks blocks t.disk) w x x [] (fresh.0 ∷ fresh.1 ∷ []) accepted_there distinct placed) in
-      record {
-        pairs = thread_at w (x ∷ []);
-        accepted = n.accepted;
-        writable = record { pairs = writable_there.pairs; slots = writable_there.slots; no_empty_pair = writable_there.no_empty_pair };
-        tree = inl (n.shows ∙ ap (tree_on_disk t.disk) (sym e.there));
-      }
+      left_still t.disk blocks (thread_at w (x ∷ [])) accepted_there writable_there (device t.disk (disk_with_blocks blocks t.disk) w x x [] (fresh.0 ∷ fresh.1 ∷ []) accepted_there distinct placed) (inl (ap (tree_on_disk t.disk) (sym e.there)))
     where
       -- a block that is used is the same
       same_used : (b : ℕ) → 1 ≤ occurrence_count_of_number b (blocks_of_pairs (x ∷ [])) → block_bytes_on_disk (disk_with_blocks blocks t.disk) b ≡ block_bytes_on_disk t.disk b
@@ -263,16 +257,9 @@ module _ (t : KeptThread) (ready : IsImageReadyForChange t) (last : ℕ) (chain 
         shape = record { block_size = refl; page = refl; order = refl; profile = refl; count = is.others.count }
 
         go : HasPairOldContentOnDisk held last (disk_with_blocks blocks t.disk) ⊎ IsFreshPairThreadedInOnDisk held last fresh (changes_threading_new_pair t last fresh) (disk_with_blocks blocks t.disk) → HasTreeBeforeOrAfterOperation (disk_with_blocks blocks t.disk) (tree_on_disk t.disk t.pairs) tree
-        go (inl b) =
-            let on = device t.disk (disk_with_blocks blocks t.disk) w x x [] (fresh.0 ∷ fresh.1 ∷ []) accepted_there distinct
-            (placed_still t last w x e.there e.place (disk_with_blocks blocks t.disk) fresh shape is.others (record { holds = b.holds; first = b.first })) in
-            let n = nothing_came t.disk (disk_with_blocks blocks t.disk) w x e.site accepted_there on in
-            record {
-              pairs = thread_at w (x ∷ []);
-              accepted = n.accepted;
-              writable = record { pairs = writable_there.pairs; slots = writable_there.slots; no_empty_pair = writable_there.no_empty_pair };
-              tree = inl (n.shows ∙ ap (tree_on_disk t.disk) (sym e.there));
-            }
+        go (inl b) = left_still t.disk blocks (thread_at w (x ∷ [])) accepted_there writable_there
+            (device t.disk (disk_with_blocks blocks t.disk) w x x [] (fresh.0 ∷ fresh.1 ∷ []) accepted_there distinct (placed_still t last w x e.there e.place (disk_with_blocks blocks t.disk) fresh shape is.others (record { holds = b.holds; first = b.first })))
+            (inl (ap (tree_on_disk t.disk) (sym e.there)))
         go (inr j) =
             let at = at_is t last w x e.there e.place in
             let c = made_same j.content j.made in

@@ -1,7 +1,6 @@
 -- A directory that comes, as two steps of the thread.
-use Rattle.std.proofs.Common.{ℕ, ◌≡◌, ◌+◌, ◌<◌, ◌≤◌, ◌^◌, ◌&&◌, ◌⊎◌, inl, inr, Bool, true, false, List, [], ◌∷◌, ◌++◌, length, Some, refl, sym, ap, ap₂, subst, ◌∙◌, arith, append_assoc, length-append, insert, slice_get}
-use Rattle.std.specs.Prelude.{All, Contains, nat_le}
-use Rattle.std.proofs.lemmas.Bool.{leb-true}
+use Rattle.std.proofs.Common.{ℕ, ◌≡◌, ◌+◌, ◌<◌, ◌≤◌, ◌^◌, ◌⊎◌, inl, inr, true, List, [], ◌∷◌, ◌++◌, length, Some, refl, sym, ap, ap₂, subst, ◌∙◌, arith, append_assoc, length-append, insert, slice_get}
+use Rattle.std.specs.Prelude.{All, Contains}
 use Rattle.std.proofs.lemmas.List.Elements.{recursion_from_All}
 use Rattle.lfs_device.specs.Bytes.{AreAllBlockElementsBelow256}
 use Rattle.lfs_model.specs.TreeEdits.{tree_after_creation}
@@ -13,7 +12,7 @@ use Rattle.lfs_model.specs.declared.limits.Profile.{Profile}
 use Rattle.lfs_model.specs.Disk.{Disk, block_count, charged_entry_size_limit_in_pair}
 use Rattle.lfs_model.specs.InDirectory.{IsPlaceWhereNameBelongs}
 use Rattle.lfs_model.specs.LoggedContent.{Are32BitPairAddresses}
-use Rattle.lfs_model.specs.Names.{Name, is_valid_name, is_path_component}
+use Rattle.lfs_model.specs.Names.{Name}
 use Rattle.lfs_model.specs.Operations as ops
 use Rattle.lfs_model.specs.PowerLoss.{HasTreeBeforeOrAfterOperation as IsLeftOf, disk_with_blocks}
 use Rattle.lfs_model.specs.Slots.{PairContent, IsContentFittingPair, Gstate, Slot, entry_charge_with_longest_inline_contents, zero_gstate, gstate_xor, same_pair}
@@ -47,21 +46,15 @@ use Rattle.lfs_operations.proofs.AlteredTails.{other_tail}
 use Rattle.lfs_operations.proofs.MakingCounts.{freed, less_room, no_room}
 use Rattle.lfs_operations.proofs.MakingContents.{can_name, logged_there, named_made, threaded_made}
 use Rattle.lfs_operations.proofs.MakingEntered.{Enters, HasEntered, HasEntry, IsEntering, Stays, entered, left_entered}
-use Rattle.lfs_operations.proofs.MakingPlaces.{below, pair_is}
+use Rattle.lfs_operations.proofs.Threads.{below, pair_is}
 use Rattle.lfs_operations.proofs.MakingRoutes.{IsAhead, IsOne, IsRoute, route, run_right, site_behind}
 use Rattle.lfs_operations.proofs.MakingThreaded.{HasThreaded, entries_still, first_taken, fits_now, fresh_pair, has_threaded, left_beside, left_threading, naming_pair, put_there, settled_there, state_now, sync_now}
 use Rattle.lfs_operations.proofs.Owning.{none_comes_now, stay_taken}
-use Rattle.lfs_operations.proofs.Placing.{nothing_came}
+use Rattle.lfs_operations.proofs.Placing.{left_still}
 use Rattle.lfs_operations.proofs.Putting.{held, with_map}
 use Rattle.lfs_operations.proofs.RootStays.{root_stays}
 use Rattle.lfs_operations.proofs.Taking.{within}
-
-name_length : (name : Name) → is_valid_name name ≡ true → length name ≤ 255
-name_length name h = leb-true (length name) 255 (and_second (is_path_component name) (nat_le (length name) 255) h)
-  where
-    and_second : (a b : Bool) → (a && b) ≡ true → b ≡ true
-    and_second true b e = e
-    and_second false b e = absurd (cc)
+use Rattle.lfs_operations.proofs.RenameSlots.{name_length}
 
 -- what the pair at a site holds
 holds_at : (t : KeptThread) (index : ℕ) (w : Site) (p : Pair) → t.pairs ≡ thread_at w (p ∷ []) → index ≡ length w.chain + length (w.before ++ w.left) → IsAcceptedImage t.disk t.pairs
@@ -397,14 +390,8 @@ module _ (t : KeptThread) (index id : ℕ) (name : Name) (can : CanMakeDirectory
 
         go : Stays m index (changes_adding_entry_for_directory_pair m index id name fresh) v way.p2 b.left name fresh b.right entering (disk_with_blocks left m.disk) ⊎ HasEntry m v way.p2 b.left name fresh b.right (disk_with_blocks left m.disk)
             → IsLeftOf (disk_with_blocks left m.disk) (tree_on_disk t.disk t.pairs) (tree_with_new_directory t can.path name)
-        go (inl d) =
-            let n = nothing_came m.disk (disk_with_blocks left m.disk) v way.p2 site_now (subst (IsAcceptedImage m.disk) there_now accepted_now) d in
-            record {
-              pairs = thread_at v (way.p2 ∷ []);
-              accepted = n.accepted;
-              writable = (let k = subst (IsWritableImage m.disk) there_now writable_now in record { pairs = k.pairs; slots = k.slots; no_empty_pair = k.no_empty_pair });
-              tree = inl (n.shows ∙ ap (tree_on_disk m.disk) (sym same_thread) ∙ first.follows.shows ∙ ap (tree_on_disk t.disk) (sym way.end.there));
-            }
+        go (inl d) = left_still m.disk left (thread_at v (way.p2 ∷ [])) (subst (IsAcceptedImage m.disk) there_now accepted_now) (subst (IsWritableImage m.disk) there_now writable_now) d
+            (inl (ap (tree_on_disk m.disk) (sym same_thread) ∙ first.follows.shows ∙ ap (tree_on_disk t.disk) (sym way.end.there)))
         go (inr e) = record {
           pairs = thread_at v (e.q ∷ e.more);
           accepted = (both (disk_with_blocks left m.disk) e.q e.more e.enters).end.accepted;

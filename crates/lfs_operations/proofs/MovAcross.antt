@@ -19,8 +19,7 @@ use Rattle.lfs_model.proofs.Became.{Became}
 use Rattle.lfs_model.proofs.Changes.{IsImageAfterTreeChange}
 use Rattle.lfs_model.proofs.Committed.{IsImageAfterCompletedOperation}
 use Rattle.lfs_model.proofs.Laws.{DirectoryAddressByPath}
-use Rattle.lfs_model.proofs.Layouts.{onward_all, onward_some}
-use Rattle.lfs_model.specs.Layout.{directory_address_continued_by_hard_tail}
+use Rattle.lfs_model.proofs.Layouts.{onward_all}
 use Rattle.lfs_model.proofs.RenamedAcross.{IsRenameAcross, IsNoDirectory, across_completed, target_slots}
 use Rattle.lfs_model.proofs.Sites.{Site, thread_at}
 use Rattle.lfs_model.proofs.StepsTaken.{IsWritableImageAfterTreeChange}
@@ -29,10 +28,7 @@ use Rattle.lfs_model.proofs.Writable.{ends_in_hard_tail}
 use Rattle.lfs_operations.proofs.MovPlaces.{InTurn, ahead, behind}
 use Rattle.lfs_operations.proofs.MovSet.{HasTurned, IsSetting, turns}
 use Rattle.lfs_operations.specs.MoveEnds.{gstate_naming_moved_slot}
-
-flag_from : (from : Option (ℕ × ℕ)) (xs : List Pair) → is_some (onward_all from xs) ≡ ends_in_hard_tail (is_some from) xs
-flag_from from [] = refl
-flag_from from (x ∷ xs) = flag_from (directory_address_continued_by_hard_tail from x) xs ∙ ap (λ b. ends_in_hard_tail b xs) (onward_some from x)
+use Rattle.lfs_operations.proofs.RmdirPlaces.{flag_from}
 
 pub flag_append : (b : Bool) (xs ys : List Pair) → ends_in_hard_tail b (xs ++ ys) ≡ ends_in_hard_tail (ends_in_hard_tail b xs) ys
 flag_append b [] ys = refl

@@ -6,23 +6,23 @@ use Rattle.std.proofs.lemmas.List.Concat.{flat_map-append}
 use Rattle.std.proofs.lemmas.List.Elements.{recursion_from_All}
 use Rattle.lfs_model.specs.Disk.{Disk}
 use Rattle.lfs_model.specs.Slots.{Slot, Gstate, is_superblock, same_pair, gstate_xor}
-use Rattle.lfs_model.specs.SlotEdits.{pair_with_slots}
-use Rattle.lfs_model.specs.Thread.{Pair, blocks_of_pairs, gstate_of_pairs, starts_with_superblock, slots_not_moved}
+use Rattle.lfs_model.specs.SlotEdits.{pair_with_slots, pairs_without_moved_slot}
+use Rattle.lfs_model.specs.Thread.{Pair, blocks_of_pairs, gstate_of_pairs, starts_with_superblock, slots_not_moved, is_hard_tail, pair_count_before_root}
 use Rattle.lfs_model.specs.Shown.{directories_in_thread, used_blocks, all_slots_not_moved}
 use Rattle.lfs_model.specs.Slots.{gstate_kind_of_set_move}
 use Rattle.lfs_model.specs.View.{IsAcceptedImage}
 use Rattle.lfs_model.specs.Profile.{IsWritableImage}
 use Rattle.lfs_model.proofs.Became.{became_front, became_shape}
-use Rattle.lfs_model.proofs.Changes.{slots_files}
+use Rattle.lfs_model.proofs.Changes.{slots_files, chain_now}
 use Rattle.lfs_model.proofs.Counts.{Each, each_append, each_left, each_right, each_weaker, occurrence_count_of_number, count_append}
 use Rattle.lfs_model.proofs.Files.{HasSameFileBlocksOfStructOnDisks}
 use Rattle.lfs_model.proofs.Global.{HasNoMove, gstate_cons, gstate_right}
 use Rattle.lfs_model.proofs.Listings.{flip_false}
 use Rattle.lfs_model.proofs.Moves.{remove_here}
 use Rattle.lfs_model.proofs.Pairs.{pair_back}
-use Rattle.lfs_model.proofs.Rests.{IsMoveEnd, move_ends, site_gstate_moved, unmoved_elsewhere}
+use Rattle.lfs_model.proofs.Rests.{IsMoveEnd, move_ends, site_gstate_moved, unmoved_elsewhere, end_change}
 use Rattle.lfs_model.proofs.Searches.{avoids_front, avoids_behind}
-use Rattle.lfs_model.proofs.Sites.{Site, dirs_at, thread_at, IsSite}
+use Rattle.lfs_model.proofs.Sites.{Site, thread_at, IsSite}
 use Rattle.lfs_model.proofs.Splices.{slots_of_pairs_in_order, file_blocks_of_slots, unmoved_in}
 use Rattle.lfs_model.proofs.StepsTaken.{IsWritableImageAfterTreeChange, IsPut, end_taken}
 use Rattle.lfs_model.proofs.Writable.{ends_in_hard_tail}
@@ -31,9 +31,69 @@ use Rattle.lfs_operations.proofs.MovSet.{HasTurned}
 use Rattle.lfs_operations.proofs.MovFirsts.{end_firsts}
 use Rattle.lfs_model.proofs.MoveSets.{addresses_of_first_pairs_of_directories}
 use Rattle.lfs_operations.specs.EndingMove.{gstate_without_move}
+use Rattle.lfs_operations.proofs.Owning.{count_pairs}
+use Rattle.lfs_operations.proofs.RecoverBefore.{AreKin, hidden, hidden_append, hidden_far, kin_append}
 
 pub move_out : (g : Gstate) → gstate_xor (gstate_without_sync g) g ≡ gstate_without_move g
 move_out g = λ j. record { sync = g.sync; kind = xor_self g.kind j; id = xor_self g.id j; pair = (xor_self g.pair.0 j, xor_self g.pair.1 j) }
+
+-- ---- the blocks that the image uses
+
+-- where no file is visible but those that were: those that it used, with the pair's new blocks in place of the old
+module _ (disk new : Disk) (w : Site) (p : Pair) (mids : List Pair) (q : Pair) (l : List Slot) (u : Slot) (r : List Slot) (k : IsMoveEnd disk new w p mids q [] l u r) where
+  abbrev G : Gstate
+  G = gstate_of_pairs (thread_at w (p ∷ mids))
+
+  abbrev Apart : Pair → Type 0
+  Apart s = same_pair (gstate_of_pairs (thread_at w (p ∷ mids))).pair s.at ≡ false
+
+  hidden_none : (ss : List Pair) → Each Apart ss → flat_map (slots_not_moved G) ss ≡ slots_of_pairs_in_order ss
+  hidden_none [] h = refl
+  hidden_none (s ∷ ss) h = ap₂ (λ x y. x ++ y) (unmoved_elsewhere G s h.0) (hidden_none ss h.1)
+
+  slots_three : (f : Pair → List Slot) (zs : List Pair) → flat_map f (thread_at w zs) ≡ flat_map f w.chain ++ (flat_map f (w.before ++ w.left) ++ (flat_map f zs ++ flat_map f (w.right ++ w.after)))
+  slots_three f zs = flat_map-append f w.chain ((w.before ++ w.left) ++ (zs ++ (w.right ++ w.after)))
+      ∙ ap (λ z. flat_map f w.chain ++ z) (flat_map-append f (w.before ++ w.left) (zs ++ (w.right ++ w.after)) ∙ ap (λ z. flat_map f (w.before ++ w.left) ++ z) (flat_map-append f zs (w.right ++ w.after)))
+
+  pub far_chain : Each Apart w.chain
+  far_chain = each_left Apart w.chain ((w.before ++ w.left) ++ (w.right ++ w.after)) k.elsewhere
+
+  pub far_before : Each Apart (w.before ++ w.left)
+  far_before = each_left Apart (w.before ++ w.left) (w.right ++ w.after) (each_right Apart w.chain ((w.before ++ w.left) ++ (w.right ++ w.after)) k.elsewhere)
+
+  pub far_after : Each Apart (w.right ++ w.after)
+  far_after = each_right Apart (w.before ++ w.left) (w.right ++ w.after) (each_right Apart w.chain ((w.before ++ w.left) ++ (w.right ++ w.after)) k.elsewhere)
+
+  -- the root directory begins where it did
+  pub end_chain : pair_count_before_root (thread_at w (q ∷ [])) ≡ length w.chain
+  end_chain = chain_now disk new w.chain (w.before ++ w.left) p mids q [] (w.right ++ w.after) [] k.site.chain k.accepted (end_change disk new w p mids q [] l u r k)
+
+  visible_same : all_slots_not_moved (thread_at w (q ∷ [])) ≡ all_slots_not_moved (thread_at w (p ∷ mids))
+  visible_same = unmoved_in (gstate_of_pairs (thread_at w (q ∷ []))) k.still_none (thread_at w (q ∷ [])) ∙ slots_three (λ s. s.content.slots) (q ∷ [])
+      ∙ ap₂ (λ a z. a ++ (slots_of_pairs_in_order (w.before ++ w.left) ++ z)) (sym (hidden_none w.chain far_chain))
+      (ap₂ (λ a z. a ++ z) (k.is ∙ sym k.hidden) (sym (hidden_none (w.right ++ w.after) far_after)))
+      ∙ ap (λ z. flat_map (slots_not_moved G) w.chain ++ (z ++ (flat_map (slots_not_moved G) (p ∷ mids) ++ flat_map (slots_not_moved G) (w.right ++ w.after)))) (sym (hidden_none (w.before ++ w.left) far_before))
+      ∙ sym (slots_three (slots_not_moved G) (p ∷ mids))
+
+  pub end_count : (b : ℕ) → occurrence_count_of_number b (used_blocks new (thread_at w (q ∷ []))) + occurrence_count_of_number b (blocks_of_pairs (p ∷ mids)) ≡ occurrence_count_of_number b (used_blocks disk (thread_at w (p ∷ mids))) + occurrence_count_of_number b (blocks_of_pairs (q ∷ []))
+  end_count b =
+      let a1 = count_append b (blocks_of_pairs (thread_at w (q ∷ []))) (file_blocks_of_slots new (all_slots_not_moved (thread_at w (q ∷ [])))) in
+      let a2 = count_append b (blocks_of_pairs (thread_at w (p ∷ mids))) (file_blocks_of_slots disk (all_slots_not_moved (thread_at w (p ∷ mids)))) in
+      let b1 = count_pairs b w (q ∷ []) in
+      let b2 = count_pairs b w (p ∷ mids) in
+      let same = ap (occurrence_count_of_number b) (slots_files disk new (all_slots_not_moved (thread_at w (p ∷ mids))) k.device.geometry
+      (recursion_from_All (λ (s : Slot). HasSameFileBlocksOfStructOnDisks disk new s.struct) (all_slots_not_moved (thread_at w (p ∷ mids))) k.device.files)) in
+      let f = ap (λ z. occurrence_count_of_number b (file_blocks_of_slots new z)) visible_same in
+      omega arith
+
+-- so a recovery may go on, where the pair stays
+pub end_kin : (disk new : Disk) (w : Site) (p q : Pair) (l : List Slot) (u : Slot) (r : List Slot) → IsMoveEnd disk new w p [] q [] l u r → is_hard_tail q.content.tail ≡ is_hard_tail p.content.tail → AreKin (pairs_without_moved_slot (thread_at w (p ∷ []))) (thread_at w (q ∷ []))
+end_kin disk new w p q l u r k hard = subst (λ x. AreKin x (thread_at w (q ∷ []))) (sym (hidden_append (gstate_of_pairs (thread_at w (p ∷ []))) w.chain ((w.before ++ w.left) ++ p ∷ (w.right ++ w.after)) ∙ ap (λ x. hidden (gstate_of_pairs (thread_at w (p ∷ []))) w.chain ++ x) (hidden_append (gstate_of_pairs (thread_at w (p ∷ []))) (w.before ++ w.left) (p ∷ (w.right ++ w.after)))))
+    (kin_append (hidden (gstate_of_pairs (thread_at w (p ∷ []))) w.chain) (hidden (gstate_of_pairs (thread_at w (p ∷ []))) (w.before ++ w.left) ++ hidden (gstate_of_pairs (thread_at w (p ∷ []))) (p ∷ (w.right ++ w.after))) w.chain ((w.before ++ w.left) ++ q ∷ (w.right ++ w.after)) (hidden_far (gstate_of_pairs (thread_at w (p ∷ []))) w.chain (far_chain disk new w p [] q l u r k))
+    (kin_append (hidden (gstate_of_pairs (thread_at w (p ∷ []))) (w.before ++ w.left)) (hidden (gstate_of_pairs (thread_at w (p ∷ []))) (p ∷ (w.right ++ w.after))) (w.before ++ w.left) (q ∷ (w.right ++ w.after)) (hidden_far (gstate_of_pairs (thread_at w (p ∷ []))) (w.before ++ w.left) (far_before disk new w p [] q l u r k))
+    (record { at = k.shape.at; slots = sym (append-nil q.content.slots) ∙ k.is ∙ sym k.hidden ∙ append-nil (slots_not_moved (gstate_of_pairs (thread_at w (p ∷ []))) p); hard = hard }, hidden_far (gstate_of_pairs (thread_at w (p ∷ []))) (w.right ++ w.after) (far_after disk new w p [] q l u r k))))
+
+-- ---- the slot goes
 
 -- The move hides the slot u of the pair at the site, which keeps another where a hard tail leads to it.
 pub record IsEnding (disk : Disk) (w : Site) (p : Pair) (l : List Slot) (u : Slot) (r : List Slot) : Type 0 where
@@ -81,10 +141,6 @@ module _ (disk : Disk) (w : Site) (p : Pair) (l : List Slot) (u : Slot) (r : Lis
   hides : slots_not_moved g p ≡ l ++ r
   hides = ap₂ (λ k b. cond (nat_eq k 0x4ff && b) (remove p.content.slots g.id) p.content.slots) k.kind k.pair ∙ ap₂ (λ s i. remove s i) k.held k.id ∙ remove_here l r u
 
-  hidden_none : (ss : List Pair) → Each Far ss → flat_map (slots_not_moved g) ss ≡ slots_of_pairs_in_order ss
-  hidden_none [] h = refl
-  hidden_none (s ∷ ss) h = ap₂ (λ x y. x ++ y) (unmoved_elsewhere g s h.0) (hidden_none ss h.1)
-
   module _ (new : Disk) (q : Pair) (x : HasTurned disk w p (l ++ r) (gstate_xor (gstate_without_sync (gstate_of_pairs (thread_at w (p ∷ [])))) p.content.move) new q []) where
     abbrev qs : List Pair
     qs = thread_at w (q ∷ [])
@@ -126,33 +182,14 @@ module _ (disk : Disk) (w : Site) (p : Pair) (l : List Slot) (u : Slot) (r : Lis
     pub ended_firsts : addresses_of_first_pairs_of_directories (directories_in_thread qs) ≡ addresses_of_first_pairs_of_directories (directories_in_thread ps)
     ended_firsts = end_firsts disk new w p [] q [] l u r end_step
 
-    -- ---- the blocks that the image uses
+    pub ended_chain : pair_count_before_root qs ≡ length w.chain
+    ended_chain = end_chain disk new w p [] q l u r end_step
 
-    blocks_two : (xs ys : List Pair) (b : ℕ) → occurrence_count_of_number b (blocks_of_pairs (xs ++ ys)) ≡ occurrence_count_of_number b (blocks_of_pairs xs) + occurrence_count_of_number b (blocks_of_pairs ys)
-    blocks_two xs ys b = ap (occurrence_count_of_number b) (flat_map-append (λ (s : Pair). s.at.0 ∷ s.at.1 ∷ []) xs ys) ∙ count_append b (blocks_of_pairs xs) (blocks_of_pairs ys)
-
-    slots_three : (f : Pair → List Slot) (zs : List Pair) → flat_map f (thread_at w zs) ≡ flat_map f w.chain ++ (flat_map f ahead ++ (flat_map f zs ++ flat_map f back))
-    slots_three f zs = flat_map-append f w.chain (ahead ++ (zs ++ back)) ∙ ap (λ z. flat_map f w.chain ++ z) (flat_map-append f ahead (zs ++ back) ∙ ap (λ z. flat_map f ahead ++ z) (flat_map-append f zs back))
-
-    -- no file but those that were visible
-    visible_same : all_slots_not_moved qs ≡ all_slots_not_moved ps
-    visible_same = unmoved_in (gstate_of_pairs qs) still_none qs ∙ slots_three (λ s. s.content.slots) (q ∷ [])
-        ∙ ap₂ (λ a z. a ++ (slots_of_pairs_in_order ahead ++ z)) (sym (hidden_none w.chain (each_left Far w.chain ahead far_front)))
-        (ap₂ (λ a z. a ++ z) (x.is ∙ sym hides ∙ sym (append-nil (slots_not_moved g p))) (sym (hidden_none back far_back)))
-        ∙ ap (λ z. flat_map (slots_not_moved g) w.chain ++ (z ++ (flat_map (slots_not_moved g) (p ∷ []) ++ flat_map (slots_not_moved g) back))) (sym (hidden_none ahead (each_right Far w.chain ahead far_front)))
-        ∙ sym (slots_three (slots_not_moved g) (p ∷ []))
+    pub ended_kin : AreKin (pairs_without_moved_slot (thread_at w (p ∷ []))) (thread_at w (q ∷ []))
+    ended_kin = end_kin disk new w p q l u r end_step (ap is_hard_tail x.became.0)
 
     pub ended_count : (b : ℕ) → occurrence_count_of_number b (used_blocks new qs) ≡ occurrence_count_of_number b (used_blocks disk ps)
     ended_count b =
-        let a1 = count_append b (blocks_of_pairs qs) (file_blocks_of_slots new (all_slots_not_moved qs)) in
-        let a2 = count_append b (blocks_of_pairs ps) (file_blocks_of_slots disk (all_slots_not_moved ps)) in
-        let b1 = blocks_two w.chain (dirs_at w (q ∷ [])) b in
-        let b2 = blocks_two ahead (q ∷ [] ++ back) b in
-        let b3 = blocks_two (q ∷ []) back b in
-        let b4 = blocks_two w.chain (dirs_at w (p ∷ [])) b in
-        let b5 = blocks_two ahead (p ∷ [] ++ back) b in
-        let b6 = blocks_two (p ∷ []) back b in
+        let e = end_count disk new w p [] q l u r end_step b in
         let at = ap (λ (a : ℕ × ℕ). occurrence_count_of_number b (a.0 ∷ a.1 ∷ [])) x.at in
-        let same = ap (occurrence_count_of_number b) (slots_files disk new (all_slots_not_moved ps) x.device.geometry (recursion_from_All (λ (s : Slot). HasSameFileBlocksOfStructOnDisks disk new s.struct) (all_slots_not_moved ps) x.device.files)) in
-        let f = ap (λ z. occurrence_count_of_number b (file_blocks_of_slots new z)) visible_same in
         omega arith

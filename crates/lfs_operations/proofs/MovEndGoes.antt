@@ -1,5 +1,5 @@
 -- The end of a set move where the pair goes with the slot, as a step of the thread.
-use Rattle.std.proofs.Common.{ℕ, ◌≡◌, ◌≢◌, ◌⊎◌, inl, inr, ◌+◌, ◌-◌, true, false, List, [], ◌∷◌, ◌++◌, length, refl, sym, ap, ap₂, subst, ◌∙◌, arith, append_assoc, append-nil, length-append, remove}
+use Rattle.std.proofs.Common.{ℕ, ◌≡◌, ◌≢◌, ◌⊎◌, inl, inr, ◌+◌, ◌-◌, true, false, List, [], ◌∷◌, ◌++◌, length, refl, sym, ap, ap₂, subst, ◌∙◌, arith, append_assoc, append-nil, length-append, remove, subst₂}
 use Rattle.std.proofs.lemmas.List.Elements.{recursion_from_All}
 use Rattle.lfs_model.specs.Blocks.{Blocks}
 use Rattle.lfs_model.specs.Disk.{Disk}
@@ -7,7 +7,7 @@ use Rattle.lfs_model.specs.History.{DeviceCallEvent}
 use Rattle.lfs_model.specs.LoggedContent.{AreMoveStateFieldsWithinBitWidths}
 use Rattle.lfs_model.specs.PowerLoss.{HasTreeBeforeOrAfterOperation as IsLeftOf, SurvivesPowerLossInCallsSince, disk_with_blocks}
 use Rattle.lfs_model.specs.Slots.{PairContent, IsContentFittingPair, Gstate, Slot, same_pair}
-use Rattle.lfs_model.specs.Thread.{Pair, gstate_of_pairs, is_hard_tail}
+use Rattle.lfs_model.specs.Thread.{Pair, gstate_of_pairs, is_hard_tail, pair_count_before_root}
 use Rattle.lfs_model.specs.View.{IsAcceptedImage}
 use Rattle.lfs_model.specs.Profile.{IsWritableImage}
 use Rattle.lfs_model.specs.Shown.{directories_in_thread, tree_on_disk, used_blocks}
@@ -15,26 +15,26 @@ use Rattle.lfs_model.proofs.Alike.{ArePairsWithSameAddressesAndSlots, alike_appe
 use Rattle.lfs_model.proofs.Counts.{Each, each_right, occurrence_count_of_number}
 use Rattle.lfs_model.proofs.Histories.{IsTrueAfterAnyPowerLossSince-weaker}
 use Rattle.lfs_model.proofs.Indexes.{HasSite, site_of_number}
-use Rattle.lfs_model.proofs.Listings.{IsRun}
 use Rattle.lfs_model.proofs.MoveSets.{addresses_of_first_pairs_of_directories}
-use Rattle.lfs_model.proofs.Sites.{IsTrueOfSomeElement, IsSite, Site, among_left, among_parts, among_right, dirs_at, thread_at}
+use Rattle.lfs_model.proofs.Sites.{IsTrueOfSomeElement, Site, among_left, among_parts, among_right, thread_at}
 use Rattle.lfs_model.proofs.Splices.{IsDevice}
 use Rattle.lfs_model.proofs.StepsTaken.{IsWritableImageAfterTreeChange}
-use Rattle.lfs_model.proofs.Superblocks.{IsChain}
 use Rattle.lfs_model.proofs.Writable.{ends_in_hard_tail}
 use Rattle.lfs_thread.specs.Device.{PowerLossLeavesSuchBlocksAfterCleanErases}
 use Rattle.lfs_thread.specs.Kept.{KeptThread}
 use Rattle.lfs_thread.specs.Steps.{IsPairWrittenOnDisk, empty_pair_at_anchor, thread_pair_at_index, block_map_with_freed_pair}
 use Rattle.lfs_operations.specs.Dropping.{CanDropPairAt, IsNextPairDropped, IsLeftByStoppedPairDrop, tail_over_dropped_pair, content_after_next_pair_drop}
 use Rattle.lfs_operations.specs.MoveEnds.{CanEndMoveAt, HasEndedMoveAt, is_pair_named_by_hard_tail}
-use Rattle.lfs_operations.proofs.Dropped.{device_dropped, device_kept, profile_same}
+use Rattle.lfs_operations.proofs.Dropped.{device_dropped, device_kept}
 use Rattle.lfs_operations.proofs.DroppedTails.{front_is, gone_is, gstate_is, remove_next, without_is}
 use Rattle.lfs_operations.proofs.MovEnding.{get_from, led_is}
-use Rattle.lfs_operations.proofs.MovEndWhole.{HasTakenOver, IsEndingWhole, whole_count, whole_ended, whole_firsts}
-use Rattle.lfs_operations.proofs.Placing.{nothing_came}
+use Rattle.lfs_operations.proofs.MovEndWhole.{HasTakenOver, IsEndingWhole, whole_count, whole_ended, whole_firsts, whole_chain, whole_leads}
+use Rattle.lfs_operations.proofs.Placing.{left_after, left_still}
 use Rattle.lfs_operations.proofs.Removed.{flag_ends}
-use Rattle.lfs_operations.proofs.RemovedWhole.{LastPair, last_pair, only_slot, over_hard, run_hard}
+use Rattle.lfs_operations.proofs.RemovedWhole.{only_slot, over_hard, StandsBehind, stands_behind}
 use Rattle.lfs_operations.specs.EndingMove.{gstate_without_move}
+use Rattle.lfs_operations.proofs.RecoverBefore.{go_alike}
+use Rattle.lfs_model.proofs.Global.{HasNoMove}
 
 sync_state : (g : Gstate) → AreMoveStateFieldsWithinBitWidths (gstate_without_move g)
 sync_state g = record { kind = omega arith; id = omega arith; pair = (omega arith, omega arith) }
@@ -77,61 +77,32 @@ module _ (t : KeptThread) (index id : ℕ) (can : CanEndMoveAt t index id true) 
   some_left : v.left ≢ []
   some_left none = absurd (let z = sym led ∙ ap (λ z. ends_in_hard_tail false (v.before ++ z)) none ∙ ap (ends_in_hard_tail false) (append-nil v.before) ∙ flag_ends v.before h.is_site.ends in cc)
 
-  front : LastPair v.left
-  front = last_pair v.left some_left
+  before_it : StandsBehind t.pairs v o index
+  before_it = stands_behind t.pairs v o index h.is h.is_site (sym h.number ∙ length-append v.chain (v.before ++ v.left)) some_left
 
   abbrev x : Pair
-  x = front.last
+  x = before_it.x
 
   abbrev w : Site
-  w = record { chain = v.chain; before = v.before; left = front.front; right = v.right; after = v.after }
-
-  dirs_is : dirs_at v (o ∷ []) ≡ dirs_at w (x ∷ o ∷ [])
-  dirs_is =
-      let rest = v.right ++ v.after in
-      ap (λ z. (v.before ++ z) ++ o ∷ rest) front.is
-      ∙ append_assoc v.before (front.front ++ x ∷ []) (o ∷ rest)
-      ∙ ap (λ z. v.before ++ z) (append_assoc front.front (x ∷ []) (o ∷ rest))
-      ∙ sym (append_assoc v.before front.front (x ∷ o ∷ rest))
+  w = before_it.w
 
   there : t.pairs ≡ thread_at w (x ∷ o ∷ [])
-  there = h.is ∙ ap (λ z. v.chain ++ z) dirs_is
+  there = before_it.there
 
   abbrev ahead : List Pair
-  ahead = v.chain ++ (v.before ++ front.front)
+  ahead = w.chain ++ (w.before ++ w.left)
 
   abbrev back : List Pair
-  back = v.right ++ v.after
+  back = w.right ++ w.after
 
   grouped : (ps : List Pair) → thread_at w ps ≡ ahead ++ (ps ++ back)
-  grouped ps = sym (append_assoc v.chain (v.before ++ front.front) (ps ++ (v.right ++ v.after)))
+  grouped ps = sym (append_assoc w.chain (w.before ++ w.left) (ps ++ (w.right ++ w.after)))
 
   is : t.pairs ≡ ahead ++ x ∷ o ∷ back
   is = there ∙ grouped (x ∷ o ∷ [])
 
-  place : length ahead + 1 ≡ index
-  place =
-      let a = length-append v.chain (v.before ++ front.front) in
-      let b = length-append v.before front.front in
-      let c = length-append v.before v.left in
-      let d = ap length front.is in
-      let e = length-append front.front (x ∷ []) in
-      let f = length-append v.chain (v.before ++ v.left) in
-      let n = h.number in
-      omega arith
-
   number : length ahead ≡ index - 1
-  number = let e = place in omega arith
-
-  site_now : IsSite w (x ∷ o ∷ [])
-  site_now = record {
-    chain = subst (IsChain v.chain) dirs_is h.is_site.chain;
-    ends = h.is_site.ends;
-    run = subst IsRun (ap (λ z. z ++ o ∷ v.right) front.is ∙ append_assoc front.front (x ∷ []) (o ∷ v.right)) h.is_site.run;
-  }
-
-  hard : is_hard_tail x.content.tail ≡ true
-  hard = run_hard front.front x o v.right site_now.run
+  number = let e = before_it.number in omega arith
 
   front_there : thread_pair_at_index t (index - 1) ≡ x
   front_there = front_is t (index - 1) ahead x o back is number
@@ -144,7 +115,7 @@ module _ (t : KeptThread) (index id : ℕ) (can : CanEndMoveAt t index id true) 
 
   pub can_drop_moved : CanDropPairAt t index (gstate_without_move (gstate_of_pairs t.pairs))
   can_drop_moved = record {
-    above = let e = place in omega arith;
+    above = let e = before_it.number in omega arith;
     below = can.below;
     thread = can.accepted.thread;
     fits = subst (λ (z : Pair). IsContentFittingPair t.disk.block_size t.disk.page z.content) (sym front_there)
@@ -168,7 +139,7 @@ module _ (t : KeptThread) (index id : ℕ) (can : CanEndMoveAt t index id true) 
   ending = record {
     accepted = subst (IsAcceptedImage t.disk) there can.accepted;
     writable = subst (IsWritableImage t.disk) there can.writable;
-    site = site_now;
+    site = before_it.site;
     kind = sym (ap (λ z. (gstate_of_pairs z).kind) there) ∙ can.kind;
     pair = ap₂ (λ z (y : Pair). same_pair (gstate_of_pairs z).pair y.at) (sym there) (sym here) ∙ can.named;
     id = sym (ap (λ z. (gstate_of_pairs z).id) there) ∙ can.id_is ∙ first;
@@ -180,7 +151,7 @@ module _ (t : KeptThread) (index id : ℕ) (can : CanEndMoveAt t index id true) 
   over_on disk written = record {
     at = refl;
     slots = slots_same;
-    tail = ap₂ (λ (y z : Pair). tail_over_dropped_pair y.content.tail z.content.tail) front_there gone_there ∙ over_hard x.content.tail o.content.tail hard;
+    tail = ap₂ (λ (y z : Pair). tail_over_dropped_pair y.content.tail z.content.tail) front_there gone_there ∙ over_hard x.content.tail o.content.tail before_it.hard;
     state = ap gstate_of_pairs (grouped (q ∷ [])) ∙ gstate_is t (index - 1) ahead x o back is number (gstate_without_move (gstate_of_pairs t.pairs)) q refl ∙ ap (λ z. gstate_without_move (gstate_of_pairs z)) there;
     device = subst (λ z. IsDevice t.disk disk z (thread_at w (q ∷ []))) (sym (grouped (x ∷ o ∷ [])))
         (subst (IsDevice t.disk disk (ahead ++ x ∷ o ∷ back)) (sym (grouped (q ∷ []))) (device_dropped t (index - 1) ahead x o back is number (subst (IsAcceptedImage t.disk) is can.accepted) disk c slots_same written));
@@ -194,7 +165,7 @@ module _ (t : KeptThread) (index id : ℕ) (can : CanEndMoveAt t index id true) 
   still_there z none soft among = go (among_parts (λ y. y ≡ z) ahead (x ∷ o ∷ back) among)
     where
       behind : IsTrueOfSomeElement (λ y. y ≡ z) (x ∷ o ∷ back) → IsTrueOfSomeElement (λ y. y ≡ z) (q ∷ back)
-      behind (inl e) = absurd (let k = sym hard ∙ ap (λ (y : Pair). is_hard_tail y.content.tail) e ∙ soft in cc)
+      behind (inl e) = absurd (let k = sym before_it.hard ∙ ap (λ (y : Pair). is_hard_tail y.content.tail) e ∙ soft in cc)
       behind (inr (inl e)) = absurd (let k = sym held ∙ ap (λ (y : Pair). y.content.slots) e ∙ none in cc)
       behind (inr (inr a)) = inr a
 
@@ -205,22 +176,26 @@ module _ (t : KeptThread) (index id : ℕ) (can : CanEndMoveAt t index id true) 
   pub has_gone : (new : KeptThread) → IsNextPairDropped t (index - 1) (gstate_without_move (gstate_of_pairs t.pairs)) new → HasEndedMoveAt t index id true new
   has_gone new d =
       let pairs : new.pairs ≡ thread_at w (q ∷ []) = d.pairs ∙ without_is t (index - 1) ahead x o back is number c ∙ sym (grouped (q ∷ [])) in
-      let taken = goes_on new.disk d.written in
-      let left : remove t.pairs index ≡ ahead ++ x ∷ back = ap₂ (λ (z : List Pair) (i : ℕ). remove z i) is (sym place) ∙ remove_next ahead x o back in
+      let over = over_on new.disk d.written in
+      let all = subst₂ (λ z qs. IsWritableImageAfterTreeChange t.disk z new.disk qs (λ t. t) (λ d. d)) (sym there) (sym pairs) (goes_on new.disk d.written) in
+      let root = ap pair_count_before_root pairs ∙ whole_chain t.disk w x o u ending new.disk q over ∙ sym (ap pair_count_before_root there ∙ before_it.site.chain) in
+      let left : remove t.pairs index ≡ ahead ++ x ∷ back = ap₂ (λ (z : List Pair) (i : ℕ). remove z i) is (sym before_it.number) ∙ remove_next ahead x o back in
       record {
-        taken = subst (λ z. IsWritableImageAfterTreeChange t.disk z new.disk new.pairs (λ t. t) (λ d. d)) (sym there) (subst (λ z. IsWritableImageAfterTreeChange t.disk (thread_at w (x ∷ o ∷ [])) new.disk z (λ t. t) (λ d. d)) (sym pairs) taken);
+        taken = all;
         state = d.gstate;
         alike = subst (λ z. ArePairsWithSameAddressesAndSlots z new.pairs) (sym left) (subst (ArePairsWithSameAddressesAndSlots (ahead ++ x ∷ back)) (sym (pairs ∙ grouped (q ∷ [])))
             (alike_append ahead (x ∷ back) ahead (q ∷ back) (alike_itself ahead) (refl, slots_same, alike_itself back)));
-        map = d.map ∙ ap (λ (i : ℕ). block_map_with_freed_pair t.map (thread_pair_at_index t i).at) (let e = place in omega arith);
+        map = d.map ∙ ap (λ (i : ℕ). block_map_with_freed_pair t.map (thread_pair_at_index t i).at) (let e = before_it.number in omega arith);
         blocks = λ b.
-            let e = whole_count t.disk w x o u ending new.disk q (over_on new.disk d.written) b in
+            let e = whole_count t.disk w x o u ending new.disk q over b in
             let f = ap (λ z. occurrence_count_of_number b (used_blocks new.disk z)) pairs in
             let g = ap (λ z. occurrence_count_of_number b (used_blocks t.disk z)) there in
             let k = ap (λ (z : Pair). occurrence_count_of_number b (z.at.0 ∷ z.at.1 ∷ [])) here in
             omega arith;
         shape = d.written.shape;
-        begins = ap (λ z. addresses_of_first_pairs_of_directories (directories_in_thread z)) pairs ∙ whole_firsts t.disk w x o u ending new.disk q (over_on new.disk d.written) ∙ ap (λ z. addresses_of_first_pairs_of_directories (directories_in_thread z)) (sym there);
+        begins = ap (λ z. addresses_of_first_pairs_of_directories (directories_in_thread z)) pairs ∙ whole_firsts t.disk w x o u ending new.disk q over ∙ ap (λ z. addresses_of_first_pairs_of_directories (directories_in_thread z)) (sym there);
+        root = root;
+        leads_on = whole_leads t.disk w x o u ending new.disk q over t new (go_alike t new all.follows d.written.shape) (subst HasNoMove (sym d.gstate) (record { kind = refl; id = refl; pair = refl })) root there pairs before_it.hard;
         kept = λ z none soft among. subst (IsTrueOfSomeElement (λ y. y ≡ z)) (sym (pairs ∙ grouped (q ∷ []))) (still_there z none soft (subst (IsTrueOfSomeElement (λ y. y ≡ z)) is among));
       }
 
@@ -232,24 +207,10 @@ module _ (t : KeptThread) (index id : ℕ) (can : CanEndMoveAt t index id true) 
       go : (l.content ≡ (thread_pair_at_index t (index - 1)).content) ⊎ (l.content ≡ content_after_next_pair_drop t (index - 1) (gstate_without_move (gstate_of_pairs t.pairs))) → IsLeftOf (disk_with_blocks left t.disk) (tree_on_disk t.disk t.pairs) (tree_on_disk t.disk t.pairs)
       go (inl e) =
           let same = e ∙ ap (λ (z : Pair). z.content) front_there in
-          let d = device_kept t (index - 1) ahead x o back is number (subst (IsAcceptedImage t.disk) is can.accepted) (disk_with_blocks left t.disk) x.content refl
-          (subst (λ y. IsPairWrittenOnDisk t (index - 1) y (disk_with_blocks left t.disk)) same l.written) in
-          let on = subst (λ z. IsDevice t.disk (disk_with_blocks left t.disk) z z) (sym is ∙ h.is) d in
-          let f = nothing_came t.disk (disk_with_blocks left t.disk) v o h.is_site (subst (IsAcceptedImage t.disk) h.is can.accepted) on in
-          record {
-            pairs = thread_at v (o ∷ []);
-            accepted = f.accepted;
-            writable = profile_same t.disk (disk_with_blocks left t.disk) (thread_at v (o ∷ [])) refl refl refl (subst (IsWritableImage t.disk) h.is can.writable);
-            tree = inl (f.shows ∙ ap (tree_on_disk t.disk) (sym h.is));
-          }
-      go (inr e) =
-          let k = goes_on (disk_with_blocks left t.disk) (subst (λ y. IsPairWrittenOnDisk t (index - 1) y (disk_with_blocks left t.disk)) e l.written) in
-          record {
-            pairs = thread_at w (q ∷ []);
-            accepted = k.follows.accepted;
-            writable = k.writable;
-            tree = inl (k.follows.shows ∙ ap (tree_on_disk t.disk) (sym there));
-          }
+          left_still t.disk left t.pairs can.accepted can.writable (subst (λ z. IsDevice t.disk (disk_with_blocks left t.disk) z z) (sym is)
+          (device_kept t (index - 1) ahead x o back is number (subst (IsAcceptedImage t.disk) is can.accepted) (disk_with_blocks left t.disk) x.content refl (subst (λ y. IsPairWrittenOnDisk t (index - 1) y (disk_with_blocks left t.disk)) same l.written)))
+          (inl refl)
+      go (inr e) = left_after (goes_on (disk_with_blocks left t.disk) (subst (λ y. IsPairWrittenOnDisk t (index - 1) y (disk_with_blocks left t.disk)) e l.written)) (inl (ap (tree_on_disk t.disk) (sym there)))
 
   pub goes_survives : (new : List DeviceCallEvent) → PowerLossLeavesSuchBlocksAfterCleanErases t.history new (IsLeftByStoppedPairDrop t (index - 1) (gstate_without_move (gstate_of_pairs t.pairs))) → SurvivesPowerLossInCallsSince t.disk t.history new (tree_on_disk t.disk t.pairs) (tree_on_disk t.disk t.pairs)
   goes_survives new stops clean = IsTrueAfterAnyPowerLossSince-weaker left_tree (stops clean)

@@ -1,29 +1,31 @@
 -- A set move ends where the slot that it hides is all that its pair holds: the pair goes with it, and the one in front of it takes over its tail.
-use Rattle.std.proofs.Common.{ℕ, ◌≡◌, ◌+◌, true, false, cond, nat_eq, ◌&&◌, List, [], ◌∷◌, ◌++◌, refl, sym, ap, ap₂, subst, ◌∙◌, arith, flat_map, append_assoc, remove}
+use Rattle.std.proofs.Common.{ℕ, ◌≡◌, ◌+◌, true, false, cond, nat_eq, ◌&&◌, List, [], ◌∷◌, ◌++◌, sym, ap, ap₂, subst, ◌∙◌, arith, flat_map, append_assoc, remove, length, length-append}
 use Rattle.std.specs.List.{IsDistinct}
-use Rattle.std.proofs.lemmas.List.Concat.{flat_map-append}
-use Rattle.std.proofs.lemmas.List.Elements.{recursion_from_All}
 use Rattle.lfs_model.specs.Disk.{Disk}
+use Rattle.lfs_model.specs.Operations as ops
 use Rattle.lfs_model.specs.Slots.{Slot, Gstate, is_superblock, same_pair}
-use Rattle.lfs_model.specs.Thread.{Pair, blocks_of_pairs, gstate_of_pairs, starts_with_superblock, slots_not_moved}
+use Rattle.lfs_model.specs.Thread.{Pair, blocks_of_pairs, gstate_of_pairs, starts_with_superblock, slots_not_moved, is_hard_tail, pair_count_before_root}
 use Rattle.lfs_model.specs.View.{IsAcceptedImage}
 use Rattle.lfs_model.specs.Profile.{IsWritableImage}
-use Rattle.lfs_model.specs.Shown.{all_slots_not_moved, directories_in_thread, used_blocks}
+use Rattle.lfs_model.specs.Shown.{directories_in_thread, used_blocks}
 use Rattle.lfs_model.specs.Slots.{gstate_kind_of_set_move}
-use Rattle.lfs_model.proofs.Changes.{slots_files}
-use Rattle.lfs_model.proofs.Counts.{Each, each_append, each_left, each_right, each_weaker, occurrence_count_of_number, count_append}
-use Rattle.lfs_model.proofs.Files.{HasSameFileBlocksOfStructOnDisks}
+use Rattle.lfs_model.proofs.Counts.{Each, each_append, each_left, each_right, each_weaker, occurrence_count_of_number}
 use Rattle.lfs_model.proofs.Global.{HasNoMove}
 use Rattle.lfs_model.proofs.Listings.{flip_false}
 use Rattle.lfs_model.proofs.Pairs.{pair_back}
 use Rattle.lfs_model.proofs.Rests.{IsMoveEnd, move_ends, unmoved_elsewhere}
 use Rattle.lfs_model.proofs.Searches.{avoids_behind, avoids_front}
-use Rattle.lfs_model.proofs.Sites.{Site, dirs_at, thread_at, IsSite}
-use Rattle.lfs_model.proofs.Splices.{drop_shape, file_blocks_of_slots, slots_of_pairs_in_order, unmoved_in, IsDevice}
+use Rattle.lfs_model.proofs.Sites.{Site, thread_at, IsSite}
+use Rattle.lfs_model.proofs.Splices.{drop_shape, IsDevice}
 use Rattle.lfs_model.proofs.StepsTaken.{IsWritableImageAfterTreeChange, end_drop_taken}
 use Rattle.lfs_model.proofs.MoveSets.{addresses_of_first_pairs_of_directories}
 use Rattle.lfs_operations.proofs.MovFirsts.{end_firsts}
-use Rattle.lfs_operations.specs.EndingMove.{gstate_without_move}
+use Rattle.lfs_operations.specs.EndingMove.{gstate_without_move, IsEachRecoveryOfNewAllowedForOld}
+use Rattle.lfs_operations.proofs.MovEnd.{end_count, end_chain}
+use Rattle.lfs_operations.proofs.RecoverBefore.{GoAlike, hidden, hidden_append, hidden_far, hidden_length, laid_out_gap}
+use Rattle.lfs_model.specs.Layout.{IsDirectoryUnreachedOrRemoved}
+use Rattle.lfs_model.specs.SlotEdits.{pair_with_slots, pairs_without_moved_slot}
+use Rattle.lfs_thread.specs.Kept.{KeptThread}
 
 -- At the site stand p and o behind it, joined by a hard tail, and the move hides o's only slot u.
 pub record IsEndingWhole (disk : Disk) (w : Site) (p o : Pair) (u : Slot) : Type 0 where
@@ -84,10 +86,6 @@ module _ (disk : Disk) (w : Site) (p o : Pair) (u : Slot) (k : IsEndingWhole dis
   hides : slots_not_moved g o ≡ []
   hides = ap₂ (λ k b. cond (nat_eq k 0x4ff && b) (remove o.content.slots g.id) o.content.slots) k.kind k.pair ∙ ap₂ (λ s i. remove s i) k.held k.id
 
-  hidden_none : (ss : List Pair) → Each Far ss → flat_map (slots_not_moved g) ss ≡ slots_of_pairs_in_order ss
-  hidden_none [] h = refl
-  hidden_none (s ∷ ss) h = ap₂ (λ x y. x ++ y) (unmoved_elsewhere g s h.0) (hidden_none ss h.1)
-
   hidden_two : flat_map (slots_not_moved g) (p ∷ o ∷ []) ≡ p.content.slots ++ []
   hidden_two = ap₂ (λ x y. x ++ (y ++ [])) (unmoved_elsewhere g p far_p) hides
 
@@ -120,36 +118,22 @@ module _ (disk : Disk) (w : Site) (p o : Pair) (u : Slot) (k : IsEndingWhole dis
     pub whole_firsts : addresses_of_first_pairs_of_directories (directories_in_thread (thread_at w (q ∷ []))) ≡ addresses_of_first_pairs_of_directories (directories_in_thread (thread_at w (p ∷ o ∷ [])))
     whole_firsts = end_firsts disk new w p (o ∷ []) q [] p.content.slots u [] whole_step
 
-    -- ---- the blocks that the image uses
+    pub whole_chain : pair_count_before_root (thread_at w (q ∷ [])) ≡ length w.chain
+    whole_chain = end_chain disk new w p (o ∷ []) q p.content.slots u [] whole_step
 
-    blocks_two : (xs ys : List Pair) (b : ℕ) → occurrence_count_of_number b (blocks_of_pairs (xs ++ ys)) ≡ occurrence_count_of_number b (blocks_of_pairs xs) + occurrence_count_of_number b (blocks_of_pairs ys)
-    blocks_two xs ys b = ap (occurrence_count_of_number b) (flat_map-append (λ (s : Pair). s.at.0 ∷ s.at.1 ∷ []) xs ys) ∙ count_append b (blocks_of_pairs xs) (blocks_of_pairs ys)
+    -- a recovery may go on
+    pub whole_leads : (old next : KeptThread) → GoAlike old.disk next.disk (IsDirectoryUnreachedOrRemoved old.pairs ops.Recover) (IsDirectoryUnreachedOrRemoved next.pairs ops.Recover) → HasNoMove (gstate_of_pairs next.pairs) → pair_count_before_root next.pairs ≡ pair_count_before_root old.pairs
+        → old.pairs ≡ thread_at w (p ∷ o ∷ []) → next.pairs ≡ thread_at w (q ∷ []) → is_hard_tail p.content.tail ≡ true → IsEachRecoveryOfNewAllowedForOld old next
+    whole_leads old next alike none root was is hard = laid_out_gap old next alike none root
+        (hidden g (w.chain ++ ahead)) (pair_with_slots (slots_not_moved g p) p) (pair_with_slots (slots_not_moved g o) o) (hidden g back) (w.chain ++ ahead) q back
+        (ap (λ z. pairs_without_moved_slot z) was ∙ ap (hidden g) (sym (append_assoc w.chain ahead (p ∷ o ∷ back))) ∙ hidden_append g (w.chain ++ ahead) (p ∷ o ∷ back))
+        (is ∙ sym (append_assoc w.chain ahead (q ∷ back)))
+        (let c = ap pair_count_before_root was ∙ k.site.chain in let l = hidden_length g (w.chain ++ ahead) in let a = length-append w.chain ahead in omega arith)
+        (hidden_far g (w.chain ++ ahead) far_ahead) (record { at = x.at; slots = x.slots ∙ sym (unmoved_elsewhere g p far_p); led = hard; tail = ap is_hard_tail x.tail; none = hides }) (hidden_far g back far_back)
 
-    slots_three : (f : Pair → List Slot) (zs : List Pair) → flat_map f (thread_at w zs) ≡ flat_map f w.chain ++ (flat_map f ahead ++ (flat_map f zs ++ flat_map f back))
-    slots_three f zs = flat_map-append f w.chain (ahead ++ (zs ++ back)) ∙ ap (λ z. flat_map f w.chain ++ z) (flat_map-append f ahead (zs ++ back) ∙ ap (λ z. flat_map f ahead ++ z) (flat_map-append f zs back))
-
-    -- no file but those that were visible
-    visible_same : all_slots_not_moved (thread_at w (q ∷ [])) ≡ all_slots_not_moved (thread_at w (p ∷ o ∷ []))
-    visible_same = unmoved_in (gstate_of_pairs (thread_at w (q ∷ []))) still_none (thread_at w (q ∷ [])) ∙ slots_three (λ s. s.content.slots) (q ∷ [])
-        ∙ ap₂ (λ a z. a ++ (slots_of_pairs_in_order ahead ++ z)) (sym (hidden_none w.chain (each_left Far w.chain ahead far_ahead)))
-        (ap₂ (λ a z. a ++ z) (ap (λ z. z ++ []) x.slots ∙ sym hidden_two) (sym (hidden_none back far_back)))
-        ∙ ap (λ z. flat_map (slots_not_moved g) w.chain ++ (z ++ (flat_map (slots_not_moved g) (p ∷ o ∷ []) ++ flat_map (slots_not_moved g) back))) (sym (hidden_none ahead (each_right Far w.chain ahead far_ahead)))
-        ∙ sym (slots_three (slots_not_moved g) (p ∷ o ∷ []))
-
-    -- those that it used, without the pair's
+    -- the blocks that the image used, without the pair's
     pub whole_count : (b : ℕ) → occurrence_count_of_number b (used_blocks new (thread_at w (q ∷ []))) + occurrence_count_of_number b (blocks_of_pairs (o ∷ [])) ≡ occurrence_count_of_number b (used_blocks disk (thread_at w (p ∷ o ∷ [])))
     whole_count b =
-        let a1 = count_append b (blocks_of_pairs (thread_at w (q ∷ []))) (file_blocks_of_slots new (all_slots_not_moved (thread_at w (q ∷ [])))) in
-        let a2 = count_append b (blocks_of_pairs (thread_at w (p ∷ o ∷ []))) (file_blocks_of_slots disk (all_slots_not_moved (thread_at w (p ∷ o ∷ [])))) in
-        let b1 = blocks_two w.chain (dirs_at w (q ∷ [])) b in
-        let b2 = blocks_two ahead (q ∷ [] ++ back) b in
-        let b3 = blocks_two (q ∷ []) back b in
-        let b4 = blocks_two w.chain (dirs_at w (p ∷ o ∷ [])) b in
-        let b5 = blocks_two ahead (p ∷ o ∷ [] ++ back) b in
-        let b6 = blocks_two (p ∷ []) (o ∷ back) b in
-        let b7 = blocks_two (o ∷ []) back b in
+        let e = end_count disk new w p (o ∷ []) q p.content.slots u [] whole_step b in
         let at = ap (λ (a : ℕ × ℕ). occurrence_count_of_number b (a.0 ∷ a.1 ∷ [])) x.at in
-        let same = ap (occurrence_count_of_number b) (slots_files disk new (all_slots_not_moved (thread_at w (p ∷ o ∷ []))) x.device.geometry
-        (recursion_from_All (λ (s : Slot). HasSameFileBlocksOfStructOnDisks disk new s.struct) (all_slots_not_moved (thread_at w (p ∷ o ∷ []))) x.device.files)) in
-        let f = ap (λ z. occurrence_count_of_number b (file_blocks_of_slots new z)) visible_same in
         omega arith

@@ -1,7 +1,6 @@
 -- The end of a set move, as a step of the thread.
-use Rattle.std.proofs.Common.{ℕ, zero, suc, ◌≡◌, ◌≢◌, ◌-◌, ◌<◌, ◌⊎◌, inl, inr, true, false, take, List, [], ◌∷◌, Option, ◌++◌, length, Some, refl, sym, ap, ap₂, subst, ◌∙◌, arith, length-append, remove, get_or, slice_get, sum_by}
+use Rattle.std.proofs.Common.{ℕ, zero, suc, ◌≡◌, ◌≢◌, ◌-◌, ◌<◌, ◌⊎◌, inl, inr, true, false, take, List, [], ◌∷◌, Option, ◌++◌, length, Some, refl, sym, ap, ap₂, subst, ◌∙◌, arith, length-append, remove, get_or, slice_get, sum_by, subst₂}
 use Rattle.std.specs.Option.{option_and_then}
-use Rattle.std.specs.Prelude.{All}
 use Rattle.std.proofs.lemmas.Nat.{xor_lt}
 use Rattle.std.proofs.lemmas.Option.{same_Some}
 use Rattle.std.proofs.lemmas.List.Elements.{recursion_from_All}
@@ -9,7 +8,6 @@ use Rattle.std.proofs.lemmas.List.Sums.{sum_by-append, sum_by-cons}
 use Rattle.lfs_model.specs.Blocks.{Blocks}
 use Rattle.lfs_model.specs.Changes.{Delete, PutMove, raw_pair_content_after_changes}
 use Rattle.lfs_model.specs.Content.{RawPairContent, content_of_pair_at, raw_content_of_pair_at, pair_content_if_slots_complete}
-use Rattle.lfs_model.specs.declared.limits.Profile.{Profile}
 use Rattle.lfs_model.specs.Disk.{Disk}
 use Rattle.lfs_model.specs.History.{DeviceCallEvent}
 use Rattle.lfs_model.specs.LoggedContent.{Are32BitPairAddresses, AreMoveStateFieldsWithinBitWidths}
@@ -17,7 +15,7 @@ use Rattle.lfs_model.specs.PowerLoss.{HasTreeBeforeOrAfterOperation as IsLeftOf,
 use Rattle.lfs_model.specs.Slots.{Slot, IsContentFittingPair, Gstate, Tail, gstate_xor, same_pair, slot_size}
 use Rattle.lfs_model.specs.Thread.{Pair, gstate_of_pairs, pair_address_named_by_tail, pair_count_before_root}
 use Rattle.lfs_model.specs.View.{IsAcceptedImage}
-use Rattle.lfs_model.specs.Profile.{IsWritableImage, IsSlotWithinWritableLimits}
+use Rattle.lfs_model.specs.Profile.{IsWritableImage}
 use Rattle.lfs_model.specs.Shown.{directories_in_thread, tree_on_disk, used_blocks}
 use Rattle.lfs_model.proofs.Alike.{ArePairsWithSameAddressesAndSlots, alike_itself}
 use Rattle.lfs_model.proofs.Completed.{IsCompleted, complete_length, complete_remove, completed_parts, completed_from}
@@ -36,28 +34,20 @@ use Rattle.lfs_thread.specs.Kept.{KeptThread}
 use Rattle.lfs_thread.specs.Steps.{CanChangePair, IsPairChanged, PowerLossLeavesPairOldOrChanged, IsCommitRefused, SlotsBeginWithSuperblock, complete_content_after_changes, empty_pair_at_anchor, thread_pair_at_index, thread_pairs_with_content_replaced_at_index}
 use Rattle.lfs_operations.specs.MoveEnds.{CanEndMoveAt, HasEndedMoveAt, content_after_move_ends, end_move_changes, is_pair_named_by_hard_tail, gstate_without_sync, delta_without_move}
 use Rattle.lfs_operations.proofs.Held.{CompletesTo, completes_to}
-use Rattle.lfs_operations.proofs.MovEnd.{IsEnding, ended, ended_count, ended_firsts, ended_state}
+use Rattle.lfs_operations.proofs.MovEnd.{IsEnding, ended, ended_count, ended_firsts, ended_state, ended_chain, ended_kin}
 use Rattle.lfs_operations.proofs.MovSet.{HasTurned}
 use Rattle.lfs_operations.proofs.MovTurned.{ChangedOne, IsTurn, Stays, changed_one, content_with, left_alone}
-use Rattle.lfs_operations.proofs.Placing.{nothing_came}
+use Rattle.lfs_operations.proofs.Placing.{left_after, left_still}
 use Rattle.lfs_operations.specs.EndingMove.{gstate_without_move}
-
-pub writable_same : (disk new : Disk) (ps : List Pair) → new.block_size ≡ disk.block_size → new.page ≡ disk.page → new.profile ≡ disk.profile → IsWritableImage disk ps → IsWritableImage new ps
-writable_same disk new ps e f g h = record {
-  pairs = subst (λ (n : ℕ). All (λ p. IsContentFittingPair n new.page p.content) ps) (sym e) (subst (λ (n : ℕ). All (λ p. IsContentFittingPair disk.block_size n p.content) ps) (sym f) h.pairs);
-  slots = subst (λ (x : Profile). All (λ p. All (IsSlotWithinWritableLimits x new.block_size new.page) p.content.slots) ps) (sym g)
-      (subst (λ (n : ℕ). All (λ p. All (IsSlotWithinWritableLimits disk.profile n new.page) p.content.slots) ps) (sym e) (subst (λ (n : ℕ). All (λ p. All (IsSlotWithinWritableLimits disk.profile disk.block_size n) p.content.slots) ps) (sym f) h.slots));
-  no_empty_pair = h.no_empty_pair;
-}
+use Rattle.lfs_operations.proofs.Threads.{take_front}
+use Rattle.lfs_operations.proofs.RecoverBefore.{AreKin, go_alike, laid_out_kin}
+use Rattle.lfs_model.specs.SlotEdits.{pairs_without_moved_slot}
+use Rattle.lfs_model.proofs.Global.{HasNoMove}
 
 pub get_from : (xs : List Pair) (i : ℕ) (p d : Pair) → slice_get xs i ≡ Some p → get_or xs i d ≡ p
 get_from [] i p d e = absurd (cc)
 get_from (x ∷ xs) zero p d e = same_Some x p e
 get_from (x ∷ xs) (suc i) p d e = get_from xs i p d e
-
-take_front : (xs ys : List Pair) (n : ℕ) → n ≡ length xs → take n (xs ++ ys) ≡ xs
-take_front [] ys n e = ap (λ k. take k ys) e
-take_front (x ∷ xs) ys n e = ap (λ k. take k (x ∷ (xs ++ ys))) e ∙ ap (λ z. x ∷ z) (take_front xs ys (length xs) refl)
 
 pub led_is : (w : Site) (p : Pair) (i : ℕ) → pair_count_before_root (thread_at w (p ∷ [])) ≡ length w.chain → length (w.chain ++ (w.before ++ w.left)) ≡ i → is_pair_named_by_hard_tail (thread_at w (p ∷ [])) i ≡ ends_in_hard_tail false (w.before ++ w.left)
 led_is w p i chain number =
@@ -251,17 +241,22 @@ module _ (t : KeptThread) (pair id : ℕ) (can : CanEndMoveAt t pair id false) (
     where
       go : ChangedOne t pair w p (l ++ r) move new → HasEndedMoveAt t pair id false new
       go x =
-          let taken = turned_alone new.disk x.turned in
+          let all = subst₂ (λ z qs. IsWritableImageAfterTreeChange t.disk z new.disk qs (λ t. t) (λ d. d)) (sym h.is) (sym x.pairs) (turned_alone new.disk x.turned) in
           let y = subst (λ m. HasTurned t.disk w p (l ++ r) m new.disk q_of []) move_is x.turned in
+          let state : gstate_of_pairs new.pairs ≡ gstate_without_move (gstate_of_pairs t.pairs) = ap gstate_of_pairs x.pairs ∙ ended_state t.disk w p l u r ending new.disk q_of y ∙ ap (λ z. gstate_without_move (gstate_of_pairs z)) (sym h.is) in
+          let root = ap pair_count_before_root x.pairs ∙ ended_chain t.disk w p l u r ending new.disk q_of y ∙ sym (ap pair_count_before_root h.is ∙ h.is_site.chain) in
           record {
-            taken = subst (λ z. IsWritableImageAfterTreeChange t.disk z new.disk new.pairs (λ t. t) (λ d. d)) (sym h.is) (subst (λ z. IsWritableImageAfterTreeChange t.disk (thread_at w (p ∷ [])) new.disk z (λ t. t) (λ d. d)) (sym x.pairs) taken);
-            state = ap gstate_of_pairs x.pairs ∙ ended_state t.disk w p l u r ending new.disk q_of y ∙ ap (λ z. gstate_without_move (gstate_of_pairs z)) (sym h.is);
+            taken = all;
+            state = state;
             alike = subst (ArePairsWithSameAddressesAndSlots (thread_pairs_with_content_replaced_at_index t pair (content_after_move_ends t pair id))) (sym (x.is ∙ ap (λ d. thread_pairs_with_content_replaced_at_index t pair d) (ap₂ (λ s (z : Pair). record { slots = s; tail = z.content.tail; move = move })
                 (sym slots_now ∙ ap (λ (z : Pair). remove z.content.slots id) (sym here)) (sym here)))) (alike_itself (thread_pairs_with_content_replaced_at_index t pair (content_after_move_ends t pair id)));
             map = x.map;
             blocks = λ b. (let e = ap (λ z. occurrence_count_of_number b (used_blocks new.disk z)) x.pairs ∙ ended_count t.disk w p l u r ending new.disk q_of y b ∙ ap (λ z. occurrence_count_of_number b (used_blocks t.disk z)) (sym h.is) in omega arith);
             shape = x.shape;
             begins = ap (λ z. addresses_of_first_pairs_of_directories (directories_in_thread z)) x.pairs ∙ ended_firsts t.disk w p l u r ending new.disk q_of y ∙ ap (λ z. addresses_of_first_pairs_of_directories (directories_in_thread z)) (sym h.is);
+            root = root;
+            leads_on = laid_out_kin t new (go_alike t new all.follows x.shape) (subst HasNoMove (sym state) (record { kind = refl; id = refl; pair = refl })) root
+                (subst (λ z. AreKin (pairs_without_moved_slot z) new.pairs) (sym h.is) (subst (AreKin (pairs_without_moved_slot (thread_at w (p ∷ [])))) (sym x.pairs) (ended_kin t.disk w p l u r ending new.disk q_of y)));
             kept = λ z none soft among. subst (IsTrueOfSomeElement (λ y. y ≡ z)) (sym x.pairs) (still_there z none (subst (IsTrueOfSomeElement (λ y. y ≡ z)) h.is among));
           }
 
@@ -272,22 +267,8 @@ module _ (t : KeptThread) (pair id : ℕ) (can : CanEndMoveAt t pair id false) (
     where
       go : Stays t pair (end_move_changes t pair id) w p (l ++ r) move turn (disk_with_blocks left t.disk) ⊎ HasTurned t.disk w p (l ++ r) move (disk_with_blocks left t.disk) q_of []
           → IsLeftOf (disk_with_blocks left t.disk) (tree_on_disk t.disk t.pairs) (tree_on_disk t.disk t.pairs)
-      go (inl d) =
-          let f = nothing_came t.disk (disk_with_blocks left t.disk) w p h.is_site (subst (IsAcceptedImage t.disk) h.is can.accepted) d in
-          record {
-            pairs = thread_at w (p ∷ []);
-            accepted = f.accepted;
-            writable = writable_same t.disk (disk_with_blocks left t.disk) (thread_at w (p ∷ [])) refl refl refl (subst (IsWritableImage t.disk) h.is can.writable);
-            tree = inl (f.shows ∙ ap (tree_on_disk t.disk) (sym h.is));
-          }
-      go (inr x) =
-          let k = turned_alone (disk_with_blocks left t.disk) x in
-          record {
-            pairs = thread_at w (q_of ∷ []);
-            accepted = k.follows.accepted;
-            writable = k.writable;
-            tree = inl (k.follows.shows ∙ ap (tree_on_disk t.disk) (sym h.is));
-          }
+      go (inl d) = left_still t.disk left (thread_at w (p ∷ [])) (subst (IsAcceptedImage t.disk) h.is can.accepted) (subst (IsWritableImage t.disk) h.is can.writable) d (inl (ap (tree_on_disk t.disk) (sym h.is)))
+      go (inr x) = left_after (turned_alone (disk_with_blocks left t.disk) x) (inl (ap (tree_on_disk t.disk) (sym h.is)))
 
   pub end_survives : (new : List DeviceCallEvent) → PowerLossLeavesSuchBlocksAfterCleanErases t.history new (PowerLossLeavesPairOldOrChanged t pair (end_move_changes t pair id)) → SurvivesPowerLossInCallsSince t.disk t.history new (tree_on_disk t.disk t.pairs) (tree_on_disk t.disk t.pairs)
   end_survives new stops clean = IsTrueAfterAnyPowerLossSince-weaker left_tree (stops clean)

@@ -1,7 +1,6 @@
 -- A rename across pairs, from where the entry stands and where its name belongs.
-use Rattle.std.proofs.Common.{nat_eq, Bool, ℕ, ◌≡◌, ◌+◌, ◌-◌, ◌<◌, ◌⊎◌, inl, inr, true, false, List, [], ◌∷◌, ◌++◌, length, None, Some, refl, sym, ap, ap₂, subst, ◌∙◌, arith, append-nil, length-append, insert}
+use Rattle.std.proofs.Common.{Bool, ℕ, ◌≡◌, ◌+◌, ◌-◌, ◌<◌, true, false, List, [], ◌∷◌, ◌++◌, length, None, Some, refl, sym, ap, ap₂, subst, ◌∙◌, arith, length-append, insert}
 use Rattle.std.specs.Option.{option_and_then}
-use Rattle.std.specs.List.{IsDistinct}
 use Rattle.std.proofs.lemmas.Nat.{xor_lt}
 use Rattle.std.proofs.lemmas.List.Sums.{sum_by-append}
 use Rattle.lfs_model.specs.Changes.{PairContentChange, PutMove, raw_pair_content_after_changes}
@@ -9,36 +8,31 @@ use Rattle.lfs_model.specs.Content.{RawPairContent, RawSlot, slots_if_names_and_
 use Rattle.lfs_model.specs.Cut.{CanSplitSlotsIntoTwoPairs}
 use Rattle.lfs_model.specs.Disk.{Disk}
 use Rattle.lfs_model.specs.History.{DeviceCallEvent}
-use Rattle.lfs_model.specs.InDirectory.{IsPairAtAddress, IsPlaceWhereNameBelongs, IsPairOfDirectory}
+use Rattle.lfs_model.specs.InDirectory.{IsPlaceWhereNameBelongs, IsPairOfDirectory}
 use Rattle.lfs_model.specs.LoggedContent.{Are32BitPairAddresses, AreMoveStateFieldsWithinBitWidths}
 use Rattle.lfs_model.specs.Names.{Name, is_valid_name}
 use Rattle.lfs_model.specs.PowerLoss.{SurvivesPowerLossInCallsSince}
-use Rattle.lfs_model.specs.Slots.{Slot, IsContentFittingPair, Gstate, gstate_xor, same_pair, slot_size}
-use Rattle.lfs_model.specs.Thread.{Pair, blocks_of_pairs, gstate_of_pairs, pair_address_named_by_tail, starts_with_superblock, pair_count_before_root}
+use Rattle.lfs_model.specs.Slots.{Slot, IsContentFittingPair, Gstate, gstate_xor, slot_size}
+use Rattle.lfs_model.specs.Thread.{Pair, pair_address_named_by_tail}
 use Rattle.lfs_model.specs.Tree.{Path}
 use Rattle.lfs_model.specs.TreeEdits.{tree_after_rename, path_without_prefix}
-use Rattle.lfs_model.specs.Profile.{IsEntryWithinWritableLimits, IsWritableImage}
-use Rattle.lfs_model.specs.View.{IsAcceptedImage, IsFileOrDirectoryEntry}
+use Rattle.lfs_model.specs.Profile.{IsEntryWithinWritableLimits}
 use Rattle.lfs_model.specs.Shown.{IsPathToDirectory, entries_by_directory_in_thread, tree_on_disk}
-use Rattle.lfs_model.specs.SlotEdits.{slot_of_path}
 use Rattle.lfs_model.proofs.Changes.{IsImageAfterTreeChange}
 use Rattle.lfs_model.proofs.Committed.{no_move_from}
 use Rattle.lfs_model.proofs.Completed.{IsCompleted, complete_insert, complete_length, completed_from, completed_parts}
-use Rattle.lfs_model.proofs.Counts.{Each, each_right}
 use Rattle.lfs_model.proofs.Effects.{does_first, puts_move}
 use Rattle.lfs_model.proofs.Halves.{content_cut, entry_small}
 use Rattle.lfs_model.proofs.Indexes.{nothing_there}
 use Rattle.lfs_model.proofs.Moves.{insert_here, place_at}
 use Rattle.lfs_model.proofs.Names.{IsPlace}
-use Rattle.lfs_model.proofs.Paths.{last_is}
-use Rattle.lfs_model.proofs.Searches.{is_site, number_is, place_of_belongs, same, site, slot_of_stands, thread_is}
-use Rattle.lfs_model.proofs.Sites.{Site, begin_of, thread_at}
+use Rattle.lfs_model.proofs.Searches.{is_site, number_is, place_of_belongs, same, site, thread_is}
+use Rattle.lfs_model.proofs.Sites.{Site, thread_at}
 use Rattle.lfs_model.proofs.StoredChanges.{logged_changed}
-use Rattle.lfs_model.proofs.Writable.{ends_in_hard_tail}
 use Rattle.lfs_pair.specs.Commit.{pair_content_after_changes}
 use Rattle.lfs_thread.specs.Device.{PowerLossLeavesSuchBlocksAfterCleanErases}
 use Rattle.lfs_thread.specs.Kept.{KeptThread}
-use Rattle.lfs_thread.specs.Steps.{SlotsBeginWithSuperblock, complete_content_after_changes, thread_pair_at_index}
+use Rattle.lfs_thread.specs.Steps.{complete_content_after_changes, thread_pair_at_index}
 use Rattle.lfs_operations.specs.Changing.{IsPairNotKeptUnchanged, CanChangeOrSplitPair, IsLeftByStoppedChangeOrSplit, IsPairChangedOrSplit}
 use Rattle.lfs_operations.specs.Editing.{CanEditEntryOfPair}
 use Rattle.lfs_operations.specs.MoveEnds.{CanEndMoveAt, HasEndedMoveAt, gstate_naming_moved_slot}
@@ -48,14 +42,13 @@ use Rattle.lfs_operations.specs.Ready.{IsRawPairContentWellFormed}
 use Rattle.lfs_operations.specs.Removing.{is_pair_dropped_with_slot}
 use Rattle.lfs_operations.specs.RenamingSlots.{NamelessSlot, nameless_slot_at, nameless_slot_of, slot_creation_changes}
 use Rattle.lfs_operations.proofs.AlteredAcross.{moved_alters}
-use Rattle.lfs_operations.proofs.Held.{CompletesTo, IsEntryIfOther, below, each_pair, fits_there, here, other_entries, raw_there}
-use Rattle.lfs_operations.proofs.MovSet.{HasTurned, IsSetting, chain_same, set_new, walk_by}
+use Rattle.lfs_operations.proofs.Held.{CompletesTo, below, fits_there, here, raw_there}
+use Rattle.lfs_operations.proofs.MovSet.{HasTurned, set_new, walk_by}
 use Rattle.lfs_operations.proofs.MovStep.{IsFirst, first_survives, first_turned, grown, mid_ends, mid_shows, rename_becomes, rename_completed, same_at}
-use Rattle.lfs_operations.proofs.MovTurned.{IsTurn, content_with}
-use Rattle.lfs_operations.proofs.Removed.{alone, flag_ends, stays_there}
-use Rattle.lfs_operations.proofs.RemovedWhole.{flag_whole, stands_whole}
+use Rattle.lfs_operations.proofs.MovTurned.{content_with}
 use Rattle.lfs_operations.proofs.RenameMade.{Leaves, is_slot, leaves_all, parts_are}
 use Rattle.lfs_operations.proofs.RenameSlots.{IsOf, name_length, slot_comes, slot_of_parts, with_slot}
+use Rattle.lfs_operations.proofs.MovPlaced.{IsPlaceInOtherPair, first_of, same_begin, setting}
 
 -- ---- what the changes make
 
@@ -212,9 +205,6 @@ module _ (t : KeptThread) (old_pair old_id first new_pair new_id : ℕ) (name : 
   abbrev w : Site
   w = site t.disk t.pairs rename.path rename.at can.ready.accepted rename.leads rename.to_first new_pair p (b.later ++ b.rest) b.place rename.begins
 
-  there_old : t.pairs ≡ thread_at wo (q ∷ [])
-  there_old = thread_is t.disk t.pairs can.path can.at can.ready.accepted can.leads can.first old_pair q can.stands.rest can.stands.place can.begins
-
   there : t.pairs ≡ thread_at w (p ∷ [])
   there = thread_is t.disk t.pairs rename.path rename.at can.ready.accepted rename.leads rename.to_first new_pair p (b.later ++ b.rest) b.place rename.begins
 
@@ -230,76 +220,17 @@ module _ (t : KeptThread) (old_pair old_id first new_pair new_id : ℕ) (name : 
   pub can_put_across : CanChangeOrSplitPair t new_pair (rename_across_pairs_changes t old_pair old_id new_pair new_id name)
   can_put_across = can_put false t old_pair old_id new_pair can address rename.to_first p (b.later ++ b.rest) b.place rename.logged [] b.left b.right leaves fits_left new_id b.number name rename.is_name rename.fits
 
-  entry : IsFileOrDirectoryEntry s
-  entry =
-      let here = each_pair t can.ready can.first old_pair q can.stands.rest can.stands.place (λ x. Each IsEntryIfOther x.content.slots) (other_entries t.disk t.pairs can.ready.accepted) in
-      (each_right IsEntryIfOther lo (s ∷ ro) (subst (Each IsEntryIfOther) can.stands.stands.held here)).0 can.stands.stands.entry
-
-  old_number : old_pair ≡ length wo.chain + length (wo.before ++ wo.left)
-  old_number = number_is t.disk t.pairs can.path can.at can.ready.accepted can.leads can.first old_pair q can.stands.rest can.stands.place can.begins
-
-  new_number : new_pair ≡ length w.chain + length (w.before ++ w.left)
-  new_number = number_is t.disk t.pairs rename.path rename.at can.ready.accepted rename.leads rename.to_first new_pair p (b.later ++ b.rest) b.place rename.begins
-
-  setting : IsSetting t.disk wo q lo s ro w p b.left [] v b.right
-  setting =
-      let old_site = is_site t.disk t.pairs can.path can.at can.ready.accepted can.leads can.first old_pair q can.stands.rest can.stands.place can.begins in
-      let new_site = is_site t.disk t.pairs rename.path rename.at can.ready.accepted rename.leads rename.to_first new_pair p (b.later ++ b.rest) b.place rename.begins in
-      record {
-        accepted = subst (IsAcceptedImage t.disk) there can.ready.accepted;
-        writable = subst (IsWritableImage t.disk) there can.ready.writable;
-        settled = ap gstate_of_pairs (sym there) ∙ can.ready.settled;
-        site = new_site;
-        there = sym there_old ∙ there;
-        old_site = old_site;
-        held = can.stands.stands.held;
-        other = can.stands.stands.entry;
-        apart = λ e.
-            let chains = sym old_site.chain ∙ ap pair_count_before_root (sym there_old ∙ there) ∙ new_site.chain in
-            let m = old_number in
-            let n = new_number in
-            rename.apart (omega arith);
-        was = b.held;
-        front = λ e. b.fronted;
-        entry = record { name = rename.is_name; struct = entry.struct };
-        struct = refl;
-        fit = ((λ e. absurd (let z = sym can.stands.stands.entry ∙ e in cc)), (λ e. rename.fits));
-      }
-
-  first_kept : (l : List Slot) → (l ≡ [] → starts_with_superblock b.right ≡ false) → SlotsBeginWithSuperblock (l ++ b.right) → SlotsBeginWithSuperblock (l ++ v ∷ b.right)
-  first_kept [] f e = absurd (let z = sym (f refl) ∙ e.0 in cc)
-  first_kept (x ∷ l) f e = e
-
-  turn : IsTurn t new_pair (rename_across_pairs_changes t old_pair old_id new_pair new_id name) w p (b.left ++ v ∷ b.right) (gstate_xor (gstate_naming_moved_slot false q.at (length lo)) p.content.move)
-  turn = record {
-    accepted = can.ready.accepted;
+  aim : IsPlaceInOtherPair t old_pair old_id new_pair can w p b.left None b.right name
+  aim = record {
     there = there;
-    place = new_number;
-    site = setting.site;
-    made = made false t old_pair old_id new_pair can address rename.to_first p (b.later ++ b.rest) b.place rename.logged [] b.left b.right leaves fits_left new_id b.number name rename.is_name rename.fits;
-    first = λ h. first_kept b.left (λ e. b.fronted) (subst SlotsBeginWithSuperblock b.held (h.kind, h.name));
+    number = number_is t.disk t.pairs rename.path rename.at can.ready.accepted rename.leads rename.to_first new_pair p (b.later ++ b.rest) b.place rename.begins;
+    site = is_site t.disk t.pairs rename.path rename.at can.ready.accepted rename.leads rename.to_first new_pair p (b.later ++ b.rest) b.place rename.begins;
+    apart = rename.apart;
+    was = b.held;
+    front = λ e. b.fronted;
+    named = rename.is_name;
+    fits = rename.fits;
   }
-
-  same_begin : same_pair (begin_of wo (q ∷ [])) can.at ≡ true
-  same_begin = same t.disk t.pairs can.path can.at can.ready.accepted can.leads can.first old_pair q can.stands.rest can.stands.place can.begins
-
-  led_first : old_pair ≡ can.first → ends_in_hard_tail false (wo.before ++ wo.left) ≡ false
-  led_first e =
-      let none_before = alone wo.chain wo.before wo.left (wo.right ++ wo.after) q can.at can.first (subst (λ z. IsDistinct nat_eq (blocks_of_pairs z)) there_old can.ready.accepted.thread.distinct) same_begin
-      (subst (λ z. IsPairAtAddress z can.at can.first) there_old can.begins) (sym e ∙ old_number) in
-      ap (λ z. ends_in_hard_tail false (wo.before ++ z)) none_before ∙ ap (ends_in_hard_tail false) (append-nil wo.before) ∙ flag_ends wo.before setting.old_site.ends
-
-  stays : goes ≡ false → ends_in_hard_tail false (wo.before ++ wo.left) ≡ true → 1 < length q.content.slots
-  stays remains hard = go (stays_there t old_pair old_id first can rename.begins_old remains)
-    where
-      go : (old_pair ≡ can.first) ⊎ (1 < length (thread_pair_at_index t old_pair).content.slots) → 1 < length q.content.slots
-      go (inl e) = absurd (let z = sym hard ∙ led_first e in cc)
-      go (inr many) = subst (λ (z : Pair). 1 < length z.content.slots) (here t can.ready can.first old_pair q can.stands.rest can.stands.place) many
-
-  goes_alone : goes ≡ true → (ends_in_hard_tail false (wo.before ++ wo.left) ≡ true) × (length q.content.slots ≡ 1)
-  goes_alone whole =
-      let k = stands_whole t old_pair old_id first can rename.begins_old whole in
-      (flag_whole t old_pair old_id first can rename.begins_old whole, ap length k.held)
 
   place : IsPlace t.disk.order (entries_by_directory_in_thread t.pairs rename.at) (place_at w b.left) name
   place = place_of_belongs t.disk t.pairs rename.path rename.at can.ready.accepted rename.leads rename.to_first new_pair new_id name (no_move_from t.pairs can.ready.settled) b rename.begins
@@ -313,31 +244,16 @@ module _ (t : KeptThread) (old_pair old_id first new_pair new_id : ℕ) (name : 
   follows : (disk : Disk) (x : Pair) (more : List Pair) → HasTurned t.disk w p (b.left ++ v ∷ b.right) (gstate_xor (gstate_naming_moved_slot false q.at (length lo)) p.content.move) disk x more
       → IsImageAfterTreeChange t.disk (thread_at w (p ∷ [])) disk (thread_at w (x ∷ more)) (tree_after_rename from to) (walk_by from to)
   follows disk x more turned = subst (λ (n : Name). IsImageAfterTreeChange t.disk (thread_at w (p ∷ [])) disk (thread_at w (x ∷ more)) (tree_after_rename (can.path ++ n ∷ []) to) (walk_by (can.path ++ n ∷ []) to)) can.stands.stands.named
-      (set_new t.disk wo q lo s ro w p b.left v b.right false disk x more turned can.path can.at (subst (λ z. IsPathToDirectory z can.path can.at) there can.leads) same_begin
+      (set_new t.disk wo q lo s ro w p b.left v b.right false disk x more turned can.path can.at (subst (λ z. IsPathToDirectory z can.path can.at) there can.leads) (same_begin t old_pair old_id first new_pair can rename.begins_old w p b.left None b.right name aim)
       rename.path rename.at (subst (λ z. IsPathToDirectory z rename.path rename.at) there rename.leads)
       (same t.disk t.pairs rename.path rename.at can.ready.accepted rename.leads rename.to_first new_pair p (b.later ++ b.rest) b.place rename.begins)
-      setting refl (ap (λ (n : Name). path_without_prefix (can.path ++ n ∷ []) to) can.stands.stands.named ∙ rename.not_beneath)
+      (setting t old_pair old_id first new_pair can rename.begins_old w p b.left None b.right name aim) refl (ap (λ (n : Name). path_without_prefix (can.path ++ n ∷ []) to) can.stands.stands.named ∙ rename.not_beneath)
       (subst (λ z. IsPlace t.disk.order (entries_by_directory_in_thread z rename.at) (place_at w b.left) name) there place))
 
   is_first : IsFirst t false old_pair goes new_pair (rename_across_pairs_changes t old_pair old_id new_pair new_id name) wo q lo s ro w p b.left None v b.right from to name
-  is_first = record {
-    ready = can.ready;
-    turn = turn;
-    setting = setting;
-    chain = chain_same t.disk wo q lo s ro w p b.left [] v b.right setting;
-    old_place = old_number;
-    old_is = ap (λ (z : Pair). z.at) (here t can.ready can.first old_pair q can.stands.rest can.stands.place);
-    logged = subst (λ (z : Pair). IsRawPairContentWellFormed t.disk z.at) (here t can.ready can.first old_pair q can.stands.rest can.stands.place) can.logged;
-    same_slot = refl;
-    follows = follows;
-    stays = stays;
-    alone = goes_alone;
-    from_slot = subst (λ z. slot_of_path z from ≡ Some s) there
-        (slot_of_stands t.disk t.pairs can.path can.at can.ready.accepted can.leads can.first old_pair old_id can.name (no_move_from t.pairs can.ready.settled) can.stands can.begins);
-    to_slot = subst (λ z. slot_of_path z to ≡ None) there (nothing_there t.disk t.pairs rename.path rename.at (place_at w b.left) name rename.leads place).0;
-    to_name = last_is rename.path name;
-    file = λ e. tt;
-  }
+  is_first = first_of t old_pair old_id first new_pair can rename.begins_old w p b.left None b.right name aim false (rename_across_pairs_changes t old_pair old_id new_pair new_id name) rename.path
+      (made false t old_pair old_id new_pair can address rename.to_first p (b.later ++ b.rest) b.place rename.logged [] b.left b.right leaves fits_left new_id b.number name rename.is_name rename.fits)
+      follows (nothing_there t.disk t.pairs rename.path rename.at (place_at w b.left) name rename.leads place).0 (λ e. tt)
 
   pub ends_across : (mid : KeptThread) → IsPairChangedOrSplit t new_pair (rename_across_pairs_changes t old_pair old_id new_pair new_id name) mid → CanEndMoveAfterFirstCommit t old_pair old_id goes new_pair mid
   ends_across mid is =

@@ -1,33 +1,27 @@
 -- A rename across pairs onto a file, from where both stand.
-use Rattle.std.proofs.Common.{nat_eq, Bool, ℕ, ◌≡◌, ◌+◌, ◌-◌, ◌<◌, ◌≤◌, ◌⊎◌, inl, inr, true, false, List, [], ◌∷◌, ◌++◌, length, Some, refl, sym, ap, subst, ◌∙◌, arith, append-nil, length-append}
-use Rattle.std.specs.List.{IsDistinct}
+use Rattle.std.proofs.Common.{Bool, ℕ, ◌≡◌, ◌+◌, ◌-◌, ◌<◌, ◌≤◌, true, false, List, [], ◌∷◌, ◌++◌, length, Some, sym, ap, subst, ◌∙◌, arith, append-nil, length-append}
 use Rattle.lfs_model.specs.Changes.{Delete}
 use Rattle.lfs_model.specs.Content.{slots_if_names_and_structs_present}
 use Rattle.lfs_model.specs.Disk.{Disk}
 use Rattle.lfs_model.specs.History.{DeviceCallEvent}
-use Rattle.lfs_model.specs.InDirectory.{IsPairAtAddress, IsPlaceOfNameInDirectory}
+use Rattle.lfs_model.specs.InDirectory.{IsPlaceOfNameInDirectory}
 use Rattle.lfs_model.specs.LoggedContent.{Are32BitPairAddresses}
 use Rattle.lfs_model.specs.Names.{Name, is_valid_name}
 use Rattle.lfs_model.specs.PowerLoss.{SurvivesPowerLossInCallsSince}
-use Rattle.lfs_model.specs.Slots.{Slot, IsContentFittingPair, gstate_xor, same_pair}
-use Rattle.lfs_model.specs.Thread.{Pair, blocks_of_pairs, gstate_of_pairs, pair_count_before_root}
+use Rattle.lfs_model.specs.Slots.{Slot, IsContentFittingPair, gstate_xor}
+use Rattle.lfs_model.specs.Thread.{Pair}
 use Rattle.lfs_model.specs.Tree.{Path}
 use Rattle.lfs_model.specs.TreeEdits.{tree_after_rename, path_without_prefix}
 use Rattle.lfs_model.specs.Shown.{skip_list_blocks_of_struct, IsPathToDirectory, tree_on_disk, used_blocks}
-use Rattle.lfs_model.specs.View.{IsAcceptedImage, IsFileOrDirectoryEntry}
-use Rattle.lfs_model.specs.Profile.{IsWritableImage}
-use Rattle.lfs_model.specs.SlotEdits.{slot_of_path}
 use Rattle.lfs_model.proofs.Changes.{IsImageAfterTreeChange}
 use Rattle.lfs_model.proofs.Committed.{no_move_from}
 use Rattle.lfs_model.proofs.Completed.{completed_parts}
 use Rattle.lfs_model.proofs.Counts.{Each, each_right, occurrence_count_of_number}
-use Rattle.lfs_model.proofs.Paths.{last_is}
 use Rattle.lfs_model.proofs.Searches.{is_site, number_is, same, site, slot_of_stands, thread_is}
-use Rattle.lfs_model.proofs.Sites.{Site, begin_of, thread_at}
-use Rattle.lfs_model.proofs.Writable.{ends_in_hard_tail}
+use Rattle.lfs_model.proofs.Sites.{Site, thread_at}
 use Rattle.lfs_thread.specs.Device.{PowerLossLeavesSuchBlocksAfterCleanErases}
 use Rattle.lfs_thread.specs.Kept.{KeptThread}
-use Rattle.lfs_thread.specs.Steps.{SlotsBeginWithSuperblock, thread_pair_at_index}
+use Rattle.lfs_thread.specs.Steps.{thread_pair_at_index}
 use Rattle.lfs_operations.specs.Changing.{CanChangeOrSplitPair, IsLeftByStoppedChangeOrSplit, IsPairChangedOrSplit}
 use Rattle.lfs_operations.specs.Editing.{CanEditEntryOfPair}
 use Rattle.lfs_operations.specs.MoveEnds.{CanEndMoveAt, HasEndedMoveAt, gstate_naming_moved_slot}
@@ -35,16 +29,13 @@ use Rattle.lfs_operations.specs.MovingSteps.{CanEndMoveAfterFirstCommit, IsSlotP
 use Rattle.lfs_operations.specs.MovingAcross.{tree_with_moved_entry}
 use Rattle.lfs_operations.specs.MovingOnto.{CanReplaceEntryAcrossPairs, CanReplaceFileAcrossPairs, CanReplaceDirectoryAcrossPairs, IsFileReplacedAcrossPairs, replace_entry_across_pairs_changes}
 use Rattle.lfs_operations.specs.Dropping.{ShowsTreeAfterPairDrops}
-use Rattle.lfs_operations.specs.Ready.{IsRawPairContentWellFormed}
 use Rattle.lfs_operations.specs.Removing.{is_pair_dropped_with_slot}
 use Rattle.lfs_operations.proofs.Held.{IsEntryIfOther, each_pair, fits_there, here, other_entries}
-use Rattle.lfs_operations.proofs.MovSet.{HasTurned, IsSetting, chain_same, set_onto, walk_by}
+use Rattle.lfs_operations.proofs.MovSet.{HasTurned, set_onto, walk_by}
 use Rattle.lfs_operations.proofs.MovStep.{IsFirst, first_survives, first_turned, grown, mid_ends, mid_shows, rename_becomes, rename_completed, rename_once, same_at}
-use Rattle.lfs_operations.proofs.MovTurned.{IsTurn}
-use Rattle.lfs_operations.proofs.Removed.{alone, flag_ends, stays_there}
-use Rattle.lfs_operations.proofs.RemovedWhole.{flag_whole, stands_whole}
 use Rattle.lfs_operations.proofs.RenameMade.{Leaves, fits_without, leaves_without}
 use Rattle.lfs_operations.proofs.MovRename.{c, can_put, made, raw_mid}
+use Rattle.lfs_operations.proofs.MovPlaced.{IsPlaceInOtherPair, first_of, same_begin, setting}
 
 pub not_plain : {X : Type 0} → true ≡ false → X
 not_plain e = absurd (cc)
@@ -128,9 +119,6 @@ module _ (sync : Bool) (t : KeptThread) (old_pair old_id first new_pair new_id :
   abbrev w : Site
   w = site t.disk t.pairs rename.path rename.at can.ready.accepted rename.leads rename.to_first new_pair p b.rest b.place rename.begins
 
-  there_old : t.pairs ≡ thread_at wo (q ∷ [])
-  there_old = thread_is t.disk t.pairs can.path can.at can.ready.accepted can.leads can.first old_pair q can.stands.rest can.stands.place can.begins
-
   there : t.pairs ≡ thread_at w (p ∷ [])
   there = thread_is t.disk t.pairs rename.path rename.at can.ready.accepted rename.leads rename.to_first new_pair p b.rest b.place rename.begins
 
@@ -161,76 +149,17 @@ module _ (sync : Bool) (t : KeptThread) (old_pair old_id first new_pair new_id :
   pub can_put_onto : CanChangeOrSplitPair t new_pair (replace_entry_across_pairs_changes sync t old_pair old_id new_pair new_id name)
   can_put_onto = can_put sync t old_pair old_id new_pair can address rename.to_first p b.rest b.place rename.logged (Delete new_id ∷ []) l r leaves fits_left new_id b.stands.number name is_named rename.fits
 
-  entry : IsFileOrDirectoryEntry s
-  entry =
-      let here = each_pair t can.ready can.first old_pair q can.stands.rest can.stands.place (λ x. Each IsEntryIfOther x.content.slots) (other_entries t.disk t.pairs can.ready.accepted) in
-      (each_right IsEntryIfOther lo (s ∷ ro) (subst (Each IsEntryIfOther) can.stands.stands.held here)).0 can.stands.stands.entry
-
-  old_number : old_pair ≡ length wo.chain + length (wo.before ++ wo.left)
-  old_number = number_is t.disk t.pairs can.path can.at can.ready.accepted can.leads can.first old_pair q can.stands.rest can.stands.place can.begins
-
-  new_number : new_pair ≡ length w.chain + length (w.before ++ w.left)
-  new_number = number_is t.disk t.pairs rename.path rename.at can.ready.accepted rename.leads rename.to_first new_pair p b.rest b.place rename.begins
-
-  setting : IsSetting t.disk wo q lo s ro w p l (g ∷ []) v r
-  setting =
-      let old_site = is_site t.disk t.pairs can.path can.at can.ready.accepted can.leads can.first old_pair q can.stands.rest can.stands.place can.begins in
-      let new_site = is_site t.disk t.pairs rename.path rename.at can.ready.accepted rename.leads rename.to_first new_pair p b.rest b.place rename.begins in
-      record {
-        accepted = subst (IsAcceptedImage t.disk) there can.ready.accepted;
-        writable = subst (IsWritableImage t.disk) there can.ready.writable;
-        settled = ap gstate_of_pairs (sym there) ∙ can.ready.settled;
-        site = new_site;
-        there = sym there_old ∙ there;
-        old_site = old_site;
-        held = can.stands.stands.held;
-        other = can.stands.stands.entry;
-        apart = λ e.
-            let chains = sym old_site.chain ∙ ap pair_count_before_root (sym there_old ∙ there) ∙ new_site.chain in
-            let m = old_number in
-            let n = new_number in
-            rename.apart (omega arith);
-        was = b.stands.held;
-        front = λ e. b.stands.entry;
-        entry = record { name = is_named; struct = entry.struct };
-        struct = refl;
-        fit = ((λ e. absurd (let z = sym can.stands.stands.entry ∙ e in cc)), (λ e. rename.fits));
-      }
-
-  first_kept : (l : List Slot) → SlotsBeginWithSuperblock (l ++ g ∷ r) → SlotsBeginWithSuperblock (l ++ v ∷ r)
-  first_kept [] e = absurd (let z = sym b.stands.entry ∙ e.0 in cc)
-  first_kept (x ∷ l) e = e
-
-  turn : IsTurn t new_pair (replace_entry_across_pairs_changes sync t old_pair old_id new_pair new_id name) w p (l ++ v ∷ r) (gstate_xor (gstate_naming_moved_slot sync q.at (length lo)) p.content.move)
-  turn = record {
-    accepted = can.ready.accepted;
+  aim : IsPlaceInOtherPair t old_pair old_id new_pair can w p l (Some g) r name
+  aim = record {
     there = there;
-    place = new_number;
-    site = setting.site;
-    made = made sync t old_pair old_id new_pair can address rename.to_first p b.rest b.place rename.logged (Delete new_id ∷ []) l r leaves fits_left new_id b.stands.number name is_named rename.fits;
-    first = λ h. first_kept l (subst SlotsBeginWithSuperblock b.stands.held (h.kind, h.name));
+    number = number_is t.disk t.pairs rename.path rename.at can.ready.accepted rename.leads rename.to_first new_pair p b.rest b.place rename.begins;
+    site = is_site t.disk t.pairs rename.path rename.at can.ready.accepted rename.leads rename.to_first new_pair p b.rest b.place rename.begins;
+    apart = rename.apart;
+    was = b.stands.held;
+    front = λ e. b.stands.entry;
+    named = is_named;
+    fits = rename.fits;
   }
-
-  same_begin : same_pair (begin_of wo (q ∷ [])) can.at ≡ true
-  same_begin = same t.disk t.pairs can.path can.at can.ready.accepted can.leads can.first old_pair q can.stands.rest can.stands.place can.begins
-
-  led_first : old_pair ≡ can.first → ends_in_hard_tail false (wo.before ++ wo.left) ≡ false
-  led_first e =
-      let none_before = alone wo.chain wo.before wo.left (wo.right ++ wo.after) q can.at can.first (subst (λ z. IsDistinct nat_eq (blocks_of_pairs z)) there_old can.ready.accepted.thread.distinct) same_begin
-      (subst (λ z. IsPairAtAddress z can.at can.first) there_old can.begins) (sym e ∙ old_number) in
-      ap (λ z. ends_in_hard_tail false (wo.before ++ z)) none_before ∙ ap (ends_in_hard_tail false) (append-nil wo.before) ∙ flag_ends wo.before setting.old_site.ends
-
-  stays : goes ≡ false → ends_in_hard_tail false (wo.before ++ wo.left) ≡ true → 1 < length q.content.slots
-  stays remains hard = go (stays_there t old_pair old_id first can rename.begins_old remains)
-    where
-      go : (old_pair ≡ can.first) ⊎ (1 < length (thread_pair_at_index t old_pair).content.slots) → 1 < length q.content.slots
-      go (inl e) = absurd (let z = sym hard ∙ led_first e in cc)
-      go (inr many) = subst (λ (z : Pair). 1 < length z.content.slots) (here t can.ready can.first old_pair q can.stands.rest can.stands.place) many
-
-  goes_alone : goes ≡ true → (ends_in_hard_tail false (wo.before ++ wo.left) ≡ true) × (length q.content.slots ≡ 1)
-  goes_alone whole =
-      let k = stands_whole t old_pair old_id first can rename.begins_old whole in
-      (flag_whole t old_pair old_id first can rename.begins_old whole, ap length k.held)
 
   abbrev from : Path
   from = can.path ++ can.name ∷ []
@@ -241,33 +170,17 @@ module _ (sync : Bool) (t : KeptThread) (old_pair old_id first new_pair new_id :
   follows : (disk : Disk) (x : Pair) (more : List Pair) → HasTurned t.disk w p (l ++ v ∷ r) (gstate_xor (gstate_naming_moved_slot sync q.at (length lo)) p.content.move) disk x more
       → IsImageAfterTreeChange t.disk (thread_at w (p ∷ [])) disk (thread_at w (x ∷ more)) (tree_after_rename from to) (walk_by from to)
   follows disk x more turned = subst (λ (n : Name). IsImageAfterTreeChange t.disk (thread_at w (p ∷ [])) disk (thread_at w (x ∷ more)) (tree_after_rename (can.path ++ n ∷ []) to) (walk_by (can.path ++ n ∷ []) to)) can.stands.stands.named
-      (set_onto t.disk wo q lo s ro w p l v r sync disk x more turned can.path can.at (subst (λ z. IsPathToDirectory z can.path can.at) there can.leads) same_begin
+      (set_onto t.disk wo q lo s ro w p l v r sync disk x more turned can.path can.at (subst (λ z. IsPathToDirectory z can.path can.at) there can.leads) (same_begin t old_pair old_id first new_pair can rename.begins_old w p l (Some g) r name aim)
       rename.path rename.at (subst (λ z. IsPathToDirectory z rename.path rename.at) there rename.leads)
       (same t.disk t.pairs rename.path rename.at can.ready.accepted rename.leads rename.to_first new_pair p b.rest b.place rename.begins)
-      g b.stands.entry setting (ap (λ (n : Name). record s { name = n }) (sym b.stands.named))
+      g b.stands.entry (setting t old_pair old_id first new_pair can rename.begins_old w p l (Some g) r name aim) (ap (λ (n : Name). record s { name = n }) (sym b.stands.named))
       (ap (λ (n : Name). path_without_prefix (can.path ++ n ∷ []) (rename.path ++ g.name ∷ [])) can.stands.stands.named
       ∙ ap (λ (n : Name). path_without_prefix from (rename.path ++ n ∷ [])) b.stands.named ∙ rename.not_beneath) rename.file)
 
   pub is_first : IsFirst t sync old_pair goes new_pair (replace_entry_across_pairs_changes sync t old_pair old_id new_pair new_id name) wo q lo s ro w p l (Some g) v r from to name
-  is_first = record {
-    ready = can.ready;
-    turn = turn;
-    setting = setting;
-    chain = chain_same t.disk wo q lo s ro w p l (g ∷ []) v r setting;
-    old_place = old_number;
-    old_is = ap (λ (z : Pair). z.at) (here t can.ready can.first old_pair q can.stands.rest can.stands.place);
-    logged = subst (λ (z : Pair). IsRawPairContentWellFormed t.disk z.at) (here t can.ready can.first old_pair q can.stands.rest can.stands.place) can.logged;
-    same_slot = refl;
-    follows = follows;
-    stays = stays;
-    alone = goes_alone;
-    from_slot = subst (λ z. slot_of_path z from ≡ Some s) there
-        (slot_of_stands t.disk t.pairs can.path can.at can.ready.accepted can.leads can.first old_pair old_id can.name (no_move_from t.pairs can.ready.settled) can.stands can.begins);
-    to_slot = subst (λ z. slot_of_path z to ≡ Some g) there
-        (slot_of_stands t.disk t.pairs rename.path rename.at can.ready.accepted rename.leads rename.to_first new_pair new_id name (no_move_from t.pairs can.ready.settled) b rename.begins);
-    to_name = last_is rename.path name;
-    file = rename.file;
-  }
+  is_first = first_of t old_pair old_id first new_pair can rename.begins_old w p l (Some g) r name aim sync (replace_entry_across_pairs_changes sync t old_pair old_id new_pair new_id name) rename.path
+      (made sync t old_pair old_id new_pair can address rename.to_first p b.rest b.place rename.logged (Delete new_id ∷ []) l r leaves fits_left new_id b.stands.number name is_named rename.fits)
+      follows (slot_of_stands t.disk t.pairs rename.path rename.at can.ready.accepted rename.leads rename.to_first new_pair new_id name (no_move_from t.pairs can.ready.settled) b rename.begins) rename.file
 
   pub ends_onto : (mid : KeptThread) → IsPairChangedOrSplit t new_pair (replace_entry_across_pairs_changes sync t old_pair old_id new_pair new_id name) mid → CanEndMoveAfterFirstCommit t old_pair old_id goes new_pair mid
   ends_onto mid is =

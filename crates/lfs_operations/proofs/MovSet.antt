@@ -33,6 +33,7 @@ use Rattle.lfs_model.proofs.Splices.{slots_of_pairs_in_order, file_blocks_of_slo
 use Rattle.lfs_model.proofs.StepsTaken.{IsWritableImageAfterTreeChange, IsPut, set_taken}
 use Rattle.lfs_operations.specs.MoveEnds.{gstate_naming_moved_slot}
 use Rattle.lfs_operations.proofs.MovPlaces.{SameParts, same_parts, InTurn, ahead, behind, in_turn, hidden_place}
+use Rattle.lfs_operations.proofs.Placing.{blocks_append}
 
 abbrev pub walk_by : Path → Path → DirectoryAddressByPath → DirectoryAddressByPath
 walk_by old new d = tree_after_subtree_replacement new (λ t. d (old ++ t)) (tree_after_subtree_replacement old (λ t. None) d)
@@ -114,9 +115,6 @@ module _ (disk : Disk) (wo : Site) (o : Pair) (lo : List Slot) (u : Slot) (ro : 
       go (ahead mid e f) = (each_right Far mid (p ∷ (w.right ++ w.after)) (subst (Each Far) e far_back)).0
       go (behind mid e f) = (each_right Far (w.before ++ w.left) (p ∷ mid) (subst (Each Far) f (each_right Far w.chain front_o far_front))).0
 
-  blocks_two : (xs ys : List Pair) (b : ℕ) → occurrence_count_of_number b (blocks_of_pairs (xs ++ ys)) ≡ occurrence_count_of_number b (blocks_of_pairs xs) + occurrence_count_of_number b (blocks_of_pairs ys)
-  blocks_two xs ys b = ap (occurrence_count_of_number b) (flat_map-append (λ (s : Pair). s.at.0 ∷ s.at.1 ∷ []) xs ys) ∙ count_append b (blocks_of_pairs xs) (blocks_of_pairs ys)
-
   module _ (sync : Bool) (new : Disk) (q : Pair) (more : List Pair) (x : HasTurned disk w p (l ++ v ∷ r) (gstate_xor (gstate_naming_moved_slot sync o.at (length lo)) p.content.move) new q more) where
     abbrev qs : List Pair
     qs = thread_at w (q ∷ more)
@@ -130,7 +128,7 @@ module _ (disk : Disk) (wo : Site) (o : Pair) (lo : List Slot) (u : Slot) (ro : 
         let d = count_append b (blocks_of_pairs more) [] in
         let e = count_append b (blocks_of_pairs (thread_at w (p ∷ []))) (flat_map (λ s. file_blocks_of s) (all_slots_not_moved (thread_at w (p ∷ [])))) in
         let g = ap (λ z. occurrence_count_of_number b (blocks_of_pairs z)) grouped in
-        let h = blocks_two more ((w.chain ++ front_o) ++ o ∷ back_o) b in
+        let h = blocks_append more ((w.chain ++ front_o) ++ o ∷ back_o) b in
         let i = ap (λ z. occurrence_count_of_number b (blocks_of_pairs z)) (append_assoc more (w.chain ++ front_o) (o ∷ back_o)) in
         omega arith))
         (pair_itself o.at)))
@@ -250,13 +248,13 @@ module _ (disk : Disk) (wo : Site) (o : Pair) (lo : List Slot) (u : Slot) (ro : 
         let all : List Pair → ℕ = λ z. occurrence_count_of_number b (file_blocks_of_slots new (slots_of_pairs_in_order z)) in
         let a1 = count_append b (blocks_of_pairs qs) (file_blocks_of_slots new (all_slots_not_moved qs)) in
         let a2 = count_append b (blocks_of_pairs ps) (file_blocks_of_slots disk (all_slots_not_moved ps)) in
-        let b1 = blocks_two w.chain (dirs_at w (q ∷ more)) b in
-        let b2 = blocks_two (w.before ++ w.left) (q ∷ more ++ (w.right ++ w.after)) b in
-        let b3 = blocks_two (q ∷ more) (w.right ++ w.after) b in
-        let b4 = blocks_two w.chain (dirs_at w (p ∷ [])) b in
-        let b5 = blocks_two (w.before ++ w.left) (p ∷ [] ++ (w.right ++ w.after)) b in
-        let b6 = blocks_two (p ∷ []) (w.right ++ w.after) b in
-        let b7 = blocks_two (q ∷ []) more b in
+        let b1 = blocks_append w.chain (dirs_at w (q ∷ more)) b in
+        let b2 = blocks_append (w.before ++ w.left) (q ∷ more ++ (w.right ++ w.after)) b in
+        let b3 = blocks_append (q ∷ more) (w.right ++ w.after) b in
+        let b4 = blocks_append w.chain (dirs_at w (p ∷ [])) b in
+        let b5 = blocks_append (w.before ++ w.left) (p ∷ [] ++ (w.right ++ w.after)) b in
+        let b6 = blocks_append (p ∷ []) (w.right ++ w.after) b in
+        let b7 = blocks_append (q ∷ []) more b in
         let at = ap (λ (a : ℕ × ℕ). occurrence_count_of_number b (a.0 ∷ a.1 ∷ [])) x.at in
         let same = ap (occurrence_count_of_number b) (slots_files disk new (all_slots_not_moved ps) x.device.geometry same_files) in
         let plain = ap (λ z. occurrence_count_of_number b (file_blocks_of_slots new z)) (unmoved_in (gstate_of_pairs ps) (no_move_from ps k.settled) ps) in

@@ -50,28 +50,15 @@ use Rattle.lfs_operations.specs.MovingSteps.{pair_number_after_insertion}
 use Rattle.lfs_operations.specs.Ready.{IsRawPairContentWellFormed, IsImageReadyForChange, KeepsPairCountBeforeRoot}
 use Rattle.lfs_operations.proofs.Dropped.{flying_same, length_fewer, used_fewer}
 use Rattle.lfs_operations.proofs.MovAcross.{Arranged, arrangement, completed}
-use Rattle.lfs_operations.proofs.MovEnding.{writable_same}
 use Rattle.lfs_operations.proofs.MovFirsts.{set_firsts}
 use Rattle.lfs_operations.proofs.MovSet.{HasTurned, IsSetting, set_count, set_step, state_is, taken_by, walk_by}
 use Rattle.lfs_operations.proofs.Owning.{used_same}
-use Rattle.lfs_operations.proofs.MovTurned.{IsTurn, Stays, TurnedOn, TurnedTo, left_put, mapped, put_turned}
-use Rattle.lfs_operations.proofs.Placing.{blocks_append, nothing_came}
-use Rattle.lfs_operations.proofs.RootStays.{move_end_stays}
+use Rattle.lfs_operations.proofs.MovTurned.{IsTurn, Stays, TurnedOn, TurnedTo, left_put, put_turned}
+use Rattle.lfs_operations.proofs.Placing.{blocks_append, left_after, left_still}
 use Rattle.lfs_operations.specs.EndingMove.{gstate_without_move}
+use Rattle.lfs_operations.proofs.Threads.{get_at, set_at, take_front}
 
 -- ---- lists
-
-take_front : (xs ys : List Pair) (n : ℕ) → n ≡ length xs → take n (xs ++ ys) ≡ xs
-take_front [] ys n e = ap (λ k. take k ys) e
-take_front (x ∷ xs) ys n e = ap (λ k. take k (x ∷ (xs ++ ys))) e ∙ ap (λ z. x ∷ z) (take_front xs ys (length xs) refl)
-
-get_at : (xs : List Pair) (p : Pair) (zs : List Pair) (d : Pair) → get_or (xs ++ p ∷ zs) (length xs) d ≡ p
-get_at [] p zs d = refl
-get_at (x ∷ xs) p zs d = get_at xs p zs d
-
-set_at : (xs : List Pair) (p : Pair) (zs : List Pair) (q : Pair) → set (xs ++ p ∷ zs) (length xs) q ≡ xs ++ q ∷ zs
-set_at [] p zs q = refl
-set_at (x ∷ xs) p zs q = ap (λ z. x ∷ z) (set_at xs p zs q)
 
 remove_at : (xs : List Pair) (p : Pair) (zs : List Pair) → remove (xs ++ p ∷ zs) (length xs) ≡ xs ++ zs
 remove_at [] p zs = refl
@@ -136,26 +123,12 @@ module _ (t : KeptThread) (sync : Bool) (old_pair : ℕ) (goes : Bool) (new_pair
   -- ---- at a stop in the first step
 
   left_tree : (left : Blocks) → IsLeftByStoppedChangeOrSplit t new_pair changes left → IsLeftOf (disk_with_blocks left t.disk) (tree_on_disk t.disk t.pairs) (tree_after_rename old_path new_path (tree_on_disk t.disk t.pairs))
-  left_tree left is = go (left_put t new_pair changes w p slots move k.turn (mapped t k.ready.used k.ready.size) left is)
+  left_tree left is = go (left_put t new_pair changes w p slots move k.turn (record { used = k.ready.used; size = k.ready.size }) left is)
     where
       go : Stays t new_pair changes w p slots move k.turn (disk_with_blocks left t.disk) ⊎ TurnedOn t w p slots move (disk_with_blocks left t.disk)
           → IsLeftOf (disk_with_blocks left t.disk) (tree_on_disk t.disk t.pairs) (tree_after_rename old_path new_path (tree_on_disk t.disk t.pairs))
-      go (inl d) =
-          let f = nothing_came t.disk (disk_with_blocks left t.disk) w p k.setting.site k.setting.accepted d in
-          record {
-            pairs = thread_at w (p ∷ []);
-            accepted = f.accepted;
-            writable = writable_same t.disk (disk_with_blocks left t.disk) (thread_at w (p ∷ [])) refl refl refl k.setting.writable;
-            tree = inl (f.shows ∙ ap (tree_on_disk t.disk) (sym k.turn.there));
-          }
-      go (inr x) =
-          let f = first_taken (disk_with_blocks left t.disk) x.q x.more x.turned in
-          record {
-            pairs = thread_at w (x.q ∷ x.more);
-            accepted = f.follows.accepted;
-            writable = f.writable;
-            tree = inr (f.follows.shows ∙ ap (λ z. tree_after_rename old_path new_path (tree_on_disk t.disk z)) (sym k.turn.there));
-          }
+      go (inl d) = left_still t.disk left (thread_at w (p ∷ [])) k.setting.accepted k.setting.writable d (inl (ap (tree_on_disk t.disk) (sym k.turn.there)))
+      go (inr x) = left_after (first_taken (disk_with_blocks left t.disk) x.q x.more x.turned) (inr (ap (λ z. tree_after_rename old_path new_path (tree_on_disk t.disk z)) (sym k.turn.there)))
 
   pub first_survives : (new : List DeviceCallEvent) → PowerLossLeavesSuchBlocksAfterCleanErases t.history new (IsLeftByStoppedChangeOrSplit t new_pair changes)
       → SurvivesPowerLossInCallsSince t.disk t.history new (tree_on_disk t.disk t.pairs) (tree_after_rename old_path new_path (tree_on_disk t.disk t.pairs))
@@ -164,7 +137,7 @@ module _ (t : KeptThread) (sync : Bool) (old_pair : ℕ) (goes : Bool) (new_pair
   -- ---- after the first step
 
   pub first_turned : (mid : KeptThread) → IsPairChangedOrSplit t new_pair changes mid → TurnedTo t w p slots move mid
-  first_turned mid is = put_turned t new_pair changes w p slots move k.turn (mapped t k.ready.used k.ready.size) mid is
+  first_turned mid is = put_turned t new_pair changes w p slots move k.turn (record { used = k.ready.used; size = k.ready.size }) mid is
 
   module _ (mid : KeptThread) (x : TurnedTo t w p slots move mid) where
     abbrev q : Pair
@@ -481,7 +454,7 @@ module _ (t : KeptThread) (sync : Bool) (old_pair : ℕ) (goes : Bool) (new_pair
 
       -- the root directory begins where it did
       pub last_root : KeepsPairCountBeforeRoot t last
-      last_root = move_end_stays mid last index (length lo) goes mid_ends e ∙ ap pair_count_before_root mid_is ∙ mid_chain ∙ sym (ap pair_count_before_root k.turn.there ∙ k.setting.site.chain)
+      last_root = e.root ∙ ap pair_count_before_root mid_is ∙ mid_chain ∙ sym (ap pair_count_before_root k.turn.there ∙ k.setting.site.chain)
 
       pub rename_becomes : sync ≡ false → ShowsTreeAfterPairDrops t last (tree_after_rename old_path new_path (tree_on_disk t.disk t.pairs)) (file_blocks_of_slots t.disk (target_slots target))
       rename_becomes plain = record {

@@ -1,5 +1,5 @@
 -- A pair of an accepted image that is changed, or split, and gets any delta of the global state.
-use Rattle.std.proofs.Common.{ℕ, zero, suc, ◌≡◌, ◌+◌, ◌<◌, ◌≤◌, ◌⊎◌, inl, inr, Bool, true, false, cond, eqb-true, nat_eq, List, [], ◌∷◌, ◌++◌, length, take, drop, Some, refl, sym, ap, ap₂, subst, ◌∙◌, arith, append_assoc, append-nil, length-append, get_or, set, insert, slice_get}
+use Rattle.std.proofs.Common.{ℕ, zero, suc, ◌≡◌, ◌+◌, ◌<◌, ◌≤◌, ◌⊎◌, inl, inr, Bool, true, false, cond, eqb-true, nat_eq, List, [], ◌∷◌, ◌++◌, length, take, drop, Some, refl, sym, ap, subst, ◌∙◌, arith, append-nil, slice_get}
 use Rattle.std.specs.Prelude.{All}
 use Rattle.std.specs.List.{IsDistinct}
 use Rattle.std.proofs.lemmas.Option.{same_Some}
@@ -9,7 +9,7 @@ use Rattle.lfs_model.specs.Blocks.{Blocks}
 use Rattle.lfs_model.specs.BlockSets.{AreExactlyTheUsedBlocks, BlockStateList, IsBlockFree, IsBlockInFlight}
 use Rattle.lfs_model.specs.Changes.{PairContentChange}
 use Rattle.lfs_model.specs.Content.{content_of_pair_at, current_block_of_pair_at}
-use Rattle.lfs_model.specs.Disk.{Disk, block_bytes_on_disk, block_count, SameGeometry}
+use Rattle.lfs_model.specs.Disk.{Disk, block_count}
 use Rattle.lfs_model.specs.PowerLoss.{disk_with_blocks}
 use Rattle.lfs_model.specs.Slots.{Slot, PairContent, Gstate, IsContentFittingPair, gstate_xor}
 use Rattle.lfs_model.specs.SlotEdits.{pair_with_slots}
@@ -17,39 +17,35 @@ use Rattle.lfs_model.specs.Thread.{Pair, blocks_of_pairs, gstate_of_pairs}
 use Rattle.lfs_model.specs.View.{BeginsWithLogEntry, superblock_name_log_entry, IsAcceptedImage}
 use Rattle.lfs_model.specs.Shown.{used_blocks}
 use Rattle.lfs_model.proofs.Became.{fits_same}
-use Rattle.lfs_model.proofs.Counts.{Each, each_right, occurrence_count_of_number, once_from_distinct, distinct_from_once}
+use Rattle.lfs_model.proofs.Counts.{each_right, occurrence_count_of_number}
 use Rattle.lfs_model.proofs.Global.{gstate_cons, gstate_left, gstate_right}
 use Rattle.lfs_model.proofs.Sites.{Site, thread_at, IsSite}
 use Rattle.lfs_model.proofs.Splices.{IsDevice}
 use Rattle.lfs_model.proofs.Unchanged.{HasFirst}
-use Rattle.lfs_pair.specs.Commit.{KeepsBlocksOutsidePair}
 use Rattle.lfs_pair.specs.Split.{KeepsBlocksOutsideBothPairs}
 use Rattle.lfs_thread.specs.Kept.{KeptThread}
-use Rattle.lfs_thread.specs.Steps.{thread_pair_at_index, empty_pair_at_anchor, complete_content_after_changes, thread_pairs_with_content_replaced_at_index, pairs_with_one_replaced_by_two, AreBothSplitPartsOnDisk, HasSameGeometry, HasPairOldContentOnDisk, IsPairChanged, PowerLossLeavesPairOldOrChanged, IsPairWrittenOnDisk, SlotsBeginWithSuperblock, front_pair_of_split, back_pair_of_split}
+use Rattle.lfs_thread.specs.Steps.{thread_pair_at_index, complete_content_after_changes, thread_pairs_with_content_replaced_at_index, AreBothSplitPartsOnDisk, HasSameGeometry, HasPairOldContentOnDisk, IsPairChanged, PowerLossLeavesPairOldOrChanged, IsPairWrittenOnDisk, SlotsBeginWithSuperblock, front_pair_of_split, back_pair_of_split, SplitPartsFitPairs}
 use Rattle.lfs_operations.specs.Changing.{AreTwoFreeBlocks, IsPairSplitInto, IsLeftByStoppedChangeOrSplit, IsPairChangedOrSplit, IsChangedContentTooLarge}
 use Rattle.lfs_operations.specs.Ready.{HasNoNewBlockInFlight, KeepsStatesOfTakenBlocks}
 use Rattle.lfs_operations.proofs.Owning.{length_now, none_comes_now, stay_taken, used_more}
-use Rattle.lfs_operations.proofs.Placing.{IsPlaced, all_apart, device}
-use Rattle.lfs_operations.proofs.Splicing.{AreOn, cut_front, not_used}
-use Rattle.lfs_operations.proofs.Taking.{within}
+use Rattle.lfs_operations.proofs.Placing.{IsPlaced, device}
+use Rattle.lfs_operations.proofs.Threads as thread
 use Rattle.lfs_operations.proofs.MovSet.{HasTurned}
-use Rattle.lfs_model.specs.BlockSets.BlockState.{Free}
+use Rattle.lfs_operations.proofs.Threads.{fresh_distinct, fresh_range, one_now, placed_one, placed_still, same_four, shape_same, two_now}
 
--- ---- places in the thread
+-- ---- what is known before
 
-set_at : (xs : List Pair) (p : Pair) (zs : List Pair) (q : Pair) → set (xs ++ p ∷ zs) (length xs) q ≡ xs ++ q ∷ zs
-set_at [] p zs q = refl
-set_at (x ∷ xs) p zs q = ap (λ z. x ∷ z) (set_at xs p zs q)
+-- the two parts of a pair that is cut
+abbrev pub cut_front : ℕ × ℕ → PairContent → ℕ → ℕ × ℕ → Pair
+cut_front at c cut fresh = record { at = at; content = record { slots = take cut c.slots; tail = Some (record { hard = true; to = fresh }); move = c.move } }
 
-get_at : (xs : List Pair) (p : Pair) (zs : List Pair) (d : Pair) → get_or (xs ++ p ∷ zs) (length xs) d ≡ p
-get_at [] p zs d = refl
-get_at (x ∷ xs) p zs d = get_at xs p zs d
-
-insert_at : (xs : List Pair) (q : Pair) (zs : List Pair) (f : Pair) → insert (xs ++ q ∷ zs) (length xs + 1) f ≡ xs ++ q ∷ f ∷ zs
-insert_at [] q zs f = refl
-insert_at (x ∷ xs) q zs f =
-    let e : suc (length xs) + 1 ≡ suc (length xs + 1) = omega arith in
-    ap (λ (n : ℕ). insert (x ∷ (xs ++ q ∷ zs)) n f) e ∙ ap (λ z. x ∷ z) (insert_at xs q zs f)
+-- both parts are on the disk
+pub record AreOn (t : KeptThread) (index : ℕ) (content : PairContent) (disk : Disk) (fresh : ℕ × ℕ) (cut : ℕ) : Type 0 where
+  pub shape : HasSameGeometry t.disk disk
+  pub others : KeepsBlocksOutsideBothPairs (thread_pair_at_index t index).at fresh t.disk.blocks disk.blocks
+  pub front : content_of_pair_at disk (thread_pair_at_index t index).at ≡ Some (front_pair_of_split t index content cut fresh).content
+  pub back : content_of_pair_at disk fresh ≡ Some (back_pair_of_split content cut fresh).content
+  pub parts : SplitPartsFitPairs t index content cut fresh disk
 
 of_fresh : (sets : BlockStateList) (fresh : ℕ × ℕ) → AreTwoFreeBlocks sets fresh → (b : ℕ) → 1 ≤ occurrence_count_of_number b (fresh.0 ∷ fresh.1 ∷ []) → IsBlockFree sets b
 of_fresh sets fresh two b some = go (nat_eq b fresh.0) (nat_eq b fresh.1) refl refl some
@@ -58,8 +54,6 @@ of_fresh sets fresh two b some = go (nat_eq b fresh.0) (nat_eq b fresh.1) refl r
     go true y e f n = subst (IsBlockFree sets) (sym (eqb-true b fresh.0 e)) two.first
     go false true e f n = subst (IsBlockFree sets) (sym (eqb-true b fresh.1 f)) two.second
     go false false e f n = absurd (omega arith)
-
--- ---- what is known before
 
 -- the pair's tail, with other slots and another delta
 abbrev pub content_with : Pair → List Slot → Gstate → PairContent
@@ -76,16 +70,14 @@ pub record IsTurn (t : KeptThread) (index : ℕ) (changes : List PairContentChan
 
 -- the map knows each block that the image uses
 pub record IsMapped (t : KeptThread) : Type 0 where
-  pub apart : (b : ℕ) → IsBlockFree t.map b → occurrence_count_of_number b (used_blocks t.disk t.pairs) ≡ 0
+  pub used : AreExactlyTheUsedBlocks t.map (used_blocks t.disk t.pairs)
   pub size : length t.map ≡ block_count t.disk
-
-pub mapped : (t : KeptThread) → AreExactlyTheUsedBlocks t.map (used_blocks t.disk t.pairs) → length t.map ≡ block_count t.disk → IsMapped t
-mapped t used size = record { apart = λ b free. not_used t.map (used_blocks t.disk t.pairs) used b free; size = size }
 
 pub record TurnedOn (t : KeptThread) (w : Site) (p : Pair) (slots : List Slot) (move : Gstate) (disk : Disk) : Type 0 where
   pub q : Pair
   pub more : List Pair
   pub turned : HasTurned t.disk w p slots move disk q more
+  pub fresh : (b : ℕ) → 1 ≤ occurrence_count_of_number b (blocks_of_pairs more) → IsBlockFree t.map b
 
 -- so do the thread and the map say
 pub record TurnedTo (t : KeptThread) (w : Site) (p : Pair) (slots : List Slot) (move : Gstate) (new : KeptThread) : Type 0 where
@@ -112,40 +104,17 @@ module _ (t : KeptThread) (index : ℕ) (changes : List PairContentChange) (w : 
   abbrev ps : List Pair
   ps = thread_at w (p ∷ [])
 
-  abbrev ahead : List Pair
-  ahead = w.chain ++ (w.before ++ w.left)
-
-  abbrev behind : List Pair
-  behind = w.right ++ w.after
-
   abbrev c : PairContent
   c = content_with p slots move
 
   pub accepted : IsAcceptedImage t.disk ps
   accepted = subst (IsAcceptedImage t.disk) k.there k.accepted
 
-  grouped : (q : Pair) (more : List Pair) → thread_at w (q ∷ more) ≡ ahead ++ q ∷ (more ++ behind)
-  grouped q more = sym (append_assoc w.chain (w.before ++ w.left) (q ∷ (more ++ behind)))
-
-  place_is : index ≡ length ahead
-  place_is = k.place ∙ sym (length-append w.chain (w.before ++ w.left))
-
   pub pair_is : thread_pair_at_index t index ≡ p
-  pair_is = ap₂ (λ (z : List Pair) (i : ℕ). get_or z i empty_pair_at_anchor) (k.there ∙ grouped p []) place_is ∙ get_at ahead p behind empty_pair_at_anchor
+  pair_is = thread.pair_is t index w p k.there k.place
 
   at_is : (thread_pair_at_index t index).at ≡ p.at
   at_is = ap (λ (z : Pair). z.at) pair_is
-
-  one_now : (c : PairContent) → thread_pairs_with_content_replaced_at_index t index c ≡ thread_at w (record { at = p.at; content = c } ∷ [])
-  one_now c =
-      let q : Pair = record { at = p.at; content = c } in
-      ap (λ (z : Pair). set t.pairs index (record { at = z.at; content = c })) pair_is
-      ∙ ap₂ (λ (z : List Pair) (i : ℕ). set z i q) (k.there ∙ grouped p []) place_is ∙ set_at ahead p behind q ∙ sym (grouped q [])
-
-  two_now : (q f : Pair) → pairs_with_one_replaced_by_two t.pairs index q f ≡ thread_at w (q ∷ f ∷ [])
-  two_now q f =
-      ap₂ (λ (z : List Pair) (i : ℕ). insert (set z i q) (i + 1) f) (k.there ∙ grouped p []) place_is
-      ∙ ap (λ (z : List Pair). insert z (length ahead + 1) f) (set_at ahead p behind q) ∙ insert_at ahead q behind f ∙ sym (grouped q (f ∷ []))
 
   front_has : (cut : ℕ) → 0 < cut → HasFirst p.content.slots → SlotsBeginWithSuperblock (take cut slots)
   front_has cut some h = go cut some slots (k.first h)
@@ -157,35 +126,10 @@ module _ (t : KeptThread) (index : ℕ) (changes : List PairContentChange) (w : 
 
   -- ---- on the disk
 
-  shape_same : {disk : Disk} → HasSameGeometry t.disk disk → SameGeometry t.disk disk
-  shape_same s = record { block_size = s.block_size; page = s.page; order = s.order; profile = s.profile; count = s.count }
-
-  same_two : (disk : Disk) → KeepsBlocksOutsidePair p.at t.disk.blocks disk.blocks → (b : ℕ) → occurrence_count_of_number b (blocks_of_pairs (p ∷ [])) ≡ 0 → block_bytes_on_disk disk b ≡ block_bytes_on_disk t.disk b
-  same_two disk others b none = others.others b (all_apart (p.at.0 ∷ p.at.1 ∷ []) b none)
-
-  same_four : (disk : Disk) (fresh : ℕ × ℕ) → KeepsBlocksOutsideBothPairs p.at fresh t.disk.blocks disk.blocks → (b : ℕ) → occurrence_count_of_number b (fresh.0 ∷ fresh.1 ∷ blocks_of_pairs (p ∷ [])) ≡ 0 → block_bytes_on_disk disk b ≡ block_bytes_on_disk t.disk b
-  same_four disk fresh others b none = others.others b (all_apart (p.at.0 ∷ p.at.1 ∷ fresh.0 ∷ fresh.1 ∷ []) b (omega arith))
-
-  placed_one : (disk : Disk) (c : PairContent) → (HasFirst p.content.slots → SlotsBeginWithSuperblock c.slots) → IsPairWrittenOnDisk t index c disk → IsPlaced t.disk disk p (record { at = p.at; content = c }) [] []
-  placed_one disk c first is = record {
-    geometry = shape_same is.shape;
-    same = same_two disk (subst (λ at. KeepsBlocksOutsidePair at t.disk.blocks disk.blocks) at_is is.others);
-    contents = (ap (content_of_pair_at disk) (sym at_is) ∙ is.holds, tt);
-    first = λ h b. subst (λ at. BeginsWithLogEntry (current_block_of_pair_at disk at) superblock_name_log_entry) at_is (is.first (subst (λ at. BeginsWithLogEntry (current_block_of_pair_at t.disk at) superblock_name_log_entry) (sym at_is) b) (first h));
-  }
-
-  placed_still : (disk : Disk) (fresh : ℕ × ℕ) → HasSameGeometry t.disk disk → KeepsBlocksOutsideBothPairs (thread_pair_at_index t index).at fresh t.disk.blocks disk.blocks → HasPairOldContentOnDisk t index disk → IsPlaced t.disk disk p p [] (fresh.0 ∷ fresh.1 ∷ [])
-  placed_still disk fresh shape others is = record {
-    geometry = shape_same shape;
-    same = same_four disk fresh (subst (λ at. KeepsBlocksOutsideBothPairs at fresh t.disk.blocks disk.blocks) at_is others);
-    contents = (subst (λ (z : Pair). content_of_pair_at disk z.at ≡ Some z.content) pair_is is.holds, tt);
-    first = λ h b. subst (λ at. BeginsWithLogEntry (current_block_of_pair_at disk at) superblock_name_log_entry) at_is (is.first (subst (λ at. BeginsWithLogEntry (current_block_of_pair_at t.disk at) superblock_name_log_entry) (sym at_is) b));
-  }
-
   placed_two : (disk : Disk) (fresh : ℕ × ℕ) (cut : ℕ) → 0 < cut → AreOn t index c disk fresh cut → IsPlaced t.disk disk p (cut_front p.at c cut fresh) (back_pair_of_split c cut fresh ∷ []) (fresh.0 ∷ fresh.1 ∷ [])
   placed_two disk fresh cut some is = record {
-    geometry = shape_same is.shape;
-    same = same_four disk fresh (subst (λ at. KeepsBlocksOutsideBothPairs at fresh t.disk.blocks disk.blocks) at_is is.others);
+    geometry = shape_same t index w p k.there k.place is.shape;
+    same = same_four t index w p k.there k.place disk fresh is.others;
     contents = (ap (content_of_pair_at disk) (sym at_is) ∙ is.front, (is.back, tt));
     first = λ h b. subst (λ at. BeginsWithLogEntry (current_block_of_pair_at disk at) superblock_name_log_entry) at_is
         (is.parts.first (subst (λ at. BeginsWithLogEntry (current_block_of_pair_at t.disk at) superblock_name_log_entry) (sym at_is) b) (front_has cut some h));
@@ -193,20 +137,8 @@ module _ (t : KeptThread) (index : ℕ) (changes : List PairContentChange) (w : 
 
   -- ---- free blocks
 
-  free_apart : IsMapped t → (b : ℕ) → IsBlockFree t.map b → occurrence_count_of_number b (used_blocks t.disk ps) ≡ 0
-  free_apart m b free = ap (λ z. occurrence_count_of_number b (used_blocks t.disk z)) (sym k.there) ∙ m.apart b free
-
   all_distinct : IsMapped t → (fresh : ℕ × ℕ) → AreTwoFreeBlocks t.map fresh → IsDistinct nat_eq (fresh.0 ∷ fresh.1 ∷ used_blocks t.disk ps)
-  all_distinct m fresh two = distinct_from_once (fresh.0 ∷ fresh.1 ∷ used_blocks t.disk ps) (λ b. go b (nat_eq b fresh.0) (nat_eq b fresh.1) refl refl)
-    where
-      go : (b : ℕ) (x y : Bool) → nat_eq b fresh.0 ≡ x → nat_eq b fresh.1 ≡ y → cond x 1 0 + (cond y 1 0 + occurrence_count_of_number b (used_blocks t.disk ps)) ≤ 1
-      go b false false e f = let n = once_from_distinct (used_blocks t.disk ps) accepted.owned_once b in omega arith
-      go b true true e f = absurd (two.apart (sym (eqb-true b fresh.0 e) ∙ eqb-true b fresh.1 f))
-      go b true false e f = let n = free_apart m b (subst (IsBlockFree t.map) (sym (eqb-true b fresh.0 e)) two.first) in omega arith
-      go b false true e f = let n = free_apart m b (subst (IsBlockFree t.map) (sym (eqb-true b fresh.1 f)) two.second) in omega arith
-
-  fresh_range : IsMapped t → (fresh : ℕ × ℕ) → AreTwoFreeBlocks t.map fresh → Each (λ b. b < block_count t.disk) (fresh.0 ∷ fresh.1 ∷ [])
-  fresh_range m fresh two = let e = m.size in let f = within t.map fresh.0 Free two.first in let g = within t.map fresh.1 Free two.second in (omega arith, (omega arith, tt))
+  all_distinct m fresh two = fresh_distinct t index w p k.there k.place m.used k.accepted.owned_once fresh two
 
   -- ---- what it comes to
 
@@ -216,9 +148,9 @@ module _ (t : KeptThread) (index : ℕ) (changes : List PairContentChange) (w : 
     delta = gstate_cons (record { at = p.at; content = c }) [] ∙ gstate_right move;
     is = append-nil slots;
     became = (refl, fits_same t.disk (record { at = p.at; content = c }) (pair_with_slots slots p) refl fits);
-    device = device t.disk disk w p (record { at = p.at; content = c }) [] [] accepted accepted.owned_once (placed_one disk c k.first is);
+    device = device t.disk disk w p (record { at = p.at; content = c }) [] [] accepted accepted.owned_once (placed_one t index w p k.there k.place disk c k.first is);
     free = record { distinct = accepted.owned_once; in_range = All-from_recursion (λ b. b < block_count t.disk) [] tt };
-    same = (placed_one disk c k.first is).same;
+    same = (placed_one t index w p k.there k.place disk c k.first is).same;
   }
 
   turned_two : IsMapped t → (disk : Disk) (fresh : ℕ × ℕ) (cut : ℕ) → AreTwoFreeBlocks t.map fresh → (IsContentFittingPair t.disk.block_size t.disk.page c → ⊥) → AreOn t index c disk fresh cut
@@ -231,7 +163,7 @@ module _ (t : KeptThread) (index : ℕ) (changes : List PairContentChange) (w : 
     device = device t.disk disk w p front (back ∷ []) (fresh.0 ∷ fresh.1 ∷ []) accepted (all_distinct m fresh two) (placed_two disk fresh cut (is.parts.inside large).0 is);
     free = record {
       distinct = all_distinct m fresh two;
-      in_range = All-from_recursion (λ b. b < block_count t.disk) (fresh.0 ∷ fresh.1 ∷ []) (fresh_range m fresh two);
+      in_range = All-from_recursion (λ b. b < block_count t.disk) (fresh.0 ∷ fresh.1 ∷ []) (fresh_range t index w p k.there k.place m.size fresh two);
     };
     same = (placed_two disk fresh cut (is.parts.inside large).0 is).same;
   }
@@ -253,7 +185,7 @@ module _ (t : KeptThread) (index : ℕ) (changes : List PairContentChange) (w : 
       let same = made_same is.content is.made in
       record {
         turned = turned_one new.disk (subst (λ d. IsPairWrittenOnDisk t index d new.disk) same is.written) (subst (IsContentFittingPair t.disk.block_size t.disk.page) same is.fits);
-        pairs = is.pairs ∙ one_now is.content ∙ ap (λ d. thread_at w (record { at = p.at; content = d } ∷ [])) same;
+        pairs = is.pairs ∙ one_now t index w p k.there k.place is.content ∙ ap (λ d. thread_at w (record { at = p.at; content = d } ∷ [])) same;
         is = is.pairs ∙ ap (λ d. thread_pairs_with_content_replaced_at_index t index d) same;
         map = is.map;
         shape = is.written.shape;
@@ -279,7 +211,7 @@ module _ (t : KeptThread) (index : ℕ) (changes : List PairContentChange) (w : 
   cut_turned m new fresh large is =
       let same = made_same is.content is.made in
       let there : new.pairs ≡ thread_at w (front_pair_of_split t index is.content is.cut fresh ∷ back_pair_of_split is.content is.cut fresh ∷ [])
-      = is.pairs ∙ two_now (front_pair_of_split t index is.content is.cut fresh) (back_pair_of_split is.content is.cut fresh) in
+      = is.pairs ∙ two_now t index w p k.there k.place (front_pair_of_split t index is.content is.cut fresh) (back_pair_of_split is.content is.cut fresh) in
       let held = recursion_from_All (λ (x : Pair). content_of_pair_at new.disk x.at ≡ Some x.content) (thread_at w (front_pair_of_split t index is.content is.cut fresh ∷ back_pair_of_split is.content is.cut fresh ∷ []))
       (subst (All (λ (x : Pair). content_of_pair_at new.disk x.at ≡ Some x.content)) there is.thread.contents) in
       let here = each_right (λ (x : Pair). content_of_pair_at new.disk x.at ≡ Some x.content) (w.before ++ w.left) (front_pair_of_split t index is.content is.cut fresh ∷ back_pair_of_split is.content is.cut fresh ∷ [] ++ (w.right ++ w.after))
@@ -321,14 +253,14 @@ module _ (t : KeptThread) (index : ℕ) (changes : List PairContentChange) (w : 
       go (inl e) =
           let same = e ∙ ap (λ (z : Pair). z.content) pair_is in
           inl (device t.disk (disk_with_blocks left t.disk) w p p [] [] accepted accepted.owned_once
-          (placed_one (disk_with_blocks left t.disk) p.content (λ h. (h.kind, h.name)) (subst (λ d. IsPairWrittenOnDisk t index d (disk_with_blocks left t.disk)) same is.written)))
+          (placed_one t index w p k.there k.place (disk_with_blocks left t.disk) p.content (λ h. (h.kind, h.name)) (subst (λ d. IsPairWrittenOnDisk t index d (disk_with_blocks left t.disk)) same is.written)))
       go (inr (m, fits)) =
           let same = made_same is.content m in
           inr (turned_one (disk_with_blocks left t.disk) (subst (λ d. IsPairWrittenOnDisk t index d (disk_with_blocks left t.disk)) same is.written) (subst (IsContentFittingPair t.disk.block_size t.disk.page) same fits))
 
   alone_on : (disk : Disk) → Stays disk ⊎ HasTurned t.disk w p slots move disk (record { at = p.at; content = content_with p slots move }) [] → Stays disk ⊎ TurnedOn t w p slots move disk
   alone_on disk (inl d) = inl d
-  alone_on disk (inr x) = inr (record { q = record { at = p.at; content = content_with p slots move }; more = []; turned = x })
+  alone_on disk (inr x) = inr (record { q = record { at = p.at; content = content_with p slots move }; more = []; turned = x; fresh = λ b some. absurd (omega arith) })
 
   pub left_put : IsMapped t → (left : Blocks) → IsLeftByStoppedChangeOrSplit t index changes left → Stays (disk_with_blocks left t.disk) ⊎ TurnedOn t w p slots move (disk_with_blocks left t.disk)
   left_put m left (inl is) = alone_on (disk_with_blocks left t.disk) (left_alone left is)
@@ -336,7 +268,7 @@ module _ (t : KeptThread) (index : ℕ) (changes : List PairContentChange) (w : 
     where
       go : HasPairOldContentOnDisk t index (disk_with_blocks left t.disk) ⊎ AreBothSplitPartsOnDisk t index changes fresh (disk_with_blocks left t.disk) → Stays (disk_with_blocks left t.disk) ⊎ TurnedOn t w p slots move (disk_with_blocks left t.disk)
       go (inl b) = inl (device t.disk (disk_with_blocks left t.disk) w p p [] (fresh.0 ∷ fresh.1 ∷ []) accepted (all_distinct m fresh two)
-          (placed_still (disk_with_blocks left t.disk) fresh (shape_of left is.others.count) is.others b))
+          (placed_still t index w p k.there k.place (disk_with_blocks left t.disk) fresh (shape_of left is.others.count) is.others b))
       go (inr h) =
           let same = made_same h.content h.made in
           inr (record {
@@ -345,4 +277,5 @@ module _ (t : KeptThread) (index : ℕ) (changes : List PairContentChange) (w : 
             turned = turned_two m (disk_with_blocks left t.disk) fresh h.cut two (too_large large)
                 (subst (λ d. AreOn t index d (disk_with_blocks left t.disk) fresh h.cut) same
                 (record { shape = shape_of left is.others.count; others = is.others; front = h.front; back = h.back; parts = h.parts }));
+            fresh = λ b some. of_fresh t.map fresh two b some;
           })

@@ -1,5 +1,5 @@
 -- A rename across pairs onto an empty directory: where the directory's pair stands after the move, and what the last step comes to.
-use Rattle.std.proofs.Common.{ℕ, zero, suc, ◌≡◌, ◌≢◌, ◌<◌, ◌⊎◌, inl, inr, ◌+◌, ◌-◌, Bool, true, false, cond, nat_eq, slice_get, take, List, [], ◌∷◌, ◌++◌, length, map, Some, None, sym, ap, ap₂, subst, ◌∙◌, arith, append_assoc, append-nil}
+use Rattle.std.proofs.Common.{ℕ, zero, suc, ◌≡◌, ◌≢◌, ◌<◌, ◌⊎◌, inl, inr, ◌+◌, ◌-◌, Bool, true, false, cond, nat_eq, slice_get, take, List, [], ◌∷◌, ◌++◌, length, map, Some, None, sym, ap, ap₂, subst, ◌∙◌, arith, append_assoc, append-nil, refl}
 use Rattle.std.specs.List.{AllByRecursion, IsDistinct}
 use Rattle.std.specs.Prelude.{Any}
 use Rattle.std.proofs.lemmas.List.Elements.{recursion_from_All}
@@ -37,9 +37,9 @@ use Rattle.lfs_model.proofs.Pieces.{Gains, GoesAt, Keeps, Piece, Stays, olds_of,
 use Rattle.lfs_model.proofs.RenamedOnto.{IsRenameOnto, onto_completed}
 use Rattle.lfs_model.proofs.Renames.{directory_addresses_after_rename}
 use Rattle.lfs_model.proofs.Replacing.{IsReplaced}
-use Rattle.lfs_model.proofs.Searches.{avoids_behind, avoids_front, is_site, same, site, slot_of_stands, thread_is}
+use Rattle.lfs_model.proofs.Searches.{avoids_behind, avoids_front, same, site, slot_of_stands}
 use Rattle.lfs_model.proofs.Segments.{drafts_of, parts_of}
-use Rattle.lfs_model.proofs.Sites.{IsTrueOfSomeElement, IsSite, Site, begin_of, dirs_at, thread_at}
+use Rattle.lfs_model.proofs.Sites.{IsTrueOfSomeElement, Site, begin_of, dirs_at, thread_at}
 use Rattle.lfs_model.proofs.Splices.{file_blocks_of_slots}
 use Rattle.lfs_model.proofs.StepsTaken.{IsWritableImageAfterTreeChange}
 use Rattle.lfs_model.proofs.Superblocks.{IsChain, pairs_behind}
@@ -59,12 +59,14 @@ use Rattle.lfs_operations.proofs.MovReplace.{is_first, onto_directory}
 use Rattle.lfs_operations.proofs.MovStep.{IsFirst, IsLeftOver, arr, first_turned, last_firsts, last_flying, last_kept, last_root, last_shape, last_size, last_state, last_taken, last_used, left_over}
 use Rattle.lfs_operations.proofs.MovTurned.{TurnedTo}
 use Rattle.lfs_operations.proofs.MovAcross.{Arranged}
-use Rattle.lfs_operations.proofs.OntoGone.{IsReplacing, alike_end, can_drop_replaced, left_last, replaced_by, replaced_shrunk, taken_end}
+use Rattle.lfs_operations.proofs.OntoGone.{replaced_by, replaced_drops}
 use Rattle.lfs_operations.proofs.OntoPieces.{AreKnown, IsCutOut, alike_then, alike_without, cut_out, joined_stays}
 use Rattle.lfs_operations.proofs.MovLater.{edit_later}
 use Rattle.lfs_operations.proofs.Owning.{used_same}
 use Rattle.lfs_operations.proofs.Putting.{read_is, with_history}
 use Rattle.lfs_operations.proofs.RmdirPlaces.{HasFront, directory_led, front_of, get_some, has_front, not_the_root, number_of_first, shows_nothing, soft_end}
+use Rattle.lfs_operations.proofs.LastDrop.{IsAllButDropped, alike_end, can_drop_last, left_last, shows_dropped, taken_end}
+use Rattle.lfs_model.proofs.Global.{HasNoMove}
 
 -- ---- lists
 
@@ -149,58 +151,42 @@ module _ (t : KeptThread) (old_pair old_id first new_pair new_id : ℕ) (name : 
   e : HasEndedMoveAt is.mid (pair_number_after_insertion old_pair new_pair (length is.mid.pairs - length t.pairs)) (length lo) goes m
   e = subst (λ i. HasEndedMoveAt is.mid (pair_number_after_insertion old_pair new_pair (length is.mid.pairs - length t.pairs)) i goes m) (sym can.stands.stands.number) is.ended
 
-  there : t.pairs ≡ thread_at w (p ∷ [])
-  there = thread_is t.disk t.pairs rename.path rename.at can.ready.accepted rename.leads rename.to_first new_pair p tb.rest tb.place rename.begins
-
-  site_is : IsSite w (p ∷ [])
-  site_is = is_site t.disk t.pairs rename.path rename.at can.ready.accepted rename.leads rename.to_first new_pair p tb.rest tb.place rename.begins
-
   same_begin : same_pair (begin_of w (p ∷ [])) rename.at ≡ true
   same_begin = same t.disk t.pairs rename.path rename.at can.ready.accepted rename.leads rename.to_first new_pair p tb.rest tb.place rename.begins
 
-  accepted : IsAcceptedImage t.disk (thread_at w (p ∷ []))
-  accepted = subst (IsAcceptedImage t.disk) there can.ready.accepted
-
-  settled : gstate_of_pairs (thread_at w (p ∷ [])) ≡ zero_gstate
-  settled = ap gstate_of_pairs (sym there) ∙ can.ready.settled
-
   leads : IsPathToDirectory (thread_at w (p ∷ [])) rename.path rename.at
-  leads = subst (λ z. IsPathToDirectory z rename.path rename.at) there rename.leads
+  leads = subst (λ z. IsPathToDirectory z rename.path rename.at) first_step.turn.there rename.leads
 
   -- ---- the directory before
 
   entry_there : slice_get (entries_by_directory_in_thread (thread_at w (p ∷ [])) rename.at) (place_at w l) ≡ Some g
-  entry_there = ap (λ z. slice_get z (place_at w l)) (site_shows t.disk w p l (g ∷ []) r rename.at accepted site_is (no_move_from (thread_at w (p ∷ [])) settled) same_begin tb.stands.held
+  entry_there = ap (λ z. slice_get z (place_at w l)) (site_shows t.disk w p l (g ∷ []) r rename.at first_step.setting.accepted first_step.setting.site (no_move_from (thread_at w (p ∷ [])) first_step.setting.settled) same_begin tb.stands.held
       ∙ ap (λ z. shown_before w l ++ (z ++ shown_behind w r)) (entry_only g tb.stands.entry)) ∙ get_here (shown_before w l) (shown_behind w r) g
 
   led : IsPathToDirectory (thread_at w (p ∷ [])) (rename.path ++ g.name ∷ []) rename.to
-  led = directory_led t.disk (thread_at w (p ∷ [])) rename.path rename.at (place_at w l) g rename.to accepted leads entry_there rename.branch
+  led = directory_led t.disk (thread_at w (p ∷ [])) rename.path rename.at (place_at w l) g rename.to first_step.setting.accepted leads entry_there rename.branch
 
   front : HasFront (dirs_at w (p ∷ [])) rename.to
-  front = has_front t.disk w.chain (dirs_at w (p ∷ [])) rename.path g.name rename.to accepted site_is.chain led
+  front = has_front t.disk w.chain (dirs_at w (p ∷ [])) rename.path g.name rename.to first_step.setting.accepted first_step.setting.site.chain led
 
   o_there : slice_get t.pairs gone ≡ Some o
   o_there = get_some t.pairs gone empty_pair_at_anchor rename.below
 
   first_is : (gone ≡ length (w.chain ++ front.front) + 1) × (front.first ≡ o)
-  first_is = number_of_first t.disk w.chain (dirs_at w (p ∷ [])) rename.to accepted front gone o (subst (λ z. slice_get z gone ≡ Some o) there o_there) rename.alike
+  first_is = number_of_first t.disk w.chain (dirs_at w (p ∷ [])) rename.to first_step.setting.accepted front gone o (subst (λ z. slice_get z gone ≡ Some o) first_step.turn.there o_there) rename.alike
 
   pub gone_above : 0 < gone
   gone_above = let e = first_is.0 in omega arith
 
   empty : entries_by_directory_in_thread (thread_at w (p ∷ [])) rename.to ≡ []
-  empty = shows_nothing t.disk w.chain (dirs_at w (p ∷ [])) rename.to accepted site_is.chain (no_move_from (thread_at w (p ∷ [])) settled) front
+  empty = shows_nothing t.disk w.chain (dirs_at w (p ∷ [])) rename.to first_step.setting.accepted first_step.setting.site.chain (no_move_from (thread_at w (p ∷ [])) first_step.setting.settled) front
       (ap (λ (z : Pair). is_hard_tail z.content.tail) first_is.1 ∙ rename.alone) (ap (λ (z : Pair). z.content.slots) first_is.1 ∙ rename.empty)
 
-  has_slot : (xs : List Slot) (y : Slot) (ys : List Slot) → xs ++ y ∷ ys ≡ [] → ⊥
-  has_slot [] y ys k = absurd (cc)
-  has_slot (z ∷ xs) y ys k = absurd (cc)
-
   not_new : p ≡ o → ⊥
-  not_new k = has_slot l g r (sym tb.stands.held ∙ ap (λ (z : Pair). z.content.slots) k ∙ rename.empty)
+  not_new k = some_filled l r g (sym tb.stands.held ∙ ap (λ (z : Pair). z.content.slots) k ∙ rename.empty)
 
   not_old : q0 ≡ o → ⊥
-  not_old k = has_slot lo s ro (sym can.stands.stands.held ∙ ap (λ (z : Pair). z.content.slots) k ∙ rename.empty)
+  not_old k = some_filled lo ro s (sym can.stands.stands.held ∙ ap (λ (z : Pair). z.content.slots) k ∙ rename.empty)
 
   -- ---- and after the move
 
@@ -208,7 +194,7 @@ module _ (t : KeptThread) (old_pair old_id first new_pair new_id : ℕ) (name : 
   moved = last_taken t true old_pair goes new_pair changes wo q0 lo s ro w p l (Some g) v r from to name first_step is.mid x m e
 
   led_there : IsPathToDirectory t.pairs (rename.path ++ g.name ∷ []) rename.to
-  led_there = subst (λ z. IsPathToDirectory z (rename.path ++ g.name ∷ []) rename.to) (sym there) led
+  led_there = subst (λ z. IsPathToDirectory z (rename.path ++ g.name ∷ []) rename.to) (sym first_step.turn.there) led
 
   begun : IsAddressOfDirectoryFirstPair (directories_in_thread m.pairs) rename.to
   begun = begins_at_firsts (directories_in_thread t.pairs) (directories_in_thread m.pairs) (last_firsts t true old_pair goes new_pair changes wo q0 lo s ro w p l (Some g) v r from to name first_step is.mid x m e) rename.to (can.ready.accepted.branches (rename.path ++ g.name ∷ []) rename.to led_there)
@@ -247,27 +233,33 @@ module _ (t : KeptThread) (old_pair old_id first new_pair new_id : ℕ) (name : 
   no_list b = ap (λ z. occurrence_count_of_number b (file_blocks_of_slots t.disk (record g { struct = z } ∷ []))) rename.branch
 
   module _ (n : ℕ) (at : IsPairAtAddress m.pairs (thread_pair_at_index t gone).at n) where
-    pub replacing_across : IsReplacing t m (can.path ++ can.name ∷ []) (rename.path ++ name ∷ []) rename.to o n
+    no_move_now : HasNoMove (gstate_of_pairs m.pairs)
+    no_move_now = subst HasNoMove (sym (last_state t true old_pair goes new_pair changes wo q0 lo s ro w p l (Some g) v r from to name first_step is.mid x m e)) (record { kind = refl; id = refl; pair = refl })
+
+    chain_now : IsChain (take (pair_count_before_root m.pairs) m.pairs) (now.front ++ now.before ∷ o ∷ (now.run ++ now.after))
+    chain_now = subst (IsChain (take (pair_count_before_root m.pairs) m.pairs)) dirs_now (chain_of_thread m.pairs).1
+
+    pub replacing_across : IsAllButDropped t m o n (tree_after_rename (can.path ++ can.name ∷ []) (rename.path ++ name ∷ [])) (directory_addresses_after_rename (can.path ++ can.name ∷ []) (rename.path ++ name ∷ []))
     replacing_across = record {
       ready = can.ready;
       taken = moved;
-      state = last_state t true old_pair goes new_pair changes wo q0 lo s ro w p l (Some g) v r from to name first_step is.mid x m e;
+      no_move = no_move_now;
       chain = take (pair_count_before_root m.pairs) m.pairs;
       front = now.front;
       x = now.before;
       back = now.run ++ now.after;
       there = there_now;
-      is_chain = subst (IsChain (take (pair_count_before_root m.pairs) m.pairs)) dirs_now (chain_of_thread m.pairs).1;
+      is_chain = chain_now;
       number = sym (number_of_first m.disk chain (pairs_from_root_directory_on m.pairs) rename.to accepted_now now n at.pair (subst (λ z. slice_get z n ≡ Some at.pair) whole at.there)
           (pair_on at.pair.at o.at rename.to at.same rename.alike)).0;
       soft = now.soft;
-      replaced = subst (λ z. IsReplaced (directory_address_at_path (entries_by_directory_in_thread z) (root_directory_address_of_pairs z)) from to rename.to) (sym there)
+      drops = replaced_drops t m from to rename.to (take (pair_count_before_root m.pairs) m.pairs) now.front now.before o (now.run ++ now.after) can.ready moved no_move_now there_now chain_now
+          (subst (λ z. IsReplaced (directory_address_at_path (entries_by_directory_in_thread z) (root_directory_address_of_pairs z)) from to rename.to) (sym first_step.turn.there)
           (subst (λ (n : Name). IsReplaced (directory_address_at_path (entries_by_directory_in_thread (thread_at w (p ∷ []))) (root_directory_address_of_pairs (thread_at w (p ∷ [])))) from (rename.path ++ n ∷ []) rename.to) tb.stands.named
-          (replaced_by t.disk (thread_at w (p ∷ [])) rename.path rename.at (place_at w l) g rename.to from accepted leads entry_there rename.branch empty
-          (ap (λ (n : Name). path_without_prefix from (rename.path ++ n ∷ [])) tb.stands.named ∙ rename.not_beneath)));
-      every = λ Q h. all_at_firsts Q (directories_in_thread t.pairs) (directories_in_thread m.pairs) (last_firsts t true old_pair goes new_pair changes wo q0 lo s ro w p l (Some g) v r from to name first_step is.mid x m e) h;
-      address = rename.alike;
-      alone = rename.alone;
+          (replaced_by t.disk (thread_at w (p ∷ [])) rename.path rename.at (place_at w l) g rename.to from first_step.setting.accepted leads entry_there rename.branch empty
+          (ap (λ (n : Name). path_without_prefix from (rename.path ++ n ∷ [])) tb.stands.named ∙ rename.not_beneath))))
+          (λ Q h. all_at_firsts Q (directories_in_thread t.pairs) (directories_in_thread m.pairs) (last_firsts t true old_pair goes new_pair changes wo q0 lo s ro w p l (Some g) v r from to name first_step is.mid x m e) h)
+          rename.alike rename.alone;
       empty = rename.empty;
       used = used_same m.map (used_blocks m.disk m.pairs ++ file_blocks_of_slots t.disk (g ∷ [])) (used_blocks m.disk m.pairs)
           (λ b. let a = count_append b (used_blocks m.disk m.pairs) (file_blocks_of_slots t.disk (g ∷ [])) in let c = no_list b in omega arith) (last_used t true old_pair goes new_pair changes wo q0 lo s ro w p l (Some g) v r from to name first_step is.mid x m e);
@@ -285,12 +277,6 @@ module _ (t : KeptThread) (old_pair old_id first new_pair new_id : ℕ) (name : 
 
       left : IsLeftOver t true old_pair goes new_pair changes wo q0 lo s ro w p l (Some g) v r from to name first_step is.mid x m e
       left = left_over t true old_pair goes new_pair changes wo q0 lo s ro w p l (Some g) v r from to name first_step is.mid x m e
-
-      keeps : Piece
-      keeps = Keeps q0 (lo ++ ro) left.os
-
-      gains : Piece
-      gains = Gains p (l ++ v ∷ r) x.q x.more
 
       abbrev pieces_of : Bool → List Piece
       pieces_of true = Stays a.front ∷ Keeps q0 (lo ++ ro) left.os ∷ Stays a.mid ∷ Gains p (l ++ v ∷ r) x.q x.more ∷ Stays a.back ∷ []
@@ -326,10 +312,10 @@ module _ (t : KeptThread) (old_pair old_id first new_pair new_id : ℕ) (name : 
       -- ---- before
 
       two_chain : IsChain w.chain (two a.b a.front (q0 ∷ []) a.mid (p ∷ []) a.back)
-      two_chain = ap pair_count_before_root (sym a.old_is) ∙ site_is.chain
+      two_chain = ap pair_count_before_root (sym a.old_is) ∙ first_step.setting.site.chain
 
       two_is : dirs_at w (p ∷ []) ≡ two a.b a.front (q0 ∷ []) a.mid (p ∷ []) a.back
-      two_is = sym (pairs_behind w.chain (dirs_at w (p ∷ [])) site_is.chain) ∙ ap pairs_from_root_directory_on a.old_is ∙ pairs_behind w.chain (two a.b a.front (q0 ∷ []) a.mid (p ∷ []) a.back) two_chain
+      two_is = sym (pairs_behind w.chain (dirs_at w (p ∷ [])) first_step.setting.site.chain) ∙ ap pairs_from_root_directory_on a.old_is ∙ pairs_behind w.chain (two a.b a.front (q0 ∷ []) a.mid (p ∷ []) a.back) two_chain
 
       abbrev ahead : List Pair
       ahead = front.front ++ front.before ∷ []
@@ -344,7 +330,7 @@ module _ (t : KeptThread) (old_pair old_id first new_pair new_id : ℕ) (name : 
       Apart z = same_pair z.at rename.to ≡ false
 
       distinct_were : IsDistinct nat_eq (blocks_of_pairs ((w.chain ++ ahead) ++ o ∷ behind))
-      distinct_were = subst (λ z. IsDistinct nat_eq (blocks_of_pairs z)) (ap (λ z. w.chain ++ z) dirs_were ∙ sym (append_assoc w.chain ahead (o ∷ behind))) accepted.thread.distinct
+      distinct_were = subst (λ z. IsDistinct nat_eq (blocks_of_pairs z)) (ap (λ z. w.chain ++ z) dirs_were ∙ sym (append_assoc w.chain ahead (o ∷ behind))) first_step.setting.accepted.thread.distinct
 
       cut : IsCutOut t.disk rename.to o None (pieces_of a.b)
       cut = cut_out t.disk rename.to o rename.alike rename.alone None (pieces_of a.b) ahead behind (olds a.b ∙ sym two_is ∙ dirs_were) (soft_end None front.front front.before front.soft)
@@ -379,7 +365,7 @@ module _ (t : KeptThread) (old_pair old_id first new_pair new_id : ℕ) (name : 
           (alike_then ((w.chain ++ cut.left) ++ cut.right) (ahead_now ++ behind_now) new.pairs
           (alike_without t.disk rename.to o rename.alike rename.alone (w.chain ++ cut.left) cut.right ahead_now behind_now alike_before
           (avoids_front ahead_now o behind_now rename.to distinct_now rename.alike) (avoids_behind ahead_now o behind_now rename.to distinct_now rename.alike))
-          (subst (λ z. ArePairsWithSameAddressesAndSlots z new.pairs) (regrouped behind_now) (alike_end t m from to rename.to o n replacing_across new d)))
+          (subst (λ z. ArePairsWithSameAddressesAndSlots z new.pairs) (regrouped behind_now) (alike_end replacing_across new d)))
 
       -- ---- the operation
 
@@ -387,7 +373,7 @@ module _ (t : KeptThread) (old_pair old_id first new_pair new_id : ℕ) (name : 
       ps = w.chain ++ two a.b a.front (q0 ∷ []) a.mid (p ∷ []) a.back
 
       were : t.pairs ≡ ps
-      were = there ∙ a.old_is
+      were = first_step.turn.there ∙ a.old_is
 
       unreached : NoneGoes (λ z. IsDirectoryAddressReachedBySomePath ps z → ⊥) None (two a.b a.front (q0 ∷ []) a.mid (p ∷ []) a.back)
       unreached = subst (NoneGoes (λ z. IsDirectoryAddressReachedBySomePath ps z → ⊥) None) (pairs_behind w.chain (two a.b a.front (q0 ∷ []) a.mid (p ∷ []) a.back) two_chain)
@@ -424,8 +410,8 @@ module _ (t : KeptThread) (old_pair old_id first new_pair new_id : ℕ) (name : 
         walk = directory_addresses_after_rename from to;
         follows = subst (λ y. IsImageAfterTreeChange t.disk ps new.disk new.pairs (tree_after_rename y (path_of_bytes_or_root to_given)) (directory_addresses_after_rename from to)) (sym given_is)
             (subst (λ y. IsImageAfterTreeChange t.disk ps new.disk new.pairs (tree_after_rename from y) (directory_addresses_after_rename from to)) (sym to_is)
-            (subst (λ z. IsImageAfterTreeChange t.disk z new.disk new.pairs (tree_after_rename from to) (directory_addresses_after_rename from to)) were (taken_end t m from to rename.to o n replacing_across new d).follows));
-        still_writable = (taken_end t m from to rename.to o n replacing_across new d).writable;
+            (subst (λ z. IsImageAfterTreeChange t.disk z new.disk new.pairs (tree_after_rename from to) (directory_addresses_after_rename from to)) were (taken_end replacing_across new d).follows));
+        still_writable = (taken_end replacing_across new d).writable;
         held = can.stands.stands.held;
         was = tb.stands.held;
         from_slot = ap (slot_of_path ps) given_is ∙ subst (λ z. slot_of_path z from ≡ Some s) were
@@ -439,13 +425,13 @@ module _ (t : KeptThread) (old_pair old_id first new_pair new_id : ℕ) (name : 
 
       pub renamed_onto : IsEntryRenamedAcrossPairs t new can.path can.name rename.path name
       renamed_onto = record {
-        now = replaced_shrunk t m from to rename.to o n replacing_across new d;
+        now = shows_dropped replacing_across new d;
         completed = λ z given to_given tree given_is to_is. subst (λ y. IsImageAfterCompletedOperation t.disk y z (ops.Rename given to_given) new.disk new.pairs) (sym were)
             (onto_completed t.disk new.disk new.pairs a.b w.chain a.front a.mid a.back q0 p lo s ro l g r given to_given name (laid given to_given given_is to_is) z (tree ∙ ap (tree_on_disk t.disk) were));
       }
 
     pub left_across : (left : Blocks) → IsLeftByStoppedPairDrop m (n - 1) zero_gstate left → IsLeftOf (disk_with_blocks left t.disk) (tree_on_disk t.disk t.pairs) (tree_with_moved_entry t can.path can.name rename.path name)
-    left_across left h = left_last t m from to rename.to o n replacing_across left h
+    left_across left h = left_last replacing_across left h
 
   pub not_nowhere : AllByRecursion (λ z. same_pair z.at o.at ≡ false) m.pairs → ⊥
   not_nowhere none = go m.pairs none (last_kept t true old_pair goes new_pair changes wo q0 lo s ro w p l (Some g) v r from to name first_step is.mid x m e o not_new rename.empty rename.alone (among_there t.pairs gone o o_there))
@@ -497,12 +483,11 @@ module _ (t : KeptThread) (old_pair old_id first new_pair new_id : ℕ) (name : 
   not_nowhere_later = not_nowhere later old_pair old_id first new_pair new_id name gone there_later address_later m done_later
 
   module _ (n : ℕ) (at : IsPairAtAddress m.pairs (thread_pair_at_index t gone).at n) where
-    pub replacing_later : IsReplacing (with_history t h.from.history) m (rename.old.path ++ rename.old.name ∷ []) (rename.path ++ name ∷ []) rename.to (thread_pair_at_index t gone) n
+    pub replacing_later : IsAllButDropped (with_history t h.from.history) m (thread_pair_at_index t gone) n (tree_after_rename (rename.old.path ++ rename.old.name ∷ []) (rename.path ++ name ∷ [])) (directory_addresses_after_rename (rename.old.path ++ rename.old.name ∷ []) (rename.path ++ name ∷ []))
     replacing_later = replacing_across later old_pair old_id first new_pair new_id name gone there_later address_later m done_later n at
 
     pub can_drop_later : CanDropPairAt m n zero_gstate
-    can_drop_later = can_drop_replaced later m (rename.old.path ++ rename.old.name ∷ []) (rename.path ++ name ∷ []) rename.to (thread_pair_at_index t gone) n
-        replacing_later
+    can_drop_later = can_drop_last replacing_later
 
     pub renamed_directory : (new : KeptThread) → IsNextPairDropped m (n - 1) zero_gstate new → IsEntryRenamedAcrossPairs t new rename.old.path rename.old.name rename.path name
     renamed_directory new d = go (renamed_onto later old_pair old_id first new_pair new_id name gone there_later address_later m done_later n at new d)

@@ -1,6 +1,5 @@
 -- A rename onto an empty directory within a pair: where the directory's pair stands, and what the two steps come to.
-use Rattle.std.proofs.Common.{ℕ, ◌≡◌, ◌+◌, ◌-◌, Bool, true, false, nat_eq, slice_get, List, [], ◌∷◌, ◌++◌, length, Some, None, refl, sym, ap, subst, ◌∙◌, arith, append_assoc, append-nil, length-append}
-use Rattle.std.specs.List.{IsDistinct}
+use Rattle.std.proofs.Common.{ℕ, ◌≡◌, ◌+◌, ◌-◌, true, false, slice_get, List, [], ◌∷◌, ◌++◌, length, Some, None, refl, sym, ap, subst, ◌∙◌, arith, append-nil, length-append}
 use Rattle.std.specs.Prelude.{All}
 use Rattle.std.proofs.lemmas.List.Elements.{recursion_from_All}
 use Rattle.lfs_model.specs.TreeEdits.{tree_after_rename, path_without_prefix}
@@ -11,7 +10,7 @@ use Rattle.lfs_model.specs.Operations as ops
 use Rattle.lfs_model.specs.PowerLoss.{HasTreeBeforeOrAfterOperation as IsLeftOf, disk_with_blocks}
 use Rattle.lfs_model.specs.SlotEdits.{slot_of_path, pair_with_slots}
 use Rattle.lfs_model.specs.Slots.{Slot, zero_gstate, same_pair}
-use Rattle.lfs_model.specs.Thread.{Pair, blocks_of_pairs, gstate_of_pairs, is_hard_tail, root_directory_address_of_pairs, pair_count_before_root}
+use Rattle.lfs_model.specs.Thread.{Pair, gstate_of_pairs, is_hard_tail, root_directory_address_of_pairs, pair_count_before_root}
 use Rattle.lfs_model.specs.Tree.{Path, directory_address_at_path}
 use Rattle.lfs_model.specs.View.{IsAcceptedImage}
 use Rattle.lfs_model.specs.Profile.{IsWritableImage}
@@ -21,143 +20,34 @@ use Rattle.lfs_model.proofs.Became.{fits_same}
 use Rattle.lfs_model.proofs.Changes.{IsImageAfterTreeChange, SameFiles}
 use Rattle.lfs_model.proofs.Files.{HasSameFileBlocksOfStructOnDisks}
 use Rattle.lfs_model.proofs.Committed.{IsImageAfterCompletedOperation, no_move_from}
-use Rattle.lfs_model.proofs.Counts.{Each, occurrence_count_of_number, each_append, each_left, each_right}
-use Rattle.lfs_model.proofs.Layouts.{onward_all}
+use Rattle.lfs_model.proofs.Counts.{occurrence_count_of_number}
 use Rattle.lfs_model.proofs.Moves.{IsStep, entry_only, get_here, place_at, shown_before, shown_behind, step_each}
 use Rattle.lfs_model.proofs.Indexes.{site_shows}
 use Rattle.lfs_model.proofs.Paths.{last_is}
-use Rattle.lfs_model.proofs.RemovedDirectory.{before_gone}
 use Rattle.lfs_model.proofs.Renames.{directory_addresses_after_rename}
 use Rattle.lfs_model.proofs.RenamedWithinOnto.{IsRenameWithinOnto, within_onto_completed}
 use Rattle.lfs_model.proofs.RenameSteps.{sibling_apart}
 use Rattle.lfs_model.proofs.Replacing.{IsReplaced}
 use Rattle.lfs_model.proofs.RmdirSteps.{step_chain}
-use Rattle.lfs_model.proofs.Searches.{avoids_behind, avoids_front, is_site, same, site, slot_of_stands, thread_is}
+use Rattle.lfs_model.proofs.Searches.{is_site, same, site, slot_of_stands, thread_is}
 use Rattle.lfs_model.proofs.Sites.{IsSite, Site, begin_of, dirs_at, thread_at}
 use Rattle.lfs_model.proofs.Splices.{file_blocks_of_slots}
 use Rattle.lfs_model.proofs.StepsTaken.{IsWritableImageAfterTreeChange}
 use Rattle.lfs_model.proofs.Superblocks.{IsChain}
-use Rattle.lfs_model.proofs.TwoPlaces.{two}
 use Rattle.lfs_thread.specs.Kept.{KeptThread}
 use Rattle.lfs_thread.specs.Steps.{IsPairChanged, IsPairWrittenOnDisk, empty_pair_at_anchor, thread_pair_at_index, thread_pairs_with_content_replaced_at_index}
 use Rattle.lfs_operations.specs.Dropping.{IsNextPairDropped, IsLeftByStoppedPairDrop, HasSameBlocksInFlight}
 use Rattle.lfs_operations.specs.Editing.{CanEditEntryOfPair}
 use Rattle.lfs_operations.specs.Renaming.{tree_with_renamed_entry}
 use Rattle.lfs_operations.specs.RenamingOver.{CanRenameOntoDirectoryInPair, CanReplaceDirectoryInPair, IsEntryRenamedOntoDirectory, replace_directory_in_pair_changes}
-use Rattle.lfs_operations.proofs.OntoGone.{IsReplacing, alike_end, left_last, replaced_by, replaced_shrunk, taken_end}
+use Rattle.lfs_operations.proofs.OntoGone.{replaced_by, replaced_drops}
 use Rattle.lfs_operations.proofs.Owning.{turned_count, used_same}
 use Rattle.lfs_operations.proofs.RenameOver.{HasOver, gstate_now, has_over, over_content, over_fits, pair_now, same_made, step, taken, target_held}
 use Rattle.lfs_operations.proofs.RenamePlaced.{blocks_now, with_name}
-use Rattle.lfs_operations.proofs.RmdirPlaces.{Ahead, Behind, HasFront, Itself, Next, WhereIs, directory_led, get_some, has_front, number_of_first, shows_nothing, soft_end, where_is}
-
--- ---- places
-
--- Once p is q, the pair o stands behind x. Of the thread with p and o somewhere, o's directory begins with it, and no other pair is there.
-pub record HasPlaceOver (w : Site) (p q o : Pair) (d : ℕ × ℕ) (n : ℕ) : Type 0 where
-  pub front : List Pair
-  pub x : Pair
-  pub back : List Pair
-  pub there : dirs_at w (q ∷ []) ≡ front ++ x ∷ o ∷ back
-  pub number : length front ≡ n
-  pub soft : is_hard_tail x.content.tail ≡ false
-  pub b : Bool
-  pub one : List Pair
-  pub mid : List Pair
-  pub other : List Pair
-  pub were : thread_at w (p ∷ []) ≡ w.chain ++ two b one (p ∷ []) mid (o ∷ []) other
-  pub begins : onward_all None (before_gone b one mid p) ≡ None
-  pub apart : Each (λ z. same_pair z.at d ≡ false) (two b one (p ∷ []) mid [] other)
-  pub are : two b one (q ∷ []) mid [] other ≡ front ++ x ∷ back
-
-module _ (w : Site) (p q o : Pair) (d : ℕ × ℕ) (address : same_pair o.at d ≡ true) (distinct : IsDistinct nat_eq (blocks_of_pairs (thread_at w (p ∷ [])))) (tail : is_hard_tail q.content.tail ≡ is_hard_tail p.content.tail) where
-  abbrev in_front : List Pair
-  in_front = w.before ++ w.left
-
-  abbrev in_back : List Pair
-  in_back = w.right ++ w.after
-
-  -- the pairs but o aren't at its address
-  others_apart : (front back : List Pair) → thread_at w (p ∷ []) ≡ w.chain ++ (front ++ o ∷ back) → Each (λ z. same_pair z.at d ≡ false) front × Each (λ z. same_pair z.at d ≡ false) back
-  others_apart front back is =
-      let e = subst (λ z. IsDistinct nat_eq (blocks_of_pairs z)) (is ∙ sym (append_assoc w.chain front (o ∷ back))) distinct in
-      (each_right (λ (z : Pair). same_pair z.at d ≡ false) w.chain front (avoids_front (w.chain ++ front) o back d e address), avoids_behind (w.chain ++ front) o back d e address)
-
-  ahead_place : (mid : List Pair) (x : Pair) (back : List Pair) (n : ℕ) → in_back ≡ mid ++ x ∷ o ∷ back → length (in_front ++ p ∷ mid) ≡ n → is_hard_tail x.content.tail ≡ false → HasPlaceOver w p q o d n
-  ahead_place mid x back n e k soft =
-      let whole : thread_at w (p ∷ []) ≡ w.chain ++ ((in_front ++ p ∷ (mid ++ x ∷ [])) ++ o ∷ back)
-      = ap (λ z. w.chain ++ (in_front ++ p ∷ z)) (e ∙ sym (append_assoc mid (x ∷ []) (o ∷ back))) ∙ ap (λ z. w.chain ++ z) (sym (append_assoc in_front (p ∷ (mid ++ x ∷ [])) (o ∷ back))) in
-      let a = others_apart (in_front ++ p ∷ (mid ++ x ∷ [])) back whole in
-      let f = each_left (λ (z : Pair). same_pair z.at d ≡ false) in_front (p ∷ (mid ++ x ∷ [])) a.0 in
-      let g = each_right (λ (z : Pair). same_pair z.at d ≡ false) in_front (p ∷ (mid ++ x ∷ [])) a.0 in
-      record {
-        front = in_front ++ q ∷ mid;
-        x = x;
-        back = back;
-        there = ap (λ z. in_front ++ q ∷ z) e ∙ sym (append_assoc in_front (q ∷ mid) (x ∷ o ∷ back));
-        number = let g = length-append in_front (q ∷ mid) in let h = length-append in_front (p ∷ mid) in omega arith;
-        soft = soft;
-        b = true;
-        one = in_front;
-        mid = mid ++ x ∷ [];
-        other = back;
-        were = ap (λ z. w.chain ++ (in_front ++ p ∷ z)) (e ∙ sym (append_assoc mid (x ∷ []) (o ∷ back)));
-        begins = ap (λ z. onward_all None z) (sym (append_assoc in_front (p ∷ mid) (x ∷ []))) ∙ soft_end None (in_front ++ p ∷ mid) x soft;
-        apart = each_append (λ (z : Pair). same_pair z.at d ≡ false) in_front (p ∷ ((mid ++ x ∷ []) ++ back)) f (g.0, each_append (λ (z : Pair). same_pair z.at d ≡ false) (mid ++ x ∷ []) back g.1 a.1);
-        are = ap (λ z. in_front ++ q ∷ z) (append_assoc mid (x ∷ []) back) ∙ sym (append_assoc in_front (q ∷ mid) (x ∷ back));
-      }
-
-  next_place : (back : List Pair) (n : ℕ) → in_back ≡ o ∷ back → length in_front ≡ n → is_hard_tail p.content.tail ≡ false → HasPlaceOver w p q o d n
-  next_place back n e k soft =
-      let whole : thread_at w (p ∷ []) ≡ w.chain ++ ((in_front ++ p ∷ []) ++ o ∷ back) = ap (λ z. w.chain ++ (in_front ++ p ∷ z)) e ∙ ap (λ z. w.chain ++ z) (sym (append_assoc in_front (p ∷ []) (o ∷ back))) in
-      let a = others_apart (in_front ++ p ∷ []) back whole in
-      let f = each_left (λ (z : Pair). same_pair z.at d ≡ false) in_front (p ∷ []) a.0 in
-      let g = each_right (λ (z : Pair). same_pair z.at d ≡ false) in_front (p ∷ []) a.0 in
-      record {
-        front = in_front;
-        x = q;
-        back = back;
-        there = ap (λ z. in_front ++ q ∷ z) e;
-        number = k;
-        soft = tail ∙ soft;
-        b = true;
-        one = in_front;
-        mid = [];
-        other = back;
-        were = ap (λ z. w.chain ++ (in_front ++ p ∷ z)) e;
-        begins = soft_end None in_front p soft;
-        apart = each_append (λ (z : Pair). same_pair z.at d ≡ false) in_front (p ∷ back) f (g.0, a.1);
-        are = refl;
-      }
-
-  behind_place : (front : List Pair) (x : Pair) (mid : List Pair) → in_front ≡ front ++ x ∷ o ∷ mid → is_hard_tail x.content.tail ≡ false → HasPlaceOver w p q o d (length front)
-  behind_place front x mid e soft =
-      let turned : dirs_at w (p ∷ []) ≡ (front ++ x ∷ []) ++ o ∷ (mid ++ p ∷ in_back) = ap (λ z. z ++ p ∷ in_back) e ∙ append_assoc front (x ∷ o ∷ mid) (p ∷ in_back) ∙ sym (append_assoc front (x ∷ []) (o ∷ (mid ++ p ∷ in_back))) in
-      let a = others_apart (front ++ x ∷ []) (mid ++ p ∷ in_back) (ap (λ z. w.chain ++ z) turned) in
-      record {
-        front = front;
-        x = x;
-        back = mid ++ q ∷ in_back;
-        there = ap (λ z. z ++ q ∷ in_back) e ∙ append_assoc front (x ∷ o ∷ mid) (q ∷ in_back);
-        number = refl;
-        soft = soft;
-        b = false;
-        one = front ++ x ∷ [];
-        mid = mid;
-        other = in_back;
-        were = ap (λ z. w.chain ++ z) turned;
-        begins = soft_end None front x soft;
-        apart = each_append (λ (z : Pair). same_pair z.at d ≡ false) (front ++ x ∷ []) (mid ++ p ∷ in_back) a.0 a.1;
-        are = append_assoc front (x ∷ []) (mid ++ q ∷ in_back);
-      }
-
-  pub place_over : (front : List Pair) (x : Pair) (back : List Pair) → dirs_at w (p ∷ []) ≡ front ++ x ∷ o ∷ back → is_hard_tail x.content.tail ≡ false → (p ≡ o → ⊥) → HasPlaceOver w p q o d (length front)
-  place_over front x back e soft not_itself = by (where_is in_front p in_back front x o back e)
-    where
-      by : WhereIs in_front p in_back front x o back → HasPlaceOver w p q o d (length front)
-      by (Ahead mid h k) = ahead_place mid x back (length front) h (ap length (sym k)) soft
-      by (Next h i k) = next_place back (length front) k (ap length h) (ap (λ (z : Pair). is_hard_tail z.content.tail) (sym i) ∙ soft)
-      by (Itself h) = absurd (not_itself h)
-      by (Behind mid h) = behind_place front x mid h soft
+use Rattle.lfs_operations.proofs.RmdirPlaces.{HasFront, directory_led, get_some, has_front, number_of_first, shows_nothing, HasPlaceOver, place_over}
+use Rattle.lfs_operations.proofs.LastDrop.{IsAllButDropped, alike_end, left_last, shows_dropped, taken_end}
+use Rattle.lfs_model.proofs.Global.{HasNoMove}
+use Rattle.lfs_model.proofs.OneCommit.{some_filled}
 
 -- ---- the two steps
 
@@ -246,11 +136,7 @@ module _ (t : KeptThread) (index id place : ℕ) (name : Name) (gone : ℕ) (ren
   dirs_are = front.is ∙ ap (λ z. front.front ++ front.before ∷ z ∷ (front.run ++ front.after)) first_is.1
 
   not_itself : p ≡ o → ⊥
-  not_itself e = no_slot l2 (sym held ∙ ap (λ (z : Pair). z.content.slots) e ∙ rename.empty)
-    where
-      no_slot : (xs : List Slot) → xs ++ target ∷ r2 ≡ [] → ⊥
-      no_slot [] k = absurd (cc)
-      no_slot (s ∷ xs) k = absurd (cc)
+  not_itself e = some_filled l2 r2 target (sym held ∙ ap (λ (z : Pair). z.content.slots) e ∙ rename.empty)
 
   -- ---- the first step
 
@@ -293,27 +179,36 @@ module _ (t : KeptThread) (index id place : ℕ) (name : Name) (gone : ℕ) (ren
       let none : occurrence_count_of_number b (file_blocks_of_slots t.disk (target ∷ [])) ≡ 0 = ap (λ z. occurrence_count_of_number b (file_blocks_of_slots t.disk (record target { struct = z } ∷ []))) over.branch in
       omega arith
 
-  pub replacing : IsReplacing t m (can.path ++ can.name ∷ []) (can.path ++ name ∷ []) over.to o gone
+  thread_now : m.pairs ≡ w.chain ++ (placed.front ++ placed.x ∷ o ∷ placed.back)
+  thread_now = pairs_now ∙ ap (λ z. w.chain ++ z) placed.there
+
+  chain_now : IsChain w.chain (placed.front ++ placed.x ∷ o ∷ placed.back)
+  chain_now = subst (IsChain w.chain) placed.there (step_chain t.disk m.disk w p [] q [] [] [] h.l h.olds h.news h.r stepped)
+
+  no_move_now : HasNoMove (gstate_of_pairs m.pairs)
+  no_move_now = subst HasNoMove (sym (ap gstate_of_pairs pairs_now ∙ gstate_now t index id place name over h)) (record { kind = refl; id = refl; pair = refl })
+
+  pub replacing : IsAllButDropped t m o gone (tree_after_rename (can.path ++ can.name ∷ []) (can.path ++ name ∷ [])) (directory_addresses_after_rename (can.path ++ can.name ∷ []) (can.path ++ name ∷ []))
   replacing = record {
     ready = can.ready;
     taken = taken_now;
-    state = ap gstate_of_pairs pairs_now ∙ gstate_now t index id place name over h;
+    no_move = no_move_now;
     chain = w.chain;
     front = placed.front;
     x = placed.x;
     back = placed.back;
-    there = pairs_now ∙ ap (λ z. w.chain ++ z) placed.there;
-    is_chain = subst (IsChain w.chain) placed.there (step_chain t.disk m.disk w p [] q [] [] [] h.l h.olds h.news h.r stepped);
+    there = thread_now;
+    is_chain = chain_now;
     number = (let a = length-append w.chain placed.front in let b = length-append w.chain front.front in let n = placed.number in let f = first_is.0 in omega arith);
     soft = placed.soft;
-    replaced = subst (λ z. IsReplaced (directory_address_at_path (entries_by_directory_in_thread z) (root_directory_address_of_pairs z)) from to over.to) (sym there)
+    drops = replaced_drops t m from to over.to w.chain placed.front placed.x o placed.back can.ready taken_now no_move_now thread_now chain_now
+        (subst (λ z. IsReplaced (directory_address_at_path (entries_by_directory_in_thread z) (root_directory_address_of_pairs z)) from to over.to) (sym there)
         (subst (λ (n : Name). IsReplaced (directory_address_at_path (entries_by_directory_in_thread (thread_at w (p ∷ []))) (root_directory_address_of_pairs (thread_at w (p ∷ [])))) from (can.path ++ n ∷ []) over.to) over.target.stands.named
         (replaced_by t.disk (thread_at w (p ∷ [])) can.path can.at (place_at w l2) target over.to from accepted leads entry_there over.branch empty
-        (ap (λ (n : Name). path_without_prefix from (can.path ++ n ∷ [])) over.target.stands.named ∙ apart)));
-    every = λ Q k. subst (λ z. All (λ y. Q y.at) (directories_in_thread z)) (sym pairs_now)
-        (step_each t.disk m.disk w p [] q [] [] [] h.l h.olds h.news h.r stepped can.path can.at leads same_begin Q (subst (λ z. All (λ y. Q y.at) (directories_in_thread z)) there k));
-    address = rename.at;
-    alone = rename.alone;
+        (ap (λ (n : Name). path_without_prefix from (can.path ++ n ∷ [])) over.target.stands.named ∙ apart))))
+        (λ Q k. subst (λ z. All (λ y. Q y.at) (directories_in_thread z)) (sym pairs_now)
+        (step_each t.disk m.disk w p [] q [] [] [] h.l h.olds h.news h.r stepped can.path can.at leads same_begin Q (subst (λ z. All (λ y. Q y.at) (directories_in_thread z)) there k)))
+        rename.at rename.alone;
     empty = rename.empty;
     used = subst (λ s. AreExactlyTheUsedBlocks s (used_blocks m.disk m.pairs)) (sym r.map) (used_same t.map (used_blocks t.disk t.pairs) (used_blocks m.disk m.pairs) used_now can.ready.used);
     size = ap length r.map ∙ can.ready.size ∙ sym r.written.shape.count;
@@ -326,7 +221,7 @@ module _ (t : KeptThread) (index id place : ℕ) (name : Name) (gone : ℕ) (ren
 
   module _ (new : KeptThread) (g : IsNextPairDropped m (gone - 1) zero_gstate new) where
     ended : IsWritableImageAfterTreeChange t.disk t.pairs new.disk new.pairs (tree_after_rename (can.path ++ can.name ∷ []) (can.path ++ name ∷ [])) (directory_addresses_after_rename (can.path ++ can.name ∷ []) (can.path ++ name ∷ []))
-    ended = taken_end t m from to over.to o gone replacing new g
+    ended = taken_end replacing new g
 
     laid : IsRenameWithinOnto t.disk new.disk new.pairs placed.b w.chain placed.one placed.mid placed.other p o q [] can.stands.stands.left u can.stands.stands.right h.x target h.y over.to
         (can.path ++ can.name ∷ []) (can.path ++ name ∷ []) name
@@ -350,7 +245,7 @@ module _ (t : KeptThread) (index id place : ℕ) (name : Name) (gone : ℕ) (ren
       soft = rename.alone;
       begins = placed.begins;
       apart = placed.apart;
-      alike = subst (λ z. ArePairsWithSameAddressesAndSlots (w.chain ++ z) new.pairs) (sym placed.are) (alike_end t m from to over.to o gone replacing new g);
+      alike = subst (λ z. ArePairsWithSameAddressesAndSlots (w.chain ++ z) new.pairs) (sym placed.are) (alike_end replacing new g);
       from_slot = subst (λ z. slot_of_path z from ≡ Some u) (there ∙ placed.were)
           (slot_of_stands t.disk t.pairs can.path can.at can.ready.accepted can.leads can.first index id can.name (no_move_from t.pairs can.ready.settled) can.stands can.begins);
       to_slot = subst (λ z. slot_of_path z to ≡ Some target) (there ∙ placed.were)
@@ -361,11 +256,11 @@ module _ (t : KeptThread) (index id place : ℕ) (name : Name) (gone : ℕ) (ren
 
     pub renamed_onto_directory : IsEntryRenamedOntoDirectory t new rename.over.can.path rename.over.can.name name
     renamed_onto_directory = record {
-      now = replaced_shrunk t m from to over.to o gone replacing new g;
+      now = shows_dropped replacing new g;
       completed = λ s given to_given tree given_is to_is. subst (λ z. IsImageAfterCompletedOperation t.disk z s (ops.Rename given to_given) new.disk new.pairs) (sym (there ∙ placed.were))
           (within_onto_completed t.disk new.disk new.pairs placed.b w.chain placed.one placed.mid placed.other p o q [] can.stands.stands.left u can.stands.stands.right h.x target h.y over.to from to name laid s given to_given
           (tree ∙ ap (tree_on_disk t.disk) (there ∙ placed.were)) given_is to_is);
     }
 
   pub left_within : (left : Blocks) → IsLeftByStoppedPairDrop m (gone - 1) zero_gstate left → IsLeftOf (disk_with_blocks left t.disk) (tree_on_disk t.disk t.pairs) (tree_with_renamed_entry t rename.over.can.path rename.over.can.name name)
-  left_within left g = left_last t m from to over.to o gone replacing left g
+  left_within left g = left_last replacing left g

@@ -1,5 +1,5 @@
 -- Which blocks an image uses after a commit: those that it used, and those of a pair that came.
-use Rattle.std.proofs.Common.{ℕ, ◌≡◌, ◌≢◌, ◌+◌, ◌≤◌, Bool, true, false, cond, eqb-true, eq-eqb, nat_eq, List, [], ◌∷◌, ◌++◌, length, Some, refl, sym, ap, subst, ◌∙◌, arith, append-nil, set, slice_get, length-set}
+use Rattle.std.proofs.Common.{ℕ, ◌≡◌, ◌≢◌, ◌+◌, ◌≤◌, Bool, true, false, cond, eqb-true, eq-eqb, nat_eq, List, [], ◌∷◌, ◌++◌, length, Some, refl, sym, ap, subst, ◌∙◌, arith, append-nil, set, slice_get, length-set, zero, suc}
 use Rattle.std.specs.Prelude.{Contains, ◌↔◌}
 use Rattle.std.specs.List.{flat_map}
 use Rattle.std.proofs.lemmas.List.Elements.{recursion_from_All}
@@ -26,19 +26,19 @@ use Rattle.lfs_operations.proofs.Taking.{within}
 
 -- ---- counting
 
-slots_append : (xs ys : List Pair) → slots_of_pairs_in_order (xs ++ ys) ≡ slots_of_pairs_in_order xs ++ slots_of_pairs_in_order ys
+pub slots_append : (xs ys : List Pair) → slots_of_pairs_in_order (xs ++ ys) ≡ slots_of_pairs_in_order xs ++ slots_of_pairs_in_order ys
 slots_append xs ys = flat_map-append (λ (p : Pair). p.content.slots) xs ys
 
-count_used : (b : ℕ) (disk : Disk) (ps : List Pair) → HasNoMove (gstate_of_pairs ps) → occurrence_count_of_number b (used_blocks disk ps) ≡ occurrence_count_of_number b (blocks_of_pairs ps) + occurrence_count_of_number b (file_blocks_of_slots disk (slots_of_pairs_in_order ps))
+pub count_used : (b : ℕ) (disk : Disk) (ps : List Pair) → HasNoMove (gstate_of_pairs ps) → occurrence_count_of_number b (used_blocks disk ps) ≡ occurrence_count_of_number b (blocks_of_pairs ps) + occurrence_count_of_number b (file_blocks_of_slots disk (slots_of_pairs_in_order ps))
 count_used b disk ps none = count_append b (blocks_of_pairs ps) (flat_map (λ s. skip_list_blocks_of_struct disk s.struct) (all_slots_not_moved ps))
     ∙ ap (λ z. occurrence_count_of_number b (blocks_of_pairs ps) + occurrence_count_of_number b (file_blocks_of_slots disk z)) (unmoved_in (gstate_of_pairs ps) none ps)
 
 -- the slots of a thread, by a site
-slots_at : (w : Site) (ps : List Pair) → slots_of_pairs_in_order (thread_at w ps) ≡ slots_of_pairs_in_order w.chain ++ (slots_of_pairs_in_order (w.before ++ w.left) ++ (slots_of_pairs_in_order ps ++ slots_of_pairs_in_order (w.right ++ w.after)))
+pub slots_at : (w : Site) (ps : List Pair) → slots_of_pairs_in_order (thread_at w ps) ≡ slots_of_pairs_in_order w.chain ++ (slots_of_pairs_in_order (w.before ++ w.left) ++ (slots_of_pairs_in_order ps ++ slots_of_pairs_in_order (w.right ++ w.after)))
 slots_at w ps = slots_append w.chain ((w.before ++ w.left) ++ (ps ++ (w.right ++ w.after)))
     ∙ ap (λ z. slots_of_pairs_in_order w.chain ++ z) (slots_append (w.before ++ w.left) (ps ++ (w.right ++ w.after)) ∙ ap (λ z. slots_of_pairs_in_order (w.before ++ w.left) ++ z) (slots_append ps (w.right ++ w.after)))
 
-count_at : (b : ℕ) (disk : Disk) (w : Site) (ps : List Pair) (l mid r : List Slot) → slots_of_pairs_in_order ps ≡ l ++ (mid ++ r) → occurrence_count_of_number b (file_blocks_of_slots disk (slots_of_pairs_in_order (thread_at w ps)))
+pub count_at : (b : ℕ) (disk : Disk) (w : Site) (ps : List Pair) (l mid r : List Slot) → slots_of_pairs_in_order ps ≡ l ++ (mid ++ r) → occurrence_count_of_number b (file_blocks_of_slots disk (slots_of_pairs_in_order (thread_at w ps)))
     ≡ occurrence_count_of_number b (file_blocks_of_slots disk (slots_of_pairs_in_order w.chain)) + (occurrence_count_of_number b (file_blocks_of_slots disk (slots_of_pairs_in_order (w.before ++ w.left)))
     + ((occurrence_count_of_number b (file_blocks_of_slots disk l) + (occurrence_count_of_number b (file_blocks_of_slots disk mid) + occurrence_count_of_number b (file_blocks_of_slots disk r))) + occurrence_count_of_number b (file_blocks_of_slots disk (slots_of_pairs_in_order (w.right ++ w.after)))))
 count_at b disk w ps l mid r e =
@@ -134,6 +134,17 @@ used_count_now disk new w p q more l olds news r gone come c blocks = turned_cou
     }) blocks
 
 -- ---- the map
+
+unlike : Some Free ≡ Some Used → ⊥
+unlike e = absurd (cc)
+
+-- a free block isn't among the used ones
+pub not_used : (sets : BlockStateList) (bs : List ℕ) → AreExactlyTheUsedBlocks sets bs → (b : ℕ) → IsBlockFree sets b → occurrence_count_of_number b bs ≡ 0
+not_used sets bs used b free = go (occurrence_count_of_number b bs) refl
+  where
+    go : (n : ℕ) → occurrence_count_of_number b bs ≡ n → n ≡ 0
+    go zero e = refl
+    go (suc n) e = absurd (unlike (sym free ∙ (used b).1 (Contains-occurrence_count_of_number bs b (omega arith))))
 
 -- where the image uses the same
 pub used_same : (sets : BlockStateList) (us vs : List ℕ) → ((b : ℕ) → occurrence_count_of_number b vs ≡ occurrence_count_of_number b us) → AreExactlyTheUsedBlocks sets us → AreExactlyTheUsedBlocks sets vs

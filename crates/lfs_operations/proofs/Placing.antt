@@ -1,21 +1,28 @@
 -- At a site of an accepted image a pair becomes others, on a disk where only its blocks and some that nobody owned differ.
-use Rattle.std.proofs.Common.{ℕ, ◌≡◌, ◌≢◌, ◌+◌, ◌≤◌, cond, nat_eq, List, [], ◌∷◌, ◌++◌, length, Some, refl, sym, ap, subst, ◌∙◌, arith, append_assoc, length-append}
+use Rattle.std.proofs.Common.{ℕ, ◌≡◌, ◌≢◌, ◌⊎◌, inl, inr, ◌+◌, ◌≤◌, true, cond, nat_eq, List, [], ◌∷◌, ◌++◌, take, Some, refl, sym, ap, subst, ◌∙◌, arith, append_assoc}
 use Rattle.std.specs.Prelude.{All}
 use Rattle.std.specs.List.{IsDistinct, flat_map}
 use Rattle.std.proofs.lemmas.List.{append-nil}
 use Rattle.std.proofs.lemmas.List.Elements.{All-from_recursion}
 use Rattle.std.proofs.lemmas.List.Concat.{flat_map-append}
 use Rattle.lfs_model.specs.Disk.{Disk, block_bytes_on_disk, SameGeometry}
-use Rattle.lfs_model.specs.Slots.{Slot}
+use Rattle.lfs_model.specs.Blocks.{Blocks}
+use Rattle.lfs_model.specs.declared.limits.Profile.{Profile}
+use Rattle.lfs_model.specs.PowerLoss.{HasTreeBeforeOrAfterOperation, disk_with_blocks}
+use Rattle.lfs_model.specs.Profile.{IsSlotWithinWritableLimits, IsWritableImage}
+use Rattle.lfs_model.specs.Slots.{IsContentFittingPair, Slot}
+use Rattle.lfs_model.specs.Steps.{DirectoryAddressByPath, IsWritableImageAfterTreeChange}
+use Rattle.lfs_model.specs.Tree.{Tree}
 use Rattle.lfs_model.specs.Content.{content_of_pair_at, current_block_of_pair_at}
-use Rattle.lfs_model.specs.Thread.{Pair, blocks_of_pairs, first_pair_address, pairs_from_first_with_slots, has_slots}
-use Rattle.lfs_model.specs.View.{BeginsWithLogEntry, superblock_name_log_entry, IsAcceptedImage, first_slot_name}
-use Rattle.lfs_model.specs.Shown.{all_slots_not_moved, used_blocks, skip_list_blocks_of_struct}
+use Rattle.lfs_model.specs.Thread.{Pair, blocks_of_pairs, first_pair_address, pair_count_before_root, pairs_from_first_with_slots, pairs_from_root_directory_on, has_slots, starts_with_superblock}
+use Rattle.lfs_model.specs.View.{BeginsWithLogEntry, superblock_name_log_entry, IsAcceptedImage, first_pair_slots, first_slot_name}
+use Rattle.lfs_model.specs.Shown.{all_slots_not_moved, tree_on_disk, used_blocks, skip_list_blocks_of_struct}
 use Rattle.lfs_model.proofs.Counts.{Each, occurrence_count_of_number, count_append, once_from_distinct, each_from_counted}
-use Rattle.lfs_model.proofs.Sites.{Site, thread_at, IsSite}
+use Rattle.lfs_model.proofs.Sites.{Site, thread_at}
 use Rattle.lfs_model.proofs.Splices.{IsDevice}
 use Rattle.lfs_model.proofs.Devices.{device_from, first_same}
 use Rattle.lfs_model.proofs.Changes.{IsImageAfterTreeChange}
+use Rattle.lfs_model.proofs.Found.{chain_of_thread}
 use Rattle.lfs_model.proofs.Superblocks.{Behind, FromSlots, InFront, IsChain, first_counted, from_front}
 use Rattle.lfs_model.proofs.Unchanged.{HasFirst, accepted_first, same_follows}
 
@@ -105,12 +112,34 @@ module _ (old disk : Disk) (w : Site) (p q : Pair) (more : List Pair) (extra : L
 -- ---- nothing came of it
 
 -- the disk has the thread and the files that it had: it is accepted as before, and shows the same tree
-pub nothing_came : (old disk : Disk) (w : Site) (p : Pair) → IsSite w (p ∷ []) → IsAcceptedImage old (thread_at w (p ∷ [])) → IsDevice old disk (thread_at w (p ∷ [])) (thread_at w (p ∷ []))
-    → IsImageAfterTreeChange old (thread_at w (p ∷ [])) disk (thread_at w (p ∷ [])) (λ t. t) (λ d. d)
-nothing_came old disk w p site ok device = go ((w.before ++ w.left) ++ p ∷ (w.right ++ w.after)) refl
+pub nothing_came : (old disk : Disk) (ps : List Pair) → IsAcceptedImage old ps → IsDevice old disk ps ps → IsImageAfterTreeChange old ps disk ps (λ t. t) (λ d. d)
+nothing_came old disk ps ok device = go (take (pair_count_before_root ps) ps) (pairs_from_root_directory_on ps) (chain_of_thread ps).0 (chain_of_thread ps).1 ok.root
   where
-    go : (behind : List Pair) → (w.before ++ w.left) ++ p ∷ (w.right ++ w.after) ≡ behind → IsImageAfterTreeChange old (thread_at w (p ∷ [])) disk (thread_at w (p ∷ [])) (λ t. t) (λ d. d)
-    go [] e = absurd (let l = ap length e in let k = length-append (w.before ++ w.left) (p ∷ (w.right ++ w.after)) in omega arith)
-    go (x ∷ rest) e = subst (λ z. IsImageAfterTreeChange old (w.chain ++ z) disk (w.chain ++ z) (λ t. t) (λ d. d)) (sym e)
-        (same_follows old disk w.chain x rest (subst (IsChain w.chain) e site.chain) (subst (λ z. IsAcceptedImage old (w.chain ++ z)) e ok)
-        (subst (λ z. IsDevice old disk (w.chain ++ z) (w.chain ++ z)) e device))
+    go : (chain rest : List Pair) → ps ≡ chain ++ rest → IsChain chain rest → starts_with_superblock (first_pair_slots rest) ≡ true → IsImageAfterTreeChange old ps disk ps (λ t. t) (λ d. d)
+    go chain [] e is_chain root = absurd (cc)
+    go chain (x ∷ rest) e is_chain root = subst (λ z. IsImageAfterTreeChange old z disk z (λ t. t) (λ d. d)) (sym e)
+        (same_follows old disk chain x rest is_chain (subst (IsAcceptedImage old) e ok) (subst (λ z. IsDevice old disk z z) e device))
+
+pub profile_same : (disk new : Disk) (ps : List Pair) → new.block_size ≡ disk.block_size → new.page ≡ disk.page → new.profile ≡ disk.profile → IsWritableImage disk ps → IsWritableImage new ps
+profile_same disk new ps e f g h = record {
+  pairs = subst (λ (n : ℕ). All (λ p. IsContentFittingPair n new.page p.content) ps) (sym e) (subst (λ (n : ℕ). All (λ p. IsContentFittingPair disk.block_size n p.content) ps) (sym f) h.pairs);
+  slots = subst (λ (x : Profile). All (λ p. All (IsSlotWithinWritableLimits x new.block_size new.page) p.content.slots) ps) (sym g)
+      (subst (λ (n : ℕ). All (λ p. All (IsSlotWithinWritableLimits disk.profile n new.page) p.content.slots) ps) (sym e) (subst (λ (n : ℕ). All (λ p. All (IsSlotWithinWritableLimits disk.profile disk.block_size n) p.content.slots) ps) (sym f) h.slots));
+  no_empty_pair = h.no_empty_pair;
+}
+
+-- ---- at a stop
+
+either : {A B C D : Type 0} → (A → C) → (B → D) → A ⊎ B → C ⊎ D
+either f g (inl a) = inl (f a)
+either f g (inr b) = inr (g b)
+
+-- what is left has the thread after the step
+pub left_after : {old new : Disk} {ps qs : List Pair} {change : Tree → Tree} {walk : DirectoryAddressByPath → DirectoryAddressByPath} {before after : Tree} → IsWritableImageAfterTreeChange old ps new qs change walk
+    → (change (tree_on_disk old ps) ≡ before) ⊎ (change (tree_on_disk old ps) ≡ after) → HasTreeBeforeOrAfterOperation new before after
+left_after {qs = qs} f shows = record { pairs = qs; accepted = f.follows.accepted; writable = f.writable; tree = either (λ e. f.follows.shows ∙ e) (λ e. f.follows.shows ∙ e) shows }
+
+-- or the thread that was there
+pub left_still : (old : Disk) (left : Blocks) (ps : List Pair) {before after : Tree} → IsAcceptedImage old ps → IsWritableImage old ps → IsDevice old (disk_with_blocks left old) ps ps → (tree_on_disk old ps ≡ before) ⊎ (tree_on_disk old ps ≡ after)
+    → HasTreeBeforeOrAfterOperation (disk_with_blocks left old) before after
+left_still old left ps ok writable device = left_after (record { follows = nothing_came old (disk_with_blocks left old) ps ok device; writable = profile_same old (disk_with_blocks left old) ps refl refl refl writable })

@@ -89,7 +89,7 @@ module _ (t : KeptThread) (index : ℕ) (fresh : ℕ × ℕ) (changes : List Pai
 
 -- ---- what it tells
 
-same_err : {A : Type 0} (a b : Error) (r : Result A Error) → r ≡ Err a → r ≡ Err b → a ≡ b
+pub same_err : {A : Type 0} (a b : Error) (r : Result A Error) → r ≡ Err a → r ≡ Err b → a ≡ b
 same_err a b r h k = cc
 
 pub not_both : {A : Type 0} (r : Result A Error) (a : A) (e : Error) → r ≡ Ok a → r ≡ Err e → ⊥

@@ -1,101 +1,22 @@
--- What the commits of a recovery make of a pair.
-use Rattle.std.proofs.Common.{ℕ, ◌≡◌, ◌<◌, ◌&&◌, ◌==◌, not, Bool, true, false, cond, List, [], ◌∷◌, Option, Some, None, refl, sym, ap, subst, ◌∙◌, arith, get_or, length, nat_eq, remove, zero, suc}
-use Rattle.std.specs.Option.{option_and_then, option_map}
-use Rattle.std.proofs.lemmas.Nat.{xor_lt}
+-- What a commit makes of a pair that sets the global state.
+use Rattle.std.proofs.Common.{ℕ, ◌≡◌, ◌<◌, List, [], ◌∷◌, Some, refl, sym, ap, subst, ◌∙◌, arith, get_or, length, zero, suc}
+use Rattle.std.specs.Option.{option_and_then}
 use Rattle.std.proofs.lemmas.Option.{same_Some}
 use Rattle.std.proofs.lemmas.List.Elements.{recursion_from_All}
-use Rattle.lfs_model.specs.Changes.{PairContentChange, Delete, PutMove, PutTail, raw_pair_content_after_changes}
-use Rattle.lfs_model.specs.Content.{RawPairContent, RawSlot, pair_content_if_slots_complete, content_after_log_entry, content_after_log_entries, content_of_pair_at, current_block_of_pair_at, empty_raw_pair_content, raw_content_of_pair_at, slots_after_log_entry}
-use Rattle.lfs_model.specs.EntryTypes.{gstate_of_bytes, hard_tail_type, has_tag_id_if_needed, is_tag_of_known_type_and_length, pair_address_of_bytes, tail_of_log_entry, tail_to_pair_if_any}
-use Rattle.lfs_model.specs.Disk.{Disk}
-use Rattle.lfs_model.specs.Log.{LogEntry, log_entries_of_block}
-use Rattle.lfs_model.specs.LoggedContent.{Are32BitPairAddresses, AreMoveStateFieldsWithinBitWidths, is_null_pair}
-use Rattle.lfs_model.specs.Slots.{PairContent, IsContentFittingPair, Gstate, Tail, gstate_xor, zero_gstate}
-use Rattle.lfs_model.specs.Tag.{abstract_type_of_tag, type_of_tag}
-use Rattle.lfs_model.specs.Thread.{Pair, gstate_of_pairs, pair_address_named_by_tail, slots_not_moved}
-use Rattle.lfs_model.specs.View.{IsAcceptedImage}
-use Rattle.lfs_model.proofs.Completed.{complete_length, complete_remove, completed_from, completed_parts}
-use Rattle.lfs_model.proofs.Counts.{Each}
-use Rattle.lfs_model.proofs.Effects.{deletes, does_first, does_nothing, ends_tail, puts_move, puts_tail}
-use Rattle.lfs_model.proofs.Global.{gstate_cons}
-use Rattle.lfs_model.proofs.Pairs.{pair_itself}
-use Rattle.lfs_model.proofs.RecoveredImage.{fits_unmoved}
+use Rattle.lfs_model.specs.Changes.{PutMove, raw_pair_content_after_changes}
+use Rattle.lfs_model.specs.Content.{RawPairContent, pair_content_if_slots_complete, content_of_pair_at, raw_content_of_pair_at}
+use Rattle.lfs_model.specs.LoggedContent.{AreMoveStateFieldsWithinBitWidths}
+use Rattle.lfs_model.specs.Slots.{IsContentFittingPair, Gstate, gstate_xor}
+use Rattle.lfs_model.specs.Thread.{Pair, gstate_of_pairs}
+use Rattle.lfs_model.proofs.Completed.{completed_from, completed_parts}
+use Rattle.lfs_model.proofs.Counts.{Each, each_weaker}
+use Rattle.lfs_model.proofs.Effects.{does_first, does_nothing, puts_move}
 use Rattle.lfs_thread.specs.Kept.{KeptThread}
-use Rattle.lfs_thread.specs.Steps.{CanChangePair, CanDropNextPair, IsCommitRefused, complete_content_after_changes, empty_pair_at_anchor, thread_pair_at_index}
-use Rattle.lfs_operations.specs.Deltas.{CanSetGstateInPair, CanTakeOverNextPair, FitsGstateFields, Is32BitPairAddressIfSome, has_hard_tail_at, gstate_setting_changes, delta_reaching_gstate, delta_after_taking_over_next_pair, next_pair_takeover_changes, pair_named_by_optional_tail}
-use Rattle.lfs_operations.specs.EndingMove.{CanRemoveMovedSlot, remove_moved_slot_changes}
+use Rattle.lfs_thread.specs.Steps.{CanChangePair, IsCommitRefused, complete_content_after_changes, empty_pair_at_anchor, thread_pair_at_index}
+use Rattle.lfs_operations.specs.Deltas.{CanSetGstateInPair, gstate_setting_changes, delta_reaching_gstate, content_reaching_gstate}
 use Rattle.lfs_operations.proofs.Held.{completes_to}
-
--- ---- what a log can come to
-
--- a tail doesn't name two null addresses
-abbrev IsNamed : Option Tail → Type 0
-IsNamed None = Unit {0}
-IsNamed (Some t) = is_null_pair t.to ≡ false
-
-record IsKnown (c : RawPairContent) : Type 0 where
-  fields : FitsGstateFields c.move
-  tail : IsNamed c.tail
-
-named_with : (hard : Bool) (to : ℕ × ℕ) → IsNamed (tail_to_pair_if_any hard to)
-named_with hard to = go (is_null_pair to) refl
-  where
-    go : (b : Bool) → is_null_pair to ≡ b → IsNamed (cond b None (Some (record { hard = hard; to = to })))
-    go true n = tt
-    go false n = n
-
-known_tail : (e : LogEntry) → IsNamed (tail_of_log_entry e)
-known_tail e = named_with (type_of_tag e.tag == hard_tail_type) (pair_address_of_bytes e.bytes)
-
-known_after : (c : RawPairContent) (e : LogEntry) (d : RawPairContent) → IsKnown c → content_after_log_entry c e ≡ Some d → IsKnown d
-known_after c e d h is = go (abstract_type_of_tag e.tag == 5) (is_tag_of_known_type_and_length e.tag) (has_tag_id_if_needed e.tag) (abstract_type_of_tag e.tag == 6) (abstract_type_of_tag e.tag == 7) (slots_after_log_entry c.slots e) is
-  where
-    go : (five t i six seven : Bool) (slots : Option (List RawSlot))
-        → cond five (Some c) (cond (not (t && i)) None (cond six (Some (record c { tail = tail_of_log_entry e })) (cond seven (Some (record c { move = gstate_of_bytes e.bytes })) (option_map (λ all. record c { slots = all }) slots)))) ≡ Some d
-        → IsKnown d
-    go true t i six seven slots f = subst IsKnown (same_Some c d f) h
-    go false false i six seven slots f = absurd (cc)
-    go false true false six seven slots f = absurd (cc)
-    go false true true true seven slots f = subst IsKnown (same_Some _ d f) (record { fields = h.fields; tail = known_tail e })
-    go false true true false true slots f = subst IsKnown (same_Some _ d f) (record { fields = record { kind = omega arith; id = omega arith }; tail = h.tail })
-    go false true true false false None f = absurd (cc)
-    go false true true false false (Some all) f = subst IsKnown (same_Some _ d f) (record { fields = h.fields; tail = h.tail })
-
-known_after_all : (c : RawPairContent) (es : List LogEntry) (d : RawPairContent) → IsKnown c → content_after_log_entries c es ≡ Some d → IsKnown d
-known_after_all c [] d h is = subst IsKnown (same_Some c d is) h
-known_after_all c (e ∷ es) d h is = go (content_after_log_entry c e) refl is (λ b k. known_after_all b es d k)
-  where
-    go : (o : Option RawPairContent) → content_after_log_entry c e ≡ o → option_and_then (λ b. content_after_log_entries b es) o ≡ Some d → ((b : RawPairContent) → IsKnown b → content_after_log_entries b es ≡ Some d → IsKnown d) → IsKnown d
-    go None f g more = absurd (cc)
-    go (Some b) f g more = more b (known_after c e b h f) g
-
-known_at : (disk : Disk) (at : ℕ × ℕ) (raw : RawPairContent) → raw_content_of_pair_at disk at ≡ Some raw → IsKnown raw
-known_at disk at raw is = go (current_block_of_pair_at disk at) is
-  where
-    go : (o : Option (List ℕ)) → option_and_then (λ block. content_after_log_entries empty_raw_pair_content (log_entries_of_block block)) o ≡ Some raw → IsKnown raw
-    go None e = absurd (cc)
-    go (Some block) e = known_after_all empty_raw_pair_content (log_entries_of_block block) raw (record { fields = record { kind = omega arith; id = omega arith }; tail = tt }) e
-
--- ---- deltas
-
-pub xor_fits : (a b : Gstate) → FitsGstateFields a → FitsGstateFields b → FitsGstateFields (gstate_xor a b)
-xor_fits a b h k = record { kind = xor_lt 11 a.kind b.kind h.kind k.kind; id = xor_lt 10 a.id b.id h.id k.id }
-
-pub none_fits : FitsGstateFields zero_gstate
-none_fits = record { kind = omega arith; id = omega arith }
-
-content_fits : (disk : Disk) (at : ℕ × ℕ) (c : PairContent) → content_of_pair_at disk at ≡ Some c → FitsGstateFields c.move
-content_fits disk at c is =
-    let k = completes_to (raw_content_of_pair_at disk at) c is in
-    subst FitsGstateFields (sym (completed_parts k.raw c k.complete).move) (known_at disk at k.raw k.is).fields
-
-state_fits : (ps : List Pair) → Each (λ p. FitsGstateFields p.content.move) ps → FitsGstateFields (gstate_of_pairs ps)
-state_fits [] h = none_fits
-state_fits (p ∷ ps) h = subst FitsGstateFields (sym (gstate_cons p ps)) (xor_fits p.content.move (gstate_of_pairs ps) h.0 (state_fits ps h.1))
-
-each_fits : (disk : Disk) (ps : List Pair) → Each (λ p. content_of_pair_at disk p.at ≡ Some p.content) ps → Each (λ p. FitsGstateFields p.content.move) ps
-each_fits disk [] h = tt
-each_fits disk (p ∷ ps) h = (content_fits disk p.at p.content h.0, each_fits disk ps h.1)
+use Rattle.lfs_operations.proofs.DroppedTails.{all_again, move_xor, moves_joined, IsWritableAgain}
+use Rattle.lfs_device.specs.Bytes.{AreAllBlockElementsBelow256}
 
 -- what holds of each pair holds of the one at an index
 pub each_at : (P : Pair → Type 0) (ps : List Pair) (index : ℕ) → index < length ps → Each P ps → P (get_or ps index empty_pair_at_anchor)
@@ -103,178 +24,43 @@ each_at P [] index low h = absurd (omega arith)
 each_at P (p ∷ ps) zero low h = h.0
 each_at P (p ∷ ps) (suc index) low h = each_at P ps index (omega arith) h.1
 
-module _ (t : KeptThread) (ok : IsAcceptedImage t.disk t.pairs) where
-  all_hold : Each (λ p. content_of_pair_at t.disk p.at ≡ Some p.content) t.pairs
-  all_hold = recursion_from_All (λ (p : Pair). content_of_pair_at t.disk p.at ≡ Some p.content) t.pairs ok.thread.contents
-
-  pub thread_fits : FitsGstateFields (gstate_of_pairs t.pairs)
-  thread_fits = state_fits t.pairs (each_fits t.disk t.pairs all_hold)
-
-  pub holds_at : (index : ℕ) → index < length t.pairs → content_of_pair_at t.disk (thread_pair_at_index t index).at ≡ Some (thread_pair_at_index t index).content
-  holds_at index low = each_at (λ p. content_of_pair_at t.disk p.at ≡ Some p.content) t.pairs index low all_hold
-
-  pub fits_at : (index : ℕ) → index < length t.pairs → FitsGstateFields (thread_pair_at_index t index).content.move
-  fits_at index low = content_fits t.disk (thread_pair_at_index t index).at (thread_pair_at_index t index).content (holds_at index low)
-
-  pub delta_fits : (index : ℕ) (g : Gstate) → index < length t.pairs → FitsGstateFields g → FitsGstateFields (delta_reaching_gstate t index g)
-  delta_fits index g low h = xor_fits (gstate_xor g (gstate_of_pairs t.pairs)) (thread_pair_at_index t index).content.move (xor_fits g (gstate_of_pairs t.pairs) h thread_fits) (fits_at index low)
-
-  pub tail_named : (index : ℕ) → index < length t.pairs → IsNamed (thread_pair_at_index t index).content.tail
-  tail_named index low =
-      let k = completes_to (raw_content_of_pair_at t.disk (thread_pair_at_index t index).at) (thread_pair_at_index t index).content (holds_at index low) in
-      subst IsNamed (sym (completed_parts k.raw (thread_pair_at_index t index).content k.complete).tail) (known_at t.disk (thread_pair_at_index t index).at k.raw k.is).tail
-
--- ---- another delta
-
--- the pair with another delta
-abbrev pub with_move : PairContent → Gstate → PairContent
-with_move c m = record { slots = c.slots; tail = c.tail; move = m }
-
--- the tail that is taken over, as a hard one or a soft one
-abbrev pub taken_tail : Bool → Option Tail → Option Tail
-taken_tail hard None = None
-taken_tail hard (Some t) = Some (record { hard = hard; to = t.to })
-
-abbrev pub with_tail : PairContent → Option Tail → Gstate → PairContent
-with_tail c t m = record { slots = c.slots; tail = t; move = m }
-
-small_state : (g : Gstate) → FitsGstateFields g → Are32BitPairAddresses g.pair → AreMoveStateFieldsWithinBitWidths g
-small_state g h a = record { kind = h.kind; id = h.id; pair = a }
-
-raw_tail : (raw : RawPairContent) (hard : Bool) (tail : Option Tail) (rest : List PairContentChange) (e : RawPairContent) → IsNamed tail → Is32BitPairAddressIfSome (pair_named_by_optional_tail tail)
-    → raw_pair_content_after_changes (record raw { tail = taken_tail hard tail }) rest ≡ Some e → raw_pair_content_after_changes raw (PutTail hard (pair_named_by_optional_tail tail) ∷ rest) ≡ Some e
-raw_tail raw hard None rest e n a h = does_first (PutTail hard None) rest raw (record raw { tail = None }) e (ends_tail raw hard) h
-raw_tail raw hard (Some t) rest e n a h = does_first (PutTail hard (Some t.to)) rest raw (record raw { tail = tail_to_pair_if_any hard t.to }) e (puts_tail raw hard t.to a)
-    (ap (λ b. raw_pair_content_after_changes (record raw { tail = cond b None (Some (record { hard = hard; to = t.to })) }) rest) n ∙ h)
-
-abbrev pub set_content : KeptThread → ℕ → Gstate → PairContent
-set_content t index g = with_move (thread_pair_at_index t index).content (delta_reaching_gstate t index g)
-
-module _ (t : KeptThread) (index : ℕ) (g : Gstate) (can : CanSetGstateInPair t index g) (address : Are32BitPairAddresses (delta_reaching_gstate t index g).pair) where
+module _ (t : KeptThread) (index : ℕ) (g : Gstate) (can : CanSetGstateInPair t index g) (bytes : AreAllBlockElementsBelow256 t.disk.blocks) where
   abbrev p : Pair
   p = thread_pair_at_index t index
 
-  pub set_made : complete_content_after_changes t index (gstate_setting_changes t index g) ≡ Some (set_content t index g)
+  all_hold : Each (λ p. content_of_pair_at t.disk p.at ≡ Some p.content) t.pairs
+  all_hold = recursion_from_All (λ (p : Pair). content_of_pair_at t.disk p.at ≡ Some p.content) t.pairs can.accepted.thread.contents
+
+  again : Each (λ p. IsWritableAgain p.content) t.pairs
+  again = all_again t.disk t.pairs bytes all_hold
+
+  delta_fits : AreMoveStateFieldsWithinBitWidths (delta_reaching_gstate t index g)
+  delta_fits = move_xor (gstate_xor g (gstate_of_pairs t.pairs)) p.content.move
+      (move_xor g (gstate_of_pairs t.pairs) can.storable (moves_joined t.pairs (each_weaker (λ (p : Pair). IsWritableAgain p.content) (λ (p : Pair). AreMoveStateFieldsWithinBitWidths p.content.move) (λ p h. h.move) t.pairs again)))
+      (each_at (λ p. IsWritableAgain p.content) t.pairs index can.below again).move
+
+  pub set_made : complete_content_after_changes t index (gstate_setting_changes t index g) ≡ Some (content_reaching_gstate t index g)
   set_made =
-      let k = completes_to (raw_content_of_pair_at t.disk p.at) p.content (holds_at t can.accepted index can.below) in
+      let k = completes_to (raw_content_of_pair_at t.disk p.at) p.content (each_at (λ p. content_of_pair_at t.disk p.at ≡ Some p.content) t.pairs index can.below all_hold) in
       let parts = completed_parts k.raw p.content k.complete in
       let now = record k.raw { move = delta_reaching_gstate t index g } in
       ap (λ o. option_and_then pair_content_if_slots_complete (option_and_then (λ (x : RawPairContent). raw_pair_content_after_changes x (gstate_setting_changes t index g)) o)) k.is
       ∙ ap (λ o. option_and_then pair_content_if_slots_complete o) (does_first (PutMove (delta_reaching_gstate t index g)) [] k.raw now now
-      (puts_move k.raw (delta_reaching_gstate t index g) (small_state (delta_reaching_gstate t index g) (delta_fits t can.accepted index g can.below can.fields) address)) (does_nothing now))
+      (puts_move k.raw (delta_reaching_gstate t index g) delta_fits) (does_nothing now))
       ∙ completed_from now p.content.slots parts.slots
       ∙ ap (λ tail. Some (record { slots = p.content.slots; tail = tail; move = delta_reaching_gstate t index g })) (sym parts.tail)
 
   pub can_set : CanChangePair t index (gstate_setting_changes t index g)
-  can_set = record { below = can.below; content = set_content t index g; made = set_made; next = refl }
+  can_set = record { below = can.below; content = content_reaching_gstate t index g; made = set_made; next = refl }
 
-  pub set_fits : IsContentFittingPair t.disk.block_size t.disk.page (set_content t index g)
+  pub set_fits : IsContentFittingPair t.disk.block_size t.disk.page (content_reaching_gstate t index g)
   set_fits =
       let f = each_at (λ x. IsContentFittingPair t.disk.block_size t.disk.page x.content) t.pairs index can.below
       (recursion_from_All (λ (x : Pair). IsContentFittingPair t.disk.block_size t.disk.page x.content) t.pairs can.writable.pairs) in
       record { size = f.size; count = f.count }
 
--- ---- a tail and a delta taken over
+-- ---- it is never refused
 
-abbrev pub over_content : KeptThread → ℕ → ℕ → Gstate → PairContent
-over_content t index behind g = with_tail (thread_pair_at_index t index).content (taken_tail (has_hard_tail_at t index && has_hard_tail_at t behind) (thread_pair_at_index t behind).content.tail) (delta_after_taking_over_next_pair t index behind g)
-
-module _ (t : KeptThread) (index behind : ℕ) (g : Gstate) (can : CanTakeOverNextPair t index behind g) (address : Are32BitPairAddresses (delta_after_taking_over_next_pair t index behind g).pair)
-    (words : Is32BitPairAddressIfSome (pair_named_by_optional_tail (thread_pair_at_index t behind).content.tail)) where
-  abbrev first : Pair
-  first = thread_pair_at_index t index
-
-  abbrev next : Pair
-  next = thread_pair_at_index t behind
-
-  abbrev hard : Bool
-  hard = has_hard_tail_at t index && has_hard_tail_at t behind
-
-  below_first : index < length t.pairs
-  below_first = let l = can.below in let n = can.next in omega arith
-
-  over_fields : FitsGstateFields (delta_after_taking_over_next_pair t index behind g)
-  over_fields = xor_fits (delta_reaching_gstate t index g) next.content.move (delta_fits t can.accepted index g below_first can.fields) (fits_at t can.accepted behind can.below)
-
-  pub over_made : complete_content_after_changes t index (next_pair_takeover_changes t index behind g) ≡ Some (over_content t index behind g)
-  over_made =
-      let k = completes_to (raw_content_of_pair_at t.disk first.at) first.content (holds_at t can.accepted index below_first) in
-      let parts = completed_parts k.raw first.content k.complete in
-      let mid : RawPairContent = record k.raw { tail = taken_tail hard next.content.tail } in
-      let now : RawPairContent = record k.raw { tail = taken_tail hard next.content.tail; move = delta_after_taking_over_next_pair t index behind g } in
-      ap (λ o. option_and_then pair_content_if_slots_complete (option_and_then (λ (x : RawPairContent). raw_pair_content_after_changes x (next_pair_takeover_changes t index behind g)) o)) k.is
-      ∙ ap (λ o. option_and_then pair_content_if_slots_complete o) (raw_tail k.raw hard next.content.tail (PutMove (delta_after_taking_over_next_pair t index behind g) ∷ []) now (tail_named t can.accepted behind can.below) words
-      (does_first (PutMove (delta_after_taking_over_next_pair t index behind g)) [] mid now now (puts_move mid (delta_after_taking_over_next_pair t index behind g) (small_state (delta_after_taking_over_next_pair t index behind g) over_fields address)) (does_nothing now)))
-      ∙ completed_from now first.content.slots parts.slots
-
-  pub can_drop : CanDropNextPair t index (next_pair_takeover_changes t index behind g)
-  can_drop = record {
-    below = let l = can.below in let n = can.next in omega arith;
-    content = over_content t index behind g;
-    made = over_made;
-    next = same next.content.tail ∙ ap (λ (i : ℕ). pair_address_named_by_tail (thread_pair_at_index t i).content.tail) can.next;
-  }
-    where
-      same : (tail : Option Tail) → pair_address_named_by_tail (taken_tail hard tail) ≡ pair_address_named_by_tail tail
-      same None = refl
-      same (Some x) = refl
-
-  pub over_fits : IsContentFittingPair t.disk.block_size t.disk.page (over_content t index behind g)
-  over_fits =
-      let f = each_at (λ x. IsContentFittingPair t.disk.block_size t.disk.page x.content) t.pairs index below_first
-      (recursion_from_All (λ (x : Pair). IsContentFittingPair t.disk.block_size t.disk.page x.content) t.pairs can.writable.pairs) in
-      record { size = f.size; count = f.count }
-
--- ---- neither is refused
-
-pub set_not_refused : (t : KeptThread) (index : ℕ) (g : Gstate) → CanSetGstateInPair t index g → Are32BitPairAddresses (delta_reaching_gstate t index g).pair → (new : KeptThread) → IsCommitRefused t index (gstate_setting_changes t index g) new → ⊥
-set_not_refused t index g can address new is =
-    is.too_large (subst (IsContentFittingPair t.disk.block_size t.disk.page) (sym (same_Some is.content (set_content t index g) (sym is.made ∙ set_made t index g can address))) (set_fits t index g can address))
-
-pub over_not_refused : (t : KeptThread) (index behind : ℕ) (g : Gstate) → CanTakeOverNextPair t index behind g → Are32BitPairAddresses (delta_after_taking_over_next_pair t index behind g).pair → Is32BitPairAddressIfSome (pair_named_by_optional_tail (thread_pair_at_index t behind).content.tail)
-    → (new : KeptThread) → IsCommitRefused t index (next_pair_takeover_changes t index behind g) new → ⊥
-over_not_refused t index behind g can address words new is =
-    is.too_large (subst (IsContentFittingPair t.disk.block_size t.disk.page) (sym (same_Some is.content (over_content t index behind g) (sym is.made ∙ over_made t index behind g can address words)))
-    (over_fits t index behind g can address words))
-
--- ---- a slot goes
-
-abbrev pub without_content : KeptThread → ℕ → ℕ → Gstate → PairContent
-without_content t index id g = record { slots = remove (thread_pair_at_index t index).content.slots id; tail = (thread_pair_at_index t index).content.tail; move = delta_reaching_gstate t index g }
-
-module _ (t : KeptThread) (index id : ℕ) (g : Gstate) (take : CanRemoveMovedSlot t index id g) where
-  abbrev the_pair : Pair
-  the_pair = thread_pair_at_index t index
-
-  pair_fits : IsContentFittingPair t.disk.block_size t.disk.page the_pair.content
-  pair_fits = each_at (λ x. IsContentFittingPair t.disk.block_size t.disk.page x.content) t.pairs index take.can.below
-      (recursion_from_All (λ (x : Pair). IsContentFittingPair t.disk.block_size t.disk.page x.content) t.pairs take.can.writable.pairs)
-
-  pub take_made : Are32BitPairAddresses (delta_reaching_gstate t index g).pair → complete_content_after_changes t index (remove_moved_slot_changes t index id g) ≡ Some (without_content t index id g)
-  take_made address =
-      let k = completes_to (raw_content_of_pair_at t.disk the_pair.at) the_pair.content (holds_at t take.can.accepted index take.can.below) in
-      let parts = completed_parts k.raw the_pair.content k.complete in
-      let few = pair_fits.count in
-      let n = complete_length k.raw.slots the_pair.content.slots parts.slots in
-      let low = take.below in
-      let first : RawPairContent = record k.raw { slots = remove k.raw.slots id } in
-      let now : RawPairContent = record k.raw { slots = remove k.raw.slots id; move = delta_reaching_gstate t index g } in
-      ap (λ o. option_and_then pair_content_if_slots_complete (option_and_then (λ (x : RawPairContent). raw_pair_content_after_changes x (remove_moved_slot_changes t index id g)) o)) k.is
-      ∙ ap (λ o. option_and_then pair_content_if_slots_complete o) (does_first (Delete id) (PutMove (delta_reaching_gstate t index g) ∷ []) k.raw first now (deletes k.raw id (omega arith) (omega arith))
-      (does_first (PutMove (delta_reaching_gstate t index g)) [] first now now
-      (puts_move first (delta_reaching_gstate t index g) (small_state (delta_reaching_gstate t index g) (delta_fits t take.can.accepted index g take.can.below take.can.fields) address)) (does_nothing now)))
-      ∙ completed_from now (remove the_pair.content.slots id) (complete_remove k.raw.slots the_pair.content.slots id parts.slots)
-      ∙ ap (λ tail. Some (record { slots = remove the_pair.content.slots id; tail = tail; move = delta_reaching_gstate t index g })) (sym parts.tail)
-
-  pub can_take_slot : Are32BitPairAddresses (delta_reaching_gstate t index g).pair → CanChangePair t index (remove_moved_slot_changes t index id g)
-  can_take_slot address = record { below = take.can.below; content = without_content t index id g; made = take_made address; next = refl }
-
-  pub take_fits : IsContentFittingPair t.disk.block_size t.disk.page (without_content t index id g)
-  take_fits =
-      let hide : Gstate = record { sync = false; kind = 0x4ff; id = id; pair = the_pair.at } in
-      let f = fits_unmoved t.disk hide the_pair pair_fits in
-      let e : slots_not_moved hide the_pair ≡ remove the_pair.content.slots id = ap (λ b. cond (nat_eq 0x4ff 0x4ff && b) (remove the_pair.content.slots id) the_pair.content.slots) (pair_itself the_pair.at) in
-      subst (λ slots. IsContentFittingPair t.disk.block_size t.disk.page (record { slots = slots; tail = the_pair.content.tail; move = delta_reaching_gstate t index g })) e (record { size = f.size; count = f.count })
-
-  pub take_not_refused : Are32BitPairAddresses (delta_reaching_gstate t index g).pair → (new : KeptThread) → IsCommitRefused t index (remove_moved_slot_changes t index id g) new → ⊥
-  take_not_refused address new is = is.too_large (subst (IsContentFittingPair t.disk.block_size t.disk.page) (sym (same_Some is.content (without_content t index id g) (sym is.made ∙ take_made address))) take_fits)
+pub set_not_refused : (t : KeptThread) (index : ℕ) (g : Gstate) → CanSetGstateInPair t index g → AreAllBlockElementsBelow256 t.disk.blocks → (new : KeptThread) → IsCommitRefused t index (gstate_setting_changes t index g) new → ⊥
+set_not_refused t index g can bytes new is =
+    is.too_large (subst (IsContentFittingPair t.disk.block_size t.disk.page) (sym (same_Some is.content (content_reaching_gstate t index g) (sym is.made ∙ set_made t index g can bytes))) (set_fits t index g can bytes))

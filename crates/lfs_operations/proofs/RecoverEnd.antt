@@ -7,7 +7,6 @@ use Rattle.lfs_device.specs.declared.error.Error.{Error}
 use Rattle.lfs_model.specs.Blocks.{Blocks}
 use Rattle.lfs_model.specs.Disk.{SameGeometry, block_bytes_on_disk}
 use Rattle.lfs_model.specs.History.{DeviceCallEvent, fault_count_of_history}
-use Rattle.lfs_model.specs.LoggedContent.{Are32BitPairAddresses}
 use Rattle.lfs_model.specs.PowerLoss.{HasTreeBeforeOrAfterOperation as IsLeftOf, SurvivesPowerLossInCallsSince, disk_with_blocks}
 use Rattle.lfs_model.specs.Layout.{directory_address_continued_by_hard_tail}
 use Rattle.lfs_model.specs.Recovery.{IsNothingLeftToRecover}
@@ -32,8 +31,8 @@ use Rattle.lfs_model.proofs.StepsTaken.{IsWritableImageAfterTreeChange}
 use Rattle.lfs_model.proofs.Superblocks.{pairs_behind}
 use Rattle.lfs_thread.specs.Device.{PowerLossLeavesSuchBlocksAfterCleanErases}
 use Rattle.lfs_thread.specs.Kept.{KeptThread, ThreadView}
-use Rattle.lfs_thread.specs.Steps.{IsPairChanged, PowerLossLeavesPairOldOrChanged, IsPairWrittenOnDisk, ThreadChangesOnlyTheseBlocks, thread_pairs_with_content_replaced_at_index}
-use Rattle.lfs_operations.specs.Deltas.{CanSetGstateInPair, gstate_setting_changes, delta_reaching_gstate}
+use Rattle.lfs_thread.specs.Steps.{IsPairChanged, PowerLossLeavesPairOldOrChanged, IsPairWrittenOnDisk, ThreadChangesOnlyTheseBlocks, thread_pairs_with_content_replaced_at_index, complete_content_after_changes}
+use Rattle.lfs_operations.specs.Deltas.{CanSetGstateInPair, gstate_setting_changes, content_reaching_gstate}
 use Rattle.lfs_operations.specs.Recovering.{AreUnreachedPairNumbers, AreUnreachedPairNumbersFrom, CanClearSyncBit, HasDroppedUnreachedPairsAndRecovered, IsSyncBitCleared, ReportsErrorsOfRecovery, list_blocks_of_numbered_pairs, slots_of_numbered_pairs}
 use Rattle.lfs_operations.specs.Dropping.{HasSameBlocksInFlight}
 use Rattle.lfs_operations.specs.Removing.{ReportsErrorsOfCommitTakingNoBlock}
@@ -41,10 +40,10 @@ use Rattle.lfs_operations.proofs.Removed.{reports_again}
 use Rattle.lfs_operations.proofs.RecoverLists.{each_at, files_kept, reported_once}
 use Rattle.lfs_operations.proofs.RecoverLoop.{EachBegins, IsAtDrop, IsAtEnd, all_where, begins_weaker, goes_to}
 use Rattle.lfs_operations.proofs.RecoverMap.{HasMap, alike_blocks, files_stay, map_stays}
-use Rattle.lfs_operations.proofs.RecoverDeltas.{none_fits, set_content, set_made}
 use Rattle.lfs_operations.proofs.RecoverSteps.{CanClear, clear_alike, clear_left, clear_pairs, clear_state, clear_taken, device_on, h, y}
 use Rattle.lfs_operations.proofs.RecoverUnderWay.{IsUnderWay, StaysOn}
 use Rattle.lfs_operations.proofs.RootStays.{alike_stays}
+use Rattle.lfs_operations.proofs.DroppedTails.{no_move_state}
 
 -- ---- the sync bit
 
@@ -92,11 +91,11 @@ module _ (t : KeptThread) (can : CanClearSyncBit t) where
     }
 
     pub can_set_last : CanSetGstateInPair t index zero_gstate
-    can_set_last = record { accepted = can.accepted; writable = can.writable; below = omega arith; fields = none_fits }
+    can_set_last = record { accepted = can.accepted; writable = can.writable; below = omega arith; storable = no_move_state }
 
-    pub cleared : (new : KeptThread) → Are32BitPairAddresses (delta_reaching_gstate t index zero_gstate).pair → IsPairChanged t index (gstate_setting_changes t index zero_gstate) new → IsSyncBitCleared t new
-    cleared new address c =
-        let same = same_Some c.content (set_content t index zero_gstate) (sym c.made ∙ set_made t index zero_gstate can_set_last address) in
+    pub cleared : (new : KeptThread) → complete_content_after_changes t index (gstate_setting_changes t index zero_gstate) ≡ Some (content_reaching_gstate t index zero_gstate) → IsPairChanged t index (gstate_setting_changes t index zero_gstate) new → IsSyncBitCleared t new
+    cleared new made c =
+        let same = same_Some c.content (content_reaching_gstate t index zero_gstate) (sym c.made ∙ made) in
         let written = subst (λ x. IsPairWrittenOnDisk t index x new.disk) same c.written in
         let pairs : new.pairs ≡ thread_at (h t index can_clear).site (y t index can_clear ∷ []) = c.pairs ∙ ap (thread_pairs_with_content_replaced_at_index t index) same ∙ clear_pairs t index can_clear in
         record {
@@ -107,9 +106,9 @@ module _ (t : KeptThread) (can : CanClearSyncBit t) where
           files = subst (λ z. All (λ s. HasSameFileBlocksOfStructOnDisks t.disk new.disk s.struct) (all_slots_not_moved z)) (sym (h t index can_clear).is) (device_on t index can_clear new.disk written).files;
         }
 
-    pub clear_survives : (new : List DeviceCallEvent) → Are32BitPairAddresses (delta_reaching_gstate t index zero_gstate).pair → PowerLossLeavesSuchBlocksAfterCleanErases t.history new (PowerLossLeavesPairOldOrChanged t index (gstate_setting_changes t index zero_gstate))
+    pub clear_survives : (new : List DeviceCallEvent) → complete_content_after_changes t index (gstate_setting_changes t index zero_gstate) ≡ Some (content_reaching_gstate t index zero_gstate) → PowerLossLeavesSuchBlocksAfterCleanErases t.history new (PowerLossLeavesPairOldOrChanged t index (gstate_setting_changes t index zero_gstate))
         → SurvivesPowerLossInCallsSince t.disk t.history new (tree_on_disk t.disk t.pairs) (tree_on_disk t.disk t.pairs)
-    clear_survives new address stops clean = IsTrueAfterAnyPowerLossSince-weaker (λ left x. clear_left t index can_clear can_set_last address left x) (stops clean)
+    clear_survives new made stops clean = IsTrueAfterAnyPowerLossSince-weaker (λ left x. clear_left t index can_clear made left x) (stops clean)
 
 -- ---- all pairs were seen
 

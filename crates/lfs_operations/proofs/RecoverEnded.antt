@@ -1,105 +1,163 @@
--- A set move that was ended: the map, and what is known of the thread.
-use Rattle.std.proofs.Common.{ℕ, ◌≡◌, ◌+◌, ◌-◌, true, false, List, [], ◌∷◌, length, sym, ap, subst, subst₂, ◌∙◌, arith, length-append, remove}
-use Rattle.std.proofs.lemmas.Option.{same_Some}
+-- A recovery ends a set move: which pair the step is about, and what it comes to.
+use Rattle.std.proofs.Common.{ℕ, ◌≡◌, ◌≢◌, ◌≤◌, ◌<◌, ◌+◌, ◌-◌, ◌⊎◌, inl, inr, ◌&&◌, ◌==◌, Bool, true, false, List, [], ◌∷◌, ◌++◌, length, take, refl, sym, ap, ap₂, subst, ◌∙◌, arith, append_assoc, length-append, eqb-true, eq-eqb, nat_lt}
+use Rattle.std.proofs.lemmas.Bool.{and_parts, cases_lt, lt-ltb}
+use Rattle.std.proofs.lemmas.List.Elements.{recursion_from_All}
 use Rattle.lfs_model.specs.BlockSets.{AreExactlyTheUsedBlocks}
-use Rattle.lfs_model.specs.History.{DeviceCallEvent}
-use Rattle.lfs_model.specs.LoggedContent.{Are32BitPairAddresses}
-use Rattle.lfs_model.specs.PowerLoss.{SurvivesPowerLossInCallsSince}
-use Rattle.lfs_model.specs.Slots.{Gstate}
-use Rattle.lfs_model.specs.SlotEdits.{pairs_without_moved_slot}
-use Rattle.lfs_model.specs.Thread.{blocks_of_pairs, gstate_of_pairs, pair_count_before_root}
-use Rattle.lfs_model.specs.Shown.{tree_on_disk, used_blocks}
+use Rattle.lfs_model.specs.Shown.{used_blocks}
+use Rattle.lfs_model.specs.Thread.{Pair, gstate_of_pairs, is_hard_tail, pair_count_before_root}
+use Rattle.lfs_model.specs.View.{HasSuperblockIfAnySlot}
 use Rattle.lfs_model.proofs.Counts.{occurrence_count_of_number, once_from_distinct}
 use Rattle.lfs_model.proofs.Global.{HasNoMove}
-use Rattle.lfs_model.proofs.Histories.{IsTrueAfterAnyPowerLossSince-weaker}
-use Rattle.lfs_model.proofs.StepsTaken.{IsWritableImageAfterTreeChange}
-use Rattle.lfs_thread.specs.Device.{PowerLossLeavesSuchBlocksAfterCleanErases}
+use Rattle.lfs_model.proofs.Indexes.{HasSite, site_of_number}
+use Rattle.lfs_model.proofs.Pairs.{pair_back}
+use Rattle.lfs_model.proofs.Writable.{ends_in_hard_tail}
 use Rattle.lfs_thread.specs.Kept.{KeptThread}
-use Rattle.lfs_thread.specs.Steps.{IsPairChanged, IsPairAfterIndexDropped, PowerLossLeavesPairOldOrChanged, IsPairWrittenOnDisk, thread_pair_at_index, thread_pairs_with_content_replaced_at_index, block_map_with_freed_pair}
-use Rattle.lfs_operations.specs.Deltas.{CanTakeOverNextPair, Is32BitPairAddressIfSome, delta_reaching_gstate, delta_after_taking_over_next_pair, next_pair_takeover_changes, pair_named_by_optional_tail}
-use Rattle.lfs_operations.specs.EndingMove.{CanEndMove, CanRemoveMovedSlot, HasEndedMove, HasMovedSlotInPair, has_one_slot_after_hard_tail, remove_moved_slot_changes, gstate_without_move}
-use Rattle.lfs_operations.proofs.Owning.{used_same}
+use Rattle.lfs_thread.specs.Steps.{thread_pair_at_index}
+use Rattle.lfs_operations.specs.Deltas.{has_hard_tail_at}
 use Rattle.lfs_operations.specs.Dropping.{HasSameBlocksInFlight}
-use Rattle.lfs_operations.proofs.RecoverBefore.{AreKin, go_alike, laid_out_gap, laid_out_kin}
-use Rattle.lfs_operations.proofs.RecoverGoes.{gone, gone_is, goes_ahead, goes_behind, goes_chain, goes_gap, goes_hidden, goes_is, goes_left, goes_low, goes_pairs, goes_split, goes_state, goes_taken, goes_used, next}
-use Rattle.lfs_operations.proofs.RecoverMap.{HasMap, frees_flies, map_frees}
-use Rattle.lfs_operations.proofs.RecoverDeltas.{over_content, over_made, take_made, without_content}
-use Rattle.lfs_operations.proofs.RecoverStays.{h, stays_chain, stays_kin, stays_left, stays_pairs, stays_state, stays_taken, stays_used, unset_fits, unset_is}
+use Rattle.lfs_operations.specs.EndingMove.{CanEndMove, HasEndedMove, HasMovedSlotInPair, has_one_slot_after_hard_tail}
+use Rattle.lfs_operations.specs.MoveEnds.{CanEndMoveAt, HasEndedMoveAt, blocks_dropped_at_move_end, is_pair_named_by_hard_tail, map_after_move_ends, pair_written_at_move_end}
+use Rattle.lfs_operations.specs.Ready.{IsRawPairContentWellFormed}
+use Rattle.lfs_operations.proofs.Dropped.{flying_same, length_fewer, used_fewer}
+use Rattle.lfs_operations.proofs.DroppedTails.{front_is}
+use Rattle.lfs_operations.proofs.MovEnding.{led_is}
+use Rattle.lfs_operations.proofs.Owning.{used_same}
+use Rattle.lfs_operations.proofs.RecoverMoved.{heads, in_directory}
+use Rattle.lfs_operations.proofs.RemovedWhole.{last_pair, flag_last, only_slot}
+
+pub written_below : (t : KeptThread) (index : ℕ) (goes : Bool) → index < length t.pairs → pair_written_at_move_end index goes < length t.pairs
+written_below t index true low = omega arith
+written_below t index false low = low
+
+-- the map, once the step is done
+record IsMapEnded (t new : KeptThread) : Type 0 where
+  used : AreExactlyTheUsedBlocks new.map (used_blocks new.disk new.pairs)
+  size : length new.map ≡ length t.map
+  flying : HasSameBlocksInFlight t.map new.map
 
 module _ (t : KeptThread) (can : CanEndMove t) (index : ℕ) (m : HasMovedSlotInPair t index) where
-  abbrev g : Gstate
-  g = gstate_without_move (gstate_of_pairs t.pairs)
+  h : HasSite t.pairs index
+  h = site_of_number t.disk t.pairs index can.accepted (in_directory t index can.accepted m) m.below
 
-  pub can_take : CanRemoveMovedSlot t index (gstate_of_pairs t.pairs).id g
-  can_take = record {
-    can = record { accepted = can.accepted; writable = can.writable; below = m.below; fields = unset_fits (gstate_of_pairs t.pairs) };
-    below = let a = ap length m.held in let b = length-append m.left (m.slot ∷ m.right) in let n = m.number in omega arith;
+  abbrev front : List Pair
+  front = h.site.before ++ h.site.left
+
+  abbrev back : List Pair
+  back = h.site.right ++ h.site.after
+
+  -- ---- whether a hard tail names the pair
+
+  named : is_pair_named_by_hard_tail t.pairs index ≡ ends_in_hard_tail false front
+  named = ap (λ z. is_pair_named_by_hard_tail z index) h.is ∙ led_is h.site h.pair index h.is_site.chain h.number
+
+  before_is : (l : List Pair) (z : Pair) → front ≡ l ++ z ∷ [] → thread_pair_at_index t (index - 1) ≡ z
+  before_is l z e = front_is t (index - 1) (h.site.chain ++ l) z h.pair back
+      (h.is ∙ ap (λ y. h.site.chain ++ (y ++ h.pair ∷ back)) e ∙ ap (λ y. h.site.chain ++ y) (append_assoc l (z ∷ []) (h.pair ∷ back)) ∙ sym (append_assoc h.site.chain l (z ∷ h.pair ∷ back)))
+      (let n = h.number in let a = length-append h.site.chain front in let b = ap length e in let c = length-append l (z ∷ []) in let d = length-append h.site.chain l in omega arith)
+
+  front_led : front ≢ [] → is_pair_named_by_hard_tail t.pairs index ≡ has_hard_tail_at t (index - 1)
+  front_led some =
+      let l = last_pair front some in
+      named ∙ ap (ends_in_hard_tail false) l.is ∙ flag_last l.front l.last false ∙ ap (λ (z : Pair). is_hard_tail z.content.tail) (sym (before_is l.front l.last l.is))
+
+  abbrev goes : Bool
+  goes = has_one_slot_after_hard_tail t index
+
+  stays : has_one_slot_after_hard_tail t index ≡ false → is_pair_named_by_hard_tail t.pairs index ≡ true → 1 < length (thread_pair_at_index t index).content.slots
+  stays alone led = go (cases_lt 1 (length (thread_pair_at_index t index).content.slots))
+    where
+      some : front ≢ []
+      some none = absurd (let z = sym (named ∙ ap (ends_in_hard_tail false) none) ∙ led in cc)
+
+      above : 0 < index
+      above =
+          let l = last_pair front some in
+          let a = ap length l.is in
+          let b = length-append l.front (l.last ∷ []) in
+          let c = length-append h.site.chain front in
+          let n = h.number in
+          omega arith
+
+      go : (1 < length (thread_pair_at_index t index).content.slots) ⊎ (length (thread_pair_at_index t index).content.slots ≤ 1) → 1 < length (thread_pair_at_index t index).content.slots
+      go (inl many) = many
+      go (inr few) =
+          let one : (length (thread_pair_at_index t index).content.slots == 1) ≡ true = eq-eqb (length (thread_pair_at_index t index).content.slots) 1
+          (let a = ap length m.held in let b = length-append m.left (m.slot ∷ m.right) in omega arith) in
+          absurd (let z = sym alone ∙ ap₂ (λ a b. a && (b && has_hard_tail_at t (index - 1))) (lt-ltb 0 index above) one ∙ sym (front_led some) ∙ led in cc)
+
+  alone : has_one_slot_after_hard_tail t index ≡ true → (is_pair_named_by_hard_tail t.pairs index ≡ true) × (length (thread_pair_at_index t index).content.slots ≡ 1)
+  alone whole = (front_led some ∙ parts.1, single)
+    where
+      parts : ((length (thread_pair_at_index t index).content.slots == 1) ≡ true) × (has_hard_tail_at t (index - 1) ≡ true)
+      parts = and_parts (length (thread_pair_at_index t index).content.slots == 1) (has_hard_tail_at t (index - 1)) (and_parts (nat_lt 0 index) (length (thread_pair_at_index t index).content.slots == 1 && has_hard_tail_at t (index - 1)) whole).1
+
+      single : length (thread_pair_at_index t index).content.slots ≡ 1
+      single = eqb-true (length (thread_pair_at_index t index).content.slots) 1 parts.0
+
+      slots_are : (thread_pair_at_index t index).content.slots ≡ m.slot ∷ []
+      slots_are = m.held ∙ only_slot m.left m.right m.slot (sym (ap length m.held) ∙ single)
+
+      -- the pair isn't the root's first, which has a superblock
+      later : (pair_count_before_root t.pairs < index) ⊎ (index ≤ pair_count_before_root t.pairs) → pair_count_before_root t.pairs < index
+      later (inl l) = l
+      later (inr l) = absurd (let k = (subst (HasSuperblockIfAnySlot t.disk.profile.versions can.accepted.superblock.0) slots_are
+          (heads (λ p. HasSuperblockIfAnySlot t.disk.profile.versions can.accepted.superblock.0 p.content.slots) (pair_count_before_root t.pairs + 1) t.pairs index (omega arith) m.below
+          (recursion_from_All (λ (p : Pair). HasSuperblockIfAnySlot t.disk.profile.versions can.accepted.superblock.0 p.content.slots) (take (pair_count_before_root t.pairs + 1) t.pairs) can.accepted.superblock.1.1))).0 in
+          let z = sym k ∙ m.other in cc)
+
+      some : front ≢ []
+      some none =
+          let l = later (cases_lt (pair_count_before_root t.pairs) index) in
+          let c = ap pair_count_before_root h.is ∙ h.is_site.chain in
+          let a = length-append h.site.chain front in
+          let b = ap length none in
+          let n = h.number in
+          absurd (omega arith)
+
+  pub can_at : IsRawPairContentWellFormed t.disk (thread_pair_at_index t index).at → CanEndMoveAt t index (gstate_of_pairs t.pairs).id (has_one_slot_after_hard_tail t index)
+  can_at logged = record {
+    accepted = can.accepted;
+    writable = can.writable;
+    begins = in_directory t index can.accepted m;
+    below = m.below;
+    logged = logged;
+    kind = m.kind;
+    named = pair_back (thread_pair_at_index t index).at (gstate_of_pairs t.pairs).pair m.same;
+    id_is = refl;
+    name = m.slot.name;
+    stands = record { left = m.left; slot = m.slot; right = m.right; held = m.held; number = m.number; entry = m.other; named = refl };
+    stays = stays;
+    alone = alone;
   }
 
-  pub ended_stays : has_one_slot_after_hard_tail t index ≡ false → Are32BitPairAddresses (delta_reaching_gstate t index g).pair → (new : KeptThread) → IsPairChanged t index (remove_moved_slot_changes t index (gstate_of_pairs t.pairs).id g) new → HasEndedMove t new
-  ended_stays alone address new is =
-      let same = same_Some is.content (without_content t index (gstate_of_pairs t.pairs).id g) (sym is.made ∙ take_made t index (gstate_of_pairs t.pairs).id g can_take address) in
-      let written = subst (λ c. IsPairWrittenOnDisk t index c new.disk) same is.written in
-      let pairs = is.pairs ∙ ap (thread_pairs_with_content_replaced_at_index t index) same ∙ stays_pairs t can index m in
-      let taken = subst₂ (λ a b. IsWritableImageAfterTreeChange t.disk a new.disk b (λ t. t) (λ d. d)) (sym (h t can index m).is) (sym pairs) (stays_taken t can index m can_take alone new.disk written) in
-      let root = ap pair_count_before_root pairs ∙ stays_chain t can index m new.disk written in
-      let none = subst HasNoMove (sym (ap gstate_of_pairs pairs ∙ stays_state t can index m)) (unset_is (gstate_of_pairs t.pairs)) in
-      record {
-        taken = taken;
-        none = none;
-        used = subst (λ s. AreExactlyTheUsedBlocks s (used_blocks new.disk new.pairs)) (sym is.map)
-            (used_same t.map (used_blocks t.disk t.pairs) (used_blocks new.disk new.pairs) (λ b. ap (λ z. occurrence_count_of_number b (used_blocks new.disk z)) pairs ∙ stays_used t can index m new.disk written b) can.used);
-        size = ap length is.map ∙ can.size ∙ sym is.written.shape.count;
-        fewer = λ b. let e = ap (λ z. occurrence_count_of_number b (used_blocks new.disk z)) pairs in let u = stays_used t can index m new.disk written b in omega arith;
-        flying = subst (HasSameBlocksInFlight t.map) (sym is.map) (λ b. ((λ flies. flies), (λ flies. flies)));
-        root = root;
-        leads_on = laid_out_kin t new (go_alike t new taken.follows is.written.shape) none root
-            (subst (AreKin (pairs_without_moved_slot t.pairs)) (sym pairs) (stays_kin t can index m));
+  -- ---- what it comes to
+
+  pub ended_at : (new : KeptThread) → HasEndedMoveAt t index (gstate_of_pairs t.pairs).id (has_one_slot_after_hard_tail t index) new → HasEndedMove t new
+  ended_at new e = record {
+    taken = e.taken;
+    none = subst HasNoMove (sym e.state) (record { kind = refl; id = refl; pair = refl });
+    used = map_is.used;
+    size = map_is.size ∙ can.size ∙ sym e.shape.count;
+    fewer = λ b. let u = e.blocks b in omega arith;
+    flying = map_is.flying;
+    root = e.root;
+    leads_on = e.leads_on;
+  }
+    where
+      once : (b : ℕ) → occurrence_count_of_number b (used_blocks t.disk t.pairs) ≤ 1
+      once b = once_from_distinct (used_blocks t.disk t.pairs) can.accepted.owned_once b
+
+      go : (b : Bool) → new.map ≡ map_after_move_ends t index b → ((k : ℕ) → occurrence_count_of_number k (used_blocks new.disk new.pairs) + occurrence_count_of_number k (blocks_dropped_at_move_end t index b) ≡ occurrence_count_of_number k (used_blocks t.disk t.pairs)) → IsMapEnded t new
+      go false is same = record {
+        used = subst (λ s. AreExactlyTheUsedBlocks s (used_blocks new.disk new.pairs)) (sym is) (used_same t.map (used_blocks t.disk t.pairs) (used_blocks new.disk new.pairs) (λ k. let u = same k in omega arith) can.used);
+        size = ap length is;
+        flying = subst (HasSameBlocksInFlight t.map) (sym is) (λ k. ((λ f. f), (λ f. f)));
+      }
+      go true is same = record {
+        used = subst (λ s. AreExactlyTheUsedBlocks s (used_blocks new.disk new.pairs)) (sym is) (used_fewer t.map (thread_pair_at_index t index).at (used_blocks t.disk t.pairs) (used_blocks new.disk new.pairs) can.used once same);
+        size = ap length is ∙ length_fewer t.map (thread_pair_at_index t index).at (used_blocks t.disk t.pairs) (used_blocks new.disk new.pairs) can.used once same;
+        flying = subst (HasSameBlocksInFlight t.map) (sym is) (flying_same t.map (thread_pair_at_index t index).at (used_blocks t.disk t.pairs) (used_blocks new.disk new.pairs) can.used once same);
       }
 
-  pub survives_stays : has_one_slot_after_hard_tail t index ≡ false → Are32BitPairAddresses (delta_reaching_gstate t index g).pair → (new : List DeviceCallEvent) → PowerLossLeavesSuchBlocksAfterCleanErases t.history new (PowerLossLeavesPairOldOrChanged t index (remove_moved_slot_changes t index (gstate_of_pairs t.pairs).id g))
-      → SurvivesPowerLossInCallsSince t.disk t.history new (tree_on_disk t.disk t.pairs) (tree_on_disk t.disk t.pairs)
-  survives_stays alone address new stops clean = IsTrueAfterAnyPowerLossSince-weaker (λ left x. stays_left t can index m can_take alone address left x) (stops clean)
-
-  module _ (alone : has_one_slot_after_hard_tail t index ≡ true) where
-    pub can_over : CanTakeOverNextPair t (index - 1) index g
-    can_over = record { accepted = can.accepted; writable = can.writable; next = next t can index m alone; below = m.below; fields = unset_fits (gstate_of_pairs t.pairs) }
-
-    start : HasMap t []
-    start = record {
-      owned = used_blocks t.disk t.pairs;
-      are = can.used;
-      same = λ b. omega arith;
-      once = λ b. once_from_distinct (used_blocks t.disk t.pairs) can.accepted.owned_once b;
-      size = can.size;
-    }
-
-    pub ended_goes : Are32BitPairAddresses (delta_after_taking_over_next_pair t (index - 1) index g).pair → Is32BitPairAddressIfSome (pair_named_by_optional_tail (thread_pair_at_index t index).content.tail) → (new : KeptThread) → IsPairAfterIndexDropped t (index - 1) (next_pair_takeover_changes t (index - 1) index g) new → HasEndedMove t new
-    ended_goes address words new is =
-        let same = same_Some is.content (over_content t (index - 1) index g) (sym is.made ∙ over_made t (index - 1) index g can_over address words) in
-        let written = subst (λ c. IsPairWrittenOnDisk t (index - 1) c new.disk) same is.written in
-        let pairs = is.pairs ∙ ap (λ c. remove (thread_pairs_with_content_replaced_at_index t (index - 1) c) (index - 1 + 1)) same ∙ goes_pairs t can index m alone in
-        let map_is : new.map ≡ block_map_with_freed_pair t.map (gone t can index m alone).at = is.map ∙ ap (block_map_with_freed_pair t.map) (gone_is t can index m alone) in
-        let owned = map_frees t new (gone t can index m alone) []
-        (λ b. let e = ap (λ z. occurrence_count_of_number b (used_blocks new.disk z)) pairs in let u = goes_used t can index m alone new.disk written b in omega arith) [] map_is is.written.shape.count start in
-        let taken = subst₂ (λ a b. IsWritableImageAfterTreeChange t.disk a new.disk b (λ t. t) (λ d. d)) (sym (goes_is t can index m alone)) (sym pairs) (goes_taken t can index m alone new.disk written) in
-        let root = ap pair_count_before_root pairs ∙ goes_chain t can index m alone new.disk written in
-        let none = subst HasNoMove (sym (ap gstate_of_pairs pairs ∙ goes_state t can index m alone)) (unset_is (gstate_of_pairs t.pairs)) in
-        let used : (b : ℕ) → occurrence_count_of_number b (used_blocks new.disk new.pairs) + (occurrence_count_of_number b (blocks_of_pairs ((gone t can index m alone) ∷ [])) + occurrence_count_of_number b []) ≡ occurrence_count_of_number b (used_blocks t.disk t.pairs)
-        = λ b. ap (λ z. occurrence_count_of_number b (used_blocks new.disk z) + (occurrence_count_of_number b (blocks_of_pairs ((gone t can index m alone) ∷ [])) + occurrence_count_of_number b [])) pairs ∙ goes_used t can index m alone new.disk written b in
-        let alike = go_alike t new taken.follows is.written.shape in
-        record {
-          taken = taken;
-          none = none;
-          used = used_same new.map owned.owned (used_blocks new.disk new.pairs) (λ b. let s = owned.same b in omega arith) owned.are;
-          size = owned.size;
-          fewer = λ b. let u = used b in omega arith;
-          flying = subst (HasSameBlocksInFlight t.map) (sym map_is) (frees_flies t new (gone t can index m alone) [] used [] start);
-          root = root;
-          leads_on = laid_out_gap t new alike none root
-              _ _ _ _ _ _ _ (goes_hidden t can index m alone) (pairs ∙ goes_split t can index m alone) (goes_low t can index m alone) (goes_ahead t can index m alone) (goes_gap t can index m alone) (goes_behind t can index m alone);
-        }
-
-    pub survives_goes : Are32BitPairAddresses (delta_after_taking_over_next_pair t (index - 1) index g).pair → Is32BitPairAddressIfSome (pair_named_by_optional_tail (thread_pair_at_index t index).content.tail) → (new : List DeviceCallEvent)
-        → PowerLossLeavesSuchBlocksAfterCleanErases t.history new (PowerLossLeavesPairOldOrChanged t (index - 1) (next_pair_takeover_changes t (index - 1) index g)) → SurvivesPowerLossInCallsSince t.disk t.history new (tree_on_disk t.disk t.pairs) (tree_on_disk t.disk t.pairs)
-    survives_goes address words new stops clean = IsTrueAfterAnyPowerLossSince-weaker (λ left x. goes_left t can index m alone can_over address words left x) (stops clean)
+      map_is : IsMapEnded t new
+      map_is = go (has_one_slot_after_hard_tail t index) e.map e.blocks

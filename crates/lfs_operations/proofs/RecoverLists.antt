@@ -17,8 +17,8 @@ use Rattle.lfs_model.proofs.Splices.{file_blocks_of_slots, slots_of_pairs_in_ord
 use Rattle.lfs_thread.specs.Kept.{KeptThread}
 use Rattle.lfs_thread.specs.Steps.{ThreadChangesOnlyTheseBlocks, empty_pair_at_anchor}
 use Rattle.lfs_operations.specs.Recovering.{AreUnreachedPairNumbersFrom, list_blocks_of_numbered_pairs, slots_of_numbered_pairs}
-use Rattle.lfs_operations.proofs.RecoverMap.{count_used}
 use Rattle.lfs_operations.proofs.RecoverWrites.{none_there}
+use Rattle.lfs_operations.proofs.Owning.{count_used}
 
 -- ---- numbers
 

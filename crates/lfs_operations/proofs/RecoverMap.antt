@@ -1,15 +1,13 @@
 -- Which blocks the map has on the way: those of the image, and those of lists that only pairs had that are gone.
 use Rattle.std.proofs.Common.{ℕ, ◌≡◌, ◌≢◌, ◌+◌, ◌<◌, ◌≤◌, Bool, true, false, cond, nat_eq, eqb-true, List, [], ◌∷◌, ◌++◌, length, Some, refl, sym, ap, ap₂, subst, ◌∙◌, arith, set, slice_get, length-set}
 use Rattle.std.specs.Prelude.{Contains, ◌↔◌}
-use Rattle.std.specs.List.{flat_map}
 use Rattle.std.proofs.lemmas.Bool.{eqb-false}
-use Rattle.std.proofs.lemmas.List.Concat.{flat_map-append}
 use Rattle.lfs_model.specs.BlockSets.{AreExactlyTheUsedBlocks, IsBlockMarkedUsedInMap}
 use Rattle.lfs_model.specs.BlockSets.BlockState.{Free, Used}
-use Rattle.lfs_model.specs.Disk.{Disk, SameGeometry, block_count}
+use Rattle.lfs_model.specs.Disk.{SameGeometry, block_count}
 use Rattle.lfs_model.specs.Slots.{Slot}
 use Rattle.lfs_model.specs.Thread.{Pair, blocks_of_pairs, gstate_of_pairs}
-use Rattle.lfs_model.specs.Shown.{all_slots_not_moved, skip_list_blocks_of_struct, used_blocks}
+use Rattle.lfs_model.specs.Shown.{all_slots_not_moved, used_blocks}
 use Rattle.lfs_model.proofs.Alike.{ArePairsWithSameAddressesAndSlots}
 use Rattle.lfs_model.proofs.BlockSets.{Contains-occurrence_count_of_number, occurrence_count_of_number-Contains, slice_get-set_other, slice_get-set_same}
 use Rattle.lfs_model.proofs.Changes.{SameFiles, slots_files}
@@ -23,6 +21,7 @@ use Rattle.lfs_operations.specs.Dropping.{HasSameBlocksInFlight}
 use Rattle.lfs_operations.proofs.Dropped.{flying_same}
 use Rattle.lfs_operations.proofs.Placing.{blocks_append}
 use Rattle.lfs_operations.proofs.Taking.{within}
+use Rattle.lfs_operations.proofs.Owning.{slots_append, count_used}
 
 -- the map has the image's blocks and those that are gone, each once
 pub record HasMap (t : KeptThread) (gone : List ℕ) : Type 0 where
@@ -31,13 +30,6 @@ pub record HasMap (t : KeptThread) (gone : List ℕ) : Type 0 where
   pub same : (b : ℕ) → occurrence_count_of_number b owned ≡ occurrence_count_of_number b (used_blocks t.disk t.pairs) + occurrence_count_of_number b gone
   pub once : (b : ℕ) → occurrence_count_of_number b owned ≤ 1
   pub size : length t.map ≡ block_count t.disk
-
-slots_append : (xs ys : List Pair) → slots_of_pairs_in_order (xs ++ ys) ≡ slots_of_pairs_in_order xs ++ slots_of_pairs_in_order ys
-slots_append xs ys = flat_map-append (λ (p : Pair). p.content.slots) xs ys
-
-pub count_used : (b : ℕ) (disk : Disk) (ps : List Pair) → HasNoMove (gstate_of_pairs ps) → occurrence_count_of_number b (used_blocks disk ps) ≡ occurrence_count_of_number b (blocks_of_pairs ps) + occurrence_count_of_number b (file_blocks_of_slots disk (slots_of_pairs_in_order ps))
-count_used b disk ps none = count_append b (blocks_of_pairs ps) (flat_map (λ s. skip_list_blocks_of_struct disk s.struct) (all_slots_not_moved ps))
-    ∙ ap (λ z. occurrence_count_of_number b (blocks_of_pairs ps) + occurrence_count_of_number b (file_blocks_of_slots disk z)) (unmoved_in (gstate_of_pairs ps) none ps)
 
 -- ---- the blocks of a pair are freed
 

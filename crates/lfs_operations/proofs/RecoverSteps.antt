@@ -1,18 +1,16 @@
 -- The steps of a recovery, on the disk that they write and on those that a stop leaves.
-use Rattle.std.proofs.Common.{ℕ, ◌≡◌, ◌+◌, ◌<◌, ◌≤◌, ◌⊎◌, inl, inr, ◌&&◌, Bool, true, false, List, [], ◌∷◌, ◌++◌, length, Option, Some, None, refl, sym, ap, ap₂, subst, ◌∙◌, arith, length-append}
+use Rattle.std.proofs.Common.{ℕ, ◌≡◌, ◌<◌, ◌≤◌, ◌⊎◌, inl, inr, true, false, List, [], ◌∷◌, ◌++◌, length, Some, refl, sym, ap, ap₂, subst, ◌∙◌, arith, length-append, append_assoc, subst₂}
 use Rattle.std.proofs.lemmas.Option.{same_Some}
 use Rattle.lfs_model.specs.Blocks.{Blocks}
 use Rattle.lfs_model.specs.Disk.{Disk}
-use Rattle.lfs_model.specs.LoggedContent.{Are32BitPairAddresses}
 use Rattle.lfs_model.specs.PowerLoss.{HasTreeBeforeOrAfterOperation as IsLeftOf, disk_with_blocks}
-use Rattle.lfs_model.specs.Slots.{IsContentFittingPair, Gstate, Tail, zero_gstate, same_pair}
+use Rattle.lfs_model.specs.Slots.{IsContentFittingPair, Gstate, zero_gstate, same_pair}
 use Rattle.lfs_model.specs.Thread.{Pair, gstate_of_pairs, is_hard_tail, pair_count_before_root}
 use Rattle.lfs_model.specs.Tree.{Path}
 use Rattle.lfs_model.specs.View.{IsAcceptedImage}
 use Rattle.lfs_model.specs.Profile.{IsWritableImage}
 use Rattle.lfs_model.specs.Shown.{IsPathToDirectory, tree_on_disk}
 use Rattle.lfs_model.proofs.Alike.{ArePairsWithSameAddressesAndSlots, alike_append, alike_itself}
-use Rattle.lfs_model.proofs.Drops.{softened}
 use Rattle.lfs_model.proofs.Global.{HasNoMove}
 use Rattle.lfs_model.proofs.Indexes.{HasSite, site_of_number}
 use Rattle.lfs_model.proofs.Moves.{AllReached, AllReachedBut, IsStep}
@@ -24,9 +22,13 @@ use Rattle.lfs_model.proofs.StepsTaken.{IsWritableImageAfterTreeChange, taken_be
 use Rattle.lfs_model.proofs.Unthreaded.{IsReady, IsUnthreaded, Unthreads, unthread}
 use Rattle.lfs_thread.specs.Kept.{KeptThread}
 use Rattle.lfs_thread.specs.Steps.{PowerLossLeavesPairOldOrChanged, IsPairWrittenOnDisk, complete_content_after_changes, thread_pair_at_index, thread_pairs_with_content_replaced_at_index}
-use Rattle.lfs_operations.specs.Deltas.{CanSetGstateInPair, CanTakeOverNextPair, Is32BitPairAddressIfSome, gstate_setting_changes, delta_reaching_gstate, delta_after_taking_over_next_pair, next_pair_takeover_changes, pair_named_by_optional_tail}
-use Rattle.lfs_operations.proofs.RecoverPlaced.{IsAt, dropped_device, dropped_state, here_is, next_is, nothing_taken, placed_device, set_state_is, with_is}
-use Rattle.lfs_operations.proofs.RecoverDeltas.{over_content, over_made, set_content, set_made, taken_tail, with_move}
+use Rattle.lfs_operations.specs.Deltas.{gstate_setting_changes, delta_reaching_gstate, content_reaching_gstate}
+use Rattle.lfs_operations.proofs.RecoverPlaced.{IsAt, here_is, placed_device, set_state_is, with_is}
+use Rattle.lfs_operations.proofs.Placing.{left_still, left_after}
+use Rattle.lfs_operations.specs.Dropping.{IsLeftByStoppedPairDrop, content_after_next_pair_drop, tail_over_dropped_pair}
+use Rattle.lfs_operations.proofs.Dropped.{device_dropped, device_kept}
+use Rattle.lfs_operations.proofs.DroppedTails.{front_is, gone_is, gstate_is}
+use Rattle.lfs_operations.proofs.Rmdir.{over_soft}
 
 -- ---- a pair takes over the tail and the delta of one that no path leads to
 
@@ -37,59 +39,53 @@ pub record IsUnled (t : KeptThread) (g : Gstate) (before x : Pair) : Type 0 wher
   pub unled : (path : Path) (a : ℕ × ℕ) → IsPathToDirectory t.pairs path a → same_pair x.at a ≡ true → ⊥
   pub reached : g.sync ≡ false → (is_hard_tail x.content.tail ≡ false) × AllReachedBut t.pairs x.at
 
-module _ (t : KeptThread) (chain front : List Pair) (before x : Pair) (todo : List Pair) (index behind : ℕ) (g : Gstate)
-    (k : IsAt t chain front before (x ∷ todo) index) (next : behind ≡ index + 1) (ready : IsReady t.disk chain (front ++ before ∷ x ∷ todo)) (u : IsUnled t g before x) where
+module _ (t : KeptThread) (chain front : List Pair) (before x : Pair) (todo : List Pair) (index : ℕ) (g : Gstate)
+    (k : IsAt t chain front before (x ∷ todo) index) (ready : IsReady t.disk chain (front ++ before ∷ x ∷ todo)) (u : IsUnled t g before x) where
   abbrev q : Pair
-  q = record { at = before.at; content = over_content t index behind g }
+  q = record { at = before.at; content = content_after_next_pair_drop t index g }
+
+  pub were_is : t.pairs ≡ (chain ++ front) ++ before ∷ x ∷ todo
+  were_is = k.there ∙ sym (append_assoc chain front (before ∷ x ∷ todo))
+
+  pub number_is : length (chain ++ front) ≡ index
+  number_is = length-append chain front ∙ sym k.number
 
   first_is : thread_pair_at_index t index ≡ before
-  first_is = here_is t chain front before (x ∷ todo) index k
+  first_is = front_is t index (chain ++ front) before x todo were_is number_is
 
-  behind_is : thread_pair_at_index t behind ≡ x
-  behind_is = ap (thread_pair_at_index t) next ∙ next_is t chain front before x todo index k
+  accepted_were : IsAcceptedImage t.disk ((chain ++ front) ++ before ∷ x ∷ todo)
+  accepted_were = subst (IsAcceptedImage t.disk) (sym (append_assoc chain front (before ∷ x ∷ todo))) ready.accepted
 
   pub state_now : gstate_of_pairs (chain ++ (front ++ q ∷ todo)) ≡ g
-  state_now = dropped_state t chain front before x todo index k g q (ap (λ (i : ℕ). delta_after_taking_over_next_pair t index i g) next)
+  state_now = ap gstate_of_pairs (sym (append_assoc chain front (q ∷ todo))) ∙ gstate_is t index (chain ++ front) before x todo were_is number_is g q refl
 
-  soft_tail : (b : Bool) (tail : Option Tail) → taken_tail (false && b) tail ≡ softened tail
-  soft_tail b None = refl
-  soft_tail b (Some x) = refl
-
-  pub over_on : (disk : Disk) → IsPairWrittenOnDisk t index (over_content t index behind g) disk → IsUnthreaded t.disk disk chain front before x q todo
+  pub over_on : (disk : Disk) → IsPairWrittenOnDisk t index (content_after_next_pair_drop t index g) disk → IsUnthreaded t.disk disk chain front before x q todo
   over_on disk is = record {
-    device = dropped_device t chain front before x todo index k disk (over_content t index behind g) (ap (λ (z : Pair). z.content.slots) first_is) ready.accepted is;
+    device = subst₂ (IsDevice t.disk disk) (append_assoc chain front (before ∷ x ∷ todo)) (append_assoc chain front (q ∷ todo))
+        (device_dropped t index (chain ++ front) before x todo were_is number_is accepted_were disk (content_after_next_pair_drop t index g) (ap (λ (z : Pair). z.content.slots) first_is) is);
     no_move = subst HasNoMove (sym state_now) u.none;
     soft = u.soft;
     at = refl;
     slots = ap (λ (z : Pair). z.content.slots) first_is;
-    tail = ap₂ (λ (a b : Pair). taken_tail (is_hard_tail a.content.tail && is_hard_tail b.content.tail) b.content.tail) first_is behind_is
-        ∙ ap (λ h. taken_tail (h && is_hard_tail x.content.tail) x.content.tail) u.soft ∙ soft_tail (is_hard_tail x.content.tail) x.content.tail;
+    tail = ap₂ (λ (a b : Pair). tail_over_dropped_pair a.content.tail b.content.tail) first_is (gone_is t index (chain ++ front) before x todo were_is number_is) ∙ over_soft before.content.tail x.content.tail u.soft;
     unled = λ path a l s. u.unled path a (subst (λ z. IsPathToDirectory z path a) (sym k.there) l) s;
     reached = λ off. let r = u.reached (ap (λ (z : Gstate). z.sync) (sym state_now) ∙ off) in (r.0, subst (λ z. AllReachedBut z x.at) k.there r.1);
   }
 
-  pub over_taken : (disk : Disk) → IsPairWrittenOnDisk t index (over_content t index behind g) disk → Unthreads t.disk disk chain (front ++ before ∷ x ∷ todo) (front ++ q ∷ todo)
+  over_taken : (disk : Disk) → IsPairWrittenOnDisk t index (content_after_next_pair_drop t index g) disk → Unthreads t.disk disk chain (front ++ before ∷ x ∷ todo) (front ++ q ∷ todo)
   over_taken disk is = unthread t.disk disk chain front before x q todo ready (over_on disk is)
 
   -- a stop leaves the tree
-  pub over_left : CanTakeOverNextPair t index behind g → Are32BitPairAddresses (delta_after_taking_over_next_pair t index behind g).pair → Is32BitPairAddressIfSome (pair_named_by_optional_tail (thread_pair_at_index t behind).content.tail)
-      → (left : Blocks) → PowerLossLeavesPairOldOrChanged t index (next_pair_takeover_changes t index behind g) left → IsLeftOf (disk_with_blocks left t.disk) (tree_on_disk t.disk t.pairs) (tree_on_disk t.disk t.pairs)
-  over_left can address words left is = subst (λ z. IsLeftOf (disk_with_blocks left t.disk) (tree_on_disk t.disk z) (tree_on_disk t.disk z)) (sym k.there) (go is.is)
+  pub over_left : (left : Blocks) → IsLeftByStoppedPairDrop t index g left → IsLeftOf (disk_with_blocks left t.disk) (tree_on_disk t.disk t.pairs) (tree_on_disk t.disk t.pairs)
+  over_left left is = go is.is
     where
-      old : List Pair
-      old = chain ++ (front ++ before ∷ x ∷ todo)
-
-      go : (is.content ≡ (thread_pair_at_index t index).content) ⊎ ((complete_content_after_changes t index (next_pair_takeover_changes t index behind g) ≡ Some is.content) × IsContentFittingPair t.disk.block_size t.disk.page is.content)
-          → IsLeftOf (disk_with_blocks left t.disk) (tree_on_disk t.disk old) (tree_on_disk t.disk old)
+      go : (is.content ≡ (thread_pair_at_index t index).content) ⊎ (is.content ≡ content_after_next_pair_drop t index g) → IsLeftOf (disk_with_blocks left t.disk) (tree_on_disk t.disk t.pairs) (tree_on_disk t.disk t.pairs)
       go (inl e) =
           let same : is.content ≡ before.content = e ∙ ap (λ (z : Pair). z.content) first_is in
-          let on = placed_device t chain front before (x ∷ todo) index k (disk_with_blocks left t.disk) before.content refl ready.accepted (subst (λ c. IsPairWrittenOnDisk t index c (disk_with_blocks left t.disk)) same is.written) in
-          taken_before t.disk old (disk_with_blocks left t.disk) old (λ d. d) (tree_on_disk t.disk old)
-          (nothing_taken t.disk (disk_with_blocks left t.disk) chain front before (x ∷ todo) ready.is_chain ready.accepted ready.writable on)
-      go (inr m) =
-          let same : is.content ≡ over_content t index behind g = same_Some is.content (over_content t index behind g) (sym m.0 ∙ over_made t index behind g can address words) in
-          taken_before t.disk old (disk_with_blocks left t.disk) (chain ++ (front ++ q ∷ todo)) (λ d. d) (tree_on_disk t.disk old)
-          (over_taken (disk_with_blocks left t.disk) (subst (λ c. IsPairWrittenOnDisk t index c (disk_with_blocks left t.disk)) same is.written)).taken
+          left_still t.disk left ((chain ++ front) ++ before ∷ x ∷ todo) accepted_were (subst (IsWritableImage t.disk) (sym (append_assoc chain front (before ∷ x ∷ todo))) ready.writable)
+          (device_kept t index (chain ++ front) before x todo were_is number_is accepted_were (disk_with_blocks left t.disk) before.content refl (subst (λ c. IsPairWrittenOnDisk t index c (disk_with_blocks left t.disk)) same is.written))
+          (inl (ap (tree_on_disk t.disk) (sym were_is)))
+      go (inr e) = left_after (over_taken (disk_with_blocks left t.disk) (subst (λ c. IsPairWrittenOnDisk t index c (disk_with_blocks left t.disk)) e is.written)).taken (inl (ap (tree_on_disk t.disk) (sym k.there)))
 
 -- ---- a delta changes, and with it the sync bit
 
@@ -116,10 +112,10 @@ module _ (t : KeptThread) (index : ℕ) (can : CanClear t index) where
   place = record { there = h.is; number = sym h.number ∙ length-append h.site.chain (h.site.before ++ h.site.left) }
 
   abbrev pub y : Pair
-  y = record { at = h.pair.at; content = with_move h.pair.content (delta_reaching_gstate t index zero_gstate) }
+  y = record { at = h.pair.at; content = record { slots = h.pair.content.slots; tail = h.pair.content.tail; move = delta_reaching_gstate t index zero_gstate } }
 
-  content_is : set_content t index zero_gstate ≡ with_move h.pair.content (delta_reaching_gstate t index zero_gstate)
-  content_is = ap (λ (z : Pair). with_move z.content (delta_reaching_gstate t index zero_gstate)) (here_is t h.site.chain (h.site.before ++ h.site.left) h.pair (h.site.right ++ h.site.after) index place)
+  content_is : content_reaching_gstate t index zero_gstate ≡ record { slots = h.pair.content.slots; tail = h.pair.content.tail; move = delta_reaching_gstate t index zero_gstate }
+  content_is = ap (λ (z : Pair). record { slots = z.content.slots; tail = z.content.tail; move = delta_reaching_gstate t index zero_gstate }) (here_is t h.site.chain (h.site.before ++ h.site.left) h.pair (h.site.right ++ h.site.after) index place)
 
   accepted : IsAcceptedImage t.disk (thread_at h.site (h.pair ∷ []))
   accepted = subst (IsAcceptedImage t.disk) h.is can.accepted
@@ -130,8 +126,8 @@ module _ (t : KeptThread) (index : ℕ) (can : CanClear t index) where
   pub clear_state : gstate_of_pairs (thread_at h.site (y ∷ [])) ≡ zero_gstate
   clear_state = set_state_is t h.site.chain (h.site.before ++ h.site.left) h.pair (h.site.right ++ h.site.after) index place zero_gstate y refl
 
-  pub clear_pairs : thread_pairs_with_content_replaced_at_index t index (set_content t index zero_gstate) ≡ thread_at h.site (y ∷ [])
-  clear_pairs = ap (thread_pairs_with_content_replaced_at_index t index) content_is ∙ with_is t h.site.chain (h.site.before ++ h.site.left) h.pair (h.site.right ++ h.site.after) index place (with_move h.pair.content (delta_reaching_gstate t index zero_gstate))
+  pub clear_pairs : thread_pairs_with_content_replaced_at_index t index (content_reaching_gstate t index zero_gstate) ≡ thread_at h.site (y ∷ [])
+  clear_pairs = ap (thread_pairs_with_content_replaced_at_index t index) content_is ∙ with_is t h.site.chain (h.site.before ++ h.site.left) h.pair (h.site.right ++ h.site.after) index place (record { slots = h.pair.content.slots; tail = h.pair.content.tail; move = delta_reaching_gstate t index zero_gstate })
 
   pub clear_alike : ArePairsWithSameAddressesAndSlots t.pairs (thread_at h.site (y ∷ []))
   clear_alike = subst (λ z. ArePairsWithSameAddressesAndSlots z (thread_at h.site (y ∷ []))) (sym h.is)
@@ -139,11 +135,11 @@ module _ (t : KeptThread) (index : ℕ) (can : CanClear t index) where
       (alike_append (h.site.before ++ h.site.left) (h.pair ∷ (h.site.right ++ h.site.after)) (h.site.before ++ h.site.left) (y ∷ (h.site.right ++ h.site.after)) (alike_itself (h.site.before ++ h.site.left))
       (refl, refl, alike_itself (h.site.right ++ h.site.after))))
 
-  pub device_on : (disk : Disk) → IsPairWrittenOnDisk t index (set_content t index zero_gstate) disk → IsDevice t.disk disk (thread_at h.site (h.pair ∷ [])) (thread_at h.site (y ∷ []))
-  device_on disk is = placed_device t h.site.chain (h.site.before ++ h.site.left) h.pair (h.site.right ++ h.site.after) index place disk (with_move h.pair.content (delta_reaching_gstate t index zero_gstate)) refl accepted
+  pub device_on : (disk : Disk) → IsPairWrittenOnDisk t index (content_reaching_gstate t index zero_gstate) disk → IsDevice t.disk disk (thread_at h.site (h.pair ∷ [])) (thread_at h.site (y ∷ []))
+  device_on disk is = placed_device t h.site.chain (h.site.before ++ h.site.left) h.pair (h.site.right ++ h.site.after) index place disk (record { slots = h.pair.content.slots; tail = h.pair.content.tail; move = delta_reaching_gstate t index zero_gstate }) refl accepted
       (subst (λ c. IsPairWrittenOnDisk t index c disk) content_is is)
 
-  step : (disk : Disk) → IsPairWrittenOnDisk t index (set_content t index zero_gstate) disk → IsStep t.disk disk h.site h.pair [] y [] [] [] h.pair.content.slots [] [] []
+  step : (disk : Disk) → IsPairWrittenOnDisk t index (content_reaching_gstate t index zero_gstate) disk → IsStep t.disk disk h.site h.pair [] y [] [] [] h.pair.content.slots [] [] []
   step disk is = record {
     accepted = accepted;
     site = h.is_site;
@@ -157,16 +153,16 @@ module _ (t : KeptThread) (index : ℕ) (can : CanClear t index) where
     splice = record { front = λ e. refl; entries = tt; lists = tt; blocks = λ b. omega arith };
   }
 
-  pub clear_taken : (disk : Disk) → IsPairWrittenOnDisk t index (set_content t index zero_gstate) disk → IsWritableImageAfterTreeChange t.disk (thread_at h.site (h.pair ∷ [])) disk (thread_at h.site (y ∷ [])) (λ t. t) (λ d. d)
+  pub clear_taken : (disk : Disk) → IsPairWrittenOnDisk t index (content_reaching_gstate t index zero_gstate) disk → IsWritableImageAfterTreeChange t.disk (thread_at h.site (h.pair ∷ [])) disk (thread_at h.site (y ∷ [])) (λ t. t) (λ d. d)
   clear_taken disk is = record {
     follows = slots_stay t.disk disk h.site h.pair [] y [] [] h.pair.content.slots [] (step disk is) (λ off. subst AllReached h.is can.reached);
     writable = step_writable t.disk disk h.site h.pair [] y [] [] [] h.pair.content.slots [] [] [] (step disk is) fits (within_same t.disk h.pair y refl (within_at t.disk h.site h.pair [] fits), tt) (λ x. x);
   }
 
   -- a stop leaves the tree
-  pub clear_left : CanSetGstateInPair t index zero_gstate → Are32BitPairAddresses (delta_reaching_gstate t index zero_gstate).pair
+  pub clear_left : complete_content_after_changes t index (gstate_setting_changes t index zero_gstate) ≡ Some (content_reaching_gstate t index zero_gstate)
       → (left : Blocks) → PowerLossLeavesPairOldOrChanged t index (gstate_setting_changes t index zero_gstate) left → IsLeftOf (disk_with_blocks left t.disk) (tree_on_disk t.disk t.pairs) (tree_on_disk t.disk t.pairs)
-  clear_left set address left is = subst (λ z. IsLeftOf (disk_with_blocks left t.disk) (tree_on_disk t.disk z) (tree_on_disk t.disk z)) (sym h.is) (go is.is)
+  clear_left made left is = subst (λ z. IsLeftOf (disk_with_blocks left t.disk) (tree_on_disk t.disk z) (tree_on_disk t.disk z)) (sym h.is) (go is.is)
     where
       old : List Pair
       old = thread_at h.site (h.pair ∷ [])
@@ -177,9 +173,8 @@ module _ (t : KeptThread) (index : ℕ) (can : CanClear t index) where
           let same : is.content ≡ h.pair.content = e ∙ ap (λ (z : Pair). z.content) (here_is t h.site.chain (h.site.before ++ h.site.left) h.pair (h.site.right ++ h.site.after) index place) in
           let on = placed_device t h.site.chain (h.site.before ++ h.site.left) h.pair (h.site.right ++ h.site.after) index place (disk_with_blocks left t.disk) h.pair.content refl accepted
           (subst (λ c. IsPairWrittenOnDisk t index c (disk_with_blocks left t.disk)) same is.written) in
-          taken_before t.disk old (disk_with_blocks left t.disk) old (λ d. d) (tree_on_disk t.disk old)
-          (nothing_taken t.disk (disk_with_blocks left t.disk) h.site.chain (h.site.before ++ h.site.left) h.pair (h.site.right ++ h.site.after) h.is_site.chain accepted fits on)
+          left_still t.disk left old accepted fits on (inl refl)
       go (inr m) =
-          let same : is.content ≡ set_content t index zero_gstate = same_Some is.content (set_content t index zero_gstate) (sym m.0 ∙ set_made t index zero_gstate set address) in
+          let same : is.content ≡ content_reaching_gstate t index zero_gstate = same_Some is.content (content_reaching_gstate t index zero_gstate) (sym m.0 ∙ made) in
           taken_before t.disk old (disk_with_blocks left t.disk) (thread_at h.site (y ∷ [])) (λ d. d) (tree_on_disk t.disk old)
           (clear_taken (disk_with_blocks left t.disk) (subst (λ c. IsPairWrittenOnDisk t index c (disk_with_blocks left t.disk)) same is.written))

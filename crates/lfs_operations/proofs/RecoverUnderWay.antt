@@ -1,17 +1,15 @@
 -- How far a recovery is, from its beginning to its end.
-use Rattle.std.proofs.Common.{ℕ, suc, zero, ◌≡◌, ◌≢◌, ◌+◌, ◌-◌, ◌<◌, ◌≤◌, ◌⊎◌, inl, inr, true, false, cond, nat_eq, eq-eqb, List, [], ◌∷◌, ◌++◌, length, take, drop, Option, Some, None, refl, sym, ap, ap₂, subst, ◌∙◌, arith, append_assoc, length-append, remove, slice_get}
+use Rattle.std.proofs.Common.{ℕ, suc, zero, ◌≡◌, ◌≢◌, ◌+◌, ◌-◌, ◌<◌, ◌≤◌, ◌⊎◌, inl, inr, true, false, cond, nat_eq, eq-eqb, List, [], ◌∷◌, ◌++◌, length, take, drop, Option, Some, None, refl, sym, ap, ap₂, subst, ◌∙◌, arith, append_assoc, length-append, slice_get}
 use Rattle.std.specs.Prelude.{is_some, slice_index_or}
 use Rattle.std.proofs.lemmas.Bool.{ne_eqb}
-use Rattle.std.proofs.lemmas.Option.{same_Some}
 use Rattle.std.proofs.lemmas.List.Elements.{recursion_from_All}
 use Rattle.lfs_model.specs.Blocks.{Blocks}
-use Rattle.lfs_model.specs.Disk.{Disk}
+use Rattle.lfs_model.specs.Disk.{Disk, block_count}
 use Rattle.lfs_model.specs.Layout.{directory_address_of_pair, directory_address_continued_by_hard_tail}
 use Rattle.lfs_model.specs.History.{IsTrueOfEachCallSince}
-use Rattle.lfs_model.specs.LoggedContent.{Are32BitPairAddresses}
 use Rattle.lfs_model.specs.PowerLoss.{HasTreeBeforeOrAfterOperation as IsLeftOf, SurvivesPowerLossInCallsSince, disk_with_blocks}
-use Rattle.lfs_model.specs.Slots.{Gstate, Slot, zero_gstate, same_pair}
-use Rattle.lfs_model.specs.Thread.{Pair, blocks_of_pairs, pairs_from_root_directory_on, first_pair_address, gstate_of_pairs, pair_count_before_root, blocks_of_pair_address}
+use Rattle.lfs_model.specs.Slots.{Gstate, Slot, zero_gstate, same_pair, IsContentFittingPair}
+use Rattle.lfs_model.specs.Thread.{Pair, blocks_of_pairs, pairs_from_root_directory_on, first_pair_address, gstate_of_pairs, pair_count_before_root, blocks_of_pair_address, IsThreadOfMetadataPairs}
 use Rattle.lfs_model.specs.View.{IsAcceptedImage}
 use Rattle.lfs_model.specs.Shown.{IsDirectoryAddressReachedBySomePath, all_slots_not_moved, tree_on_disk, used_blocks}
 use Rattle.lfs_model.specs.Profile.{IsWritableImage}
@@ -31,18 +29,20 @@ use Rattle.lfs_model.proofs.Splices.{file_blocks_of_slots, slots_of_pairs_in_ord
 use Rattle.lfs_model.proofs.Unthreaded.{IsReady, IsUnthreaded, same_parts}
 use Rattle.lfs_thread.specs.Device.{PowerLossLeavesSuchBlocksAfterCleanErases}
 use Rattle.lfs_thread.specs.Kept.{KeptThread}
-use Rattle.lfs_thread.specs.Steps.{HasSameGeometry, IsPairAfterIndexDropped, PowerLossLeavesPairOldOrChanged, IsPairWrittenOnDisk, ThreadChangesOnlyTheseBlocks, empty_pair_at_anchor, thread_pair_at_index, thread_pairs_with_content_replaced_at_index, block_map_with_freed_pair}
-use Rattle.lfs_operations.specs.Deltas.{CanTakeOverNextPair, FitsGstateFields, Is32BitPairAddressIfSome, delta_after_taking_over_next_pair, next_pair_takeover_changes, pair_named_by_optional_tail}
+use Rattle.lfs_thread.specs.Steps.{HasSameGeometry, ThreadChangesOnlyTheseBlocks, empty_pair_at_anchor, thread_pair_at_index, block_map_with_freed_pair}
 use Rattle.lfs_operations.specs.Recovering.{AreUnreachedPairNumbers, AreUnreachedPairNumbersFrom, CanDropUnreachedPairs, list_blocks_of_numbered_pairs, gstate_zero_after_last_unreached_pair_drop}
-use Rattle.lfs_operations.specs.Dropping.{HasSameBlocksInFlight}
+use Rattle.lfs_operations.specs.Dropping.{HasSameBlocksInFlight, CanDropPairAt, IsLeftByStoppedPairDrop, IsNextPairDropped, content_after_next_pair_drop}
 use Rattle.lfs_operations.proofs.RecoverLists.{lists_kept, lists_more, numbered}
 use Rattle.lfs_operations.proofs.RecoverLoop.{FirstsOnly, IsAtDrop, IsAtEnd, IsOnWay, all_but, drops, goes_to, ready, soft, stands, sync_set, unled}
 use Rattle.lfs_operations.proofs.RecoverMap.{HasMap, blocks_count, files_count, map_drops, map_flies}
-use Rattle.lfs_operations.proofs.RecoverPlaced.{IsAt, next_below, next_is, without_is}
-use Rattle.lfs_operations.proofs.RecoverDeltas.{over_content, over_made}
+use Rattle.lfs_operations.proofs.RecoverPlaced.{IsAt}
+use Rattle.lfs_operations.proofs.RecoverDeltas.{each_at}
 use Rattle.lfs_operations.proofs.RecoverWrites.{two_fewer, writes_fewer, writes_none}
 use Rattle.lfs_operations.proofs.UnlinkedSteps.{writes_trans}
-use Rattle.lfs_operations.proofs.RecoverSteps.{IsUnled, over_left, over_on, state_now}
+use Rattle.lfs_operations.proofs.RecoverSteps.{IsUnled, over_left, over_on, state_now, were_is, number_is}
+use Rattle.lfs_operations.proofs.Threads.{get_behind}
+use Rattle.lfs_operations.proofs.DroppedTails.{gone_is, without_is}
+use Rattle.lfs_model.specs.Content.{content_of_pair_at}
 
 -- ---- the device
 
@@ -64,10 +64,6 @@ pub stays_by : (bs : List ℕ) (a b : KeptThread) → ThreadChangesOnlyTheseBloc
 stays_by bs a b w = record { shape = w.shape; calls = IsTrueOfEachCallSince-weaker (λ e k. tt) w.at_worst }
 
 -- ---- the beginning
-
-get_behind : (xs : List Pair) (p : Pair) (ys : List Pair) → slice_get (xs ++ p ∷ ys) (length xs) ≡ Some p
-get_behind [] p ys = refl
-get_behind (x ∷ xs) p ys = get_behind xs p ys
 
 ends_on : (from : Option (ℕ × ℕ)) (p : Pair) (ps : List Pair) → Ends (p ∷ ps) → onward_all from (p ∷ ps) ≡ None
 ends_on from p [] h = ap (λ b. cond b (Some (directory_address_of_pair from p)) None) h
@@ -285,25 +281,28 @@ module _ (old now : KeptThread) (dropped number : ℕ) (rest : List ℕ) (n : Is
         (subst (λ z. AreUnreachedPairNumbersFrom (IsDirectoryAddressReachedBySomePath old.pairs) (suc (length C + length n.kept + dropped)) (directory_address_continued_by_hard_tail (onward_all None n.seen) n.x) n.todo z) (cases.1 off) n.more);
   }
 
-  fields : FitsGstateFields g
-  fields = record { kind = let e = cases.0.kind in omega arith; id = let e = cases.0.id in omega arith }
+  -- the index of the pair in front
+  index_is : (behind : ℕ) → behind + dropped ≡ number → behind - 1 ≡ length C + length n.front
+  index_is behind e = let k = n.number_is in omega arith
 
-  pub can_take : (index behind : ℕ) → behind ≡ index + 1 → behind + dropped ≡ number → CanTakeOverNextPair now index behind g
-  can_take index behind next e = record {
-    accepted = subst (IsAcceptedImage now.disk) (sym whole_is) is_ready.accepted;
-    writable = subst (IsWritableImage now.disk) (sym whole_is) is_ready.writable;
-    next = next;
-    below = let b = next_below now C n.front n.before n.x n.todo at place in let k = n.number_is in omega arith;
-    fields = fields;
+  pub can_take : (behind : ℕ) → behind + dropped ≡ number → CanDropPairAt now behind g
+  can_take behind e = record {
+    above = let k = n.number_is in omega arith;
+    below = let a = ap length whole_is in let b = length-append C (n.front ++ n.before ∷ n.x ∷ n.todo) in let c = length-append n.front (n.before ∷ n.x ∷ n.todo) in let k = n.number_is in omega arith;
+    thread = subst (IsThreadOfMetadataPairs (content_of_pair_at now.disk) (block_count now.disk)) (sym whole_is) is_ready.accepted.thread;
+    fits = each_at (λ x. IsContentFittingPair now.disk.block_size now.disk.page x.content) now.pairs (behind - 1)
+        (let a = ap length whole_is in let b = length-append C (n.front ++ n.before ∷ n.x ∷ n.todo) in let c = length-append n.front (n.before ∷ n.x ∷ n.todo) in let k = n.number_is in omega arith)
+        (recursion_from_All (λ (x : Pair). IsContentFittingPair now.disk.block_size now.disk.page x.content) now.pairs (subst (IsWritableImage now.disk) (sym whole_is) is_ready.writable).pairs);
+    storable = record {
+      kind = let e = cases.0.kind in omega arith;
+      id = let e = cases.0.id in omega arith;
+      pair = ((let e = ap (λ (z : ℕ × ℕ). z.0) cases.0.pair in omega arith), (let e = ap (λ (z : ℕ × ℕ). z.1) cases.0.pair in omega arith));
+    };
   }
 
-  -- the index of the pair in front
-  index_is : (index behind : ℕ) → behind ≡ index + 1 → behind + dropped ≡ number → index ≡ length C + length n.front
-  index_is index behind next e = let k = n.number_is in omega arith
-
-  module _ (index behind : ℕ) (next : behind ≡ index + 1) (e : behind + dropped ≡ number) where
-    here : IsAt now C n.front n.before (n.x ∷ n.todo) index
-    here = record { there = whole_is; number = index_is index behind next e }
+  module _ (behind : ℕ) (e : behind + dropped ≡ number) where
+    here : IsAt now C n.front n.before (n.x ∷ n.todo) (behind - 1)
+    here = record { there = whole_is; number = index_is behind e }
 
     shows : tree_on_disk now.disk now.pairs ≡ tree_on_disk old.disk old.pairs
     shows = ap (tree_on_disk now.disk) (n.way.there ∙ ap (λ z. C ++ (n.kept ++ z)) (sym (joined_singles (n.x ∷ n.todo)))) ∙ n.way.is.taken.follows.shows
@@ -315,38 +314,36 @@ module _ (old now : KeptThread) (dropped number : ℕ) (rest : List ℕ) (n : Is
     number_there = numbered old.pairs C n.seen n.x n.todo number n.way.is.are
         (let k = n.number_is in let c = n.way.counted in let a = ap length n.split in let b = length-append n.front (n.before ∷ []) in omega arith)
 
-    pub survives_on : (new : KeptThread) → IsUnderWay old now dropped (number ∷ rest) → Are32BitPairAddresses (delta_after_taking_over_next_pair now index behind g).pair → Is32BitPairAddressIfSome (pair_named_by_optional_tail (thread_pair_at_index now behind).content.tail)
-        → StaysOn now new → PowerLossLeavesSuchBlocksAfterCleanErases now.history new.history (PowerLossLeavesPairOldOrChanged now index (next_pair_takeover_changes now index behind g))
+    pub survives_on : (new : KeptThread) → IsUnderWay old now dropped (number ∷ rest)
+        → StaysOn now new → PowerLossLeavesSuchBlocksAfterCleanErases now.history new.history (IsLeftByStoppedPairDrop now (behind - 1) g)
         → SurvivesPowerLossInCallsSince old.disk old.history new.history (tree_on_disk old.disk old.pairs) (tree_on_disk old.disk old.pairs)
-    survives_on new u address words on stops =
+    survives_on new u on stops =
         survives_then old.disk old.history now.history new.history (tree_on_disk old.disk old.pairs) (tree_on_disk old.disk old.pairs) u.device.calls on.calls u.survives
         (λ clean. IsTrueAfterAnyPowerLossSince-weaker (λ left x. subst (λ z. IsLeftOf z (tree_on_disk old.disk old.pairs) (tree_on_disk old.disk old.pairs)) (disk_is u.device left)
         (subst (λ z. IsLeftOf (disk_with_blocks left now.disk) z z) shows
-        (over_left now C n.front n.before n.x n.todo index behind g here next is_ready is_unled (can_take index behind next e) address words left x))) (stops clean))
+        (over_left now C n.front n.before n.x n.todo (behind - 1) g here is_ready is_unled left x))) (stops clean))
 
-    pub writes_on : (new : KeptThread) → IsUnderWay old now dropped (number ∷ rest) → ThreadChangesOnlyTheseBlocks (blocks_of_pair_address (thread_pair_at_index now index).at) now new → ThreadChangesOnlyTheseBlocks (blocks_of_pairs old.pairs) old new
+    pub writes_on : (new : KeptThread) → IsUnderWay old now dropped (number ∷ rest) → ThreadChangesOnlyTheseBlocks (blocks_of_pair_address (thread_pair_at_index now (behind - 1)).at) now new → ThreadChangesOnlyTheseBlocks (blocks_of_pairs old.pairs) old new
     writes_on new u writes =
-        let can = can_take index behind next e in
-        let low : index < length now.pairs = let w = can.next in let z = can.below in omega arith in
-        writes_trans u.writes (writes_fewer _ (blocks_of_pairs old.pairs) (λ b. let f = u.fewer b in let l = two_fewer now.pairs index low b in omega arith) writes)
+        let can = can_take behind e in
+        let low : behind - 1 < length now.pairs = let w = can.above in let z = can.below in omega arith in
+        writes_trans u.writes (writes_fewer _ (blocks_of_pairs old.pairs) (λ b. let f = u.fewer b in let l = two_fewer now.pairs (behind - 1) low b in omega arith) writes)
 
-    pub moves_on : (new : KeptThread) → IsUnderWay old now dropped (number ∷ rest) → Are32BitPairAddresses (delta_after_taking_over_next_pair now index behind g).pair → Is32BitPairAddressIfSome (pair_named_by_optional_tail (thread_pair_at_index now behind).content.tail)
-        → IsPairAfterIndexDropped now index (next_pair_takeover_changes now index behind g) new → ThreadChangesOnlyTheseBlocks (blocks_of_pair_address (thread_pair_at_index now index).at) now new → PowerLossLeavesSuchBlocksAfterCleanErases now.history new.history (PowerLossLeavesPairOldOrChanged now index (next_pair_takeover_changes now index behind g))
+    pub moves_on : (new : KeptThread) → IsUnderWay old now dropped (number ∷ rest)
+        → IsNextPairDropped now (behind - 1) g new → ThreadChangesOnlyTheseBlocks (blocks_of_pair_address (thread_pair_at_index now (behind - 1)).at) now new → PowerLossLeavesSuchBlocksAfterCleanErases now.history new.history (IsLeftByStoppedPairDrop now (behind - 1) g)
         → IsUnderWay old new (suc dropped) rest
-    moves_on new u address words is writes stops =
+    moves_on new u is writes stops =
         let on = stays_by _ now new writes in
-        let can = can_take index behind next e in
-        let same : is.content ≡ over_content now index behind g = same_Some is.content (over_content now index behind g) (sym is.made ∙ over_made now index behind g can address words) in
-        let written = subst (λ c. IsPairWrittenOnDisk now index c new.disk) same is.written in
-        let q : Pair = record { at = n.before.at; content = over_content now index behind g } in
-        let apart = over_on now C n.front n.before n.x n.todo index behind g here next is_ready is_unled new.disk written in
-        let pairs : new.pairs ≡ C ++ (n.front ++ q ∷ n.todo) = is.pairs ∙ ap (λ c. remove (thread_pairs_with_content_replaced_at_index now index c) (index + 1)) same ∙ without_is now C n.front n.before n.x n.todo index here (over_content now index behind g) in
+        let q : Pair = record { at = n.before.at; content = content_after_next_pair_drop now (behind - 1) g } in
+        let apart = over_on now C n.front n.before n.x n.todo (behind - 1) g here is_ready is_unled new.disk is.written in
+        let pairs : new.pairs ≡ C ++ (n.front ++ q ∷ n.todo) = is.pairs ∙ without_is now (behind - 1) (C ++ n.front) n.before n.x n.todo (were_is now C n.front n.before n.x n.todo (behind - 1) g here is_ready is_unled)
+        (number_is now C n.front n.before n.x n.todo (behind - 1) g here is_ready is_unled) (content_after_next_pair_drop now (behind - 1) g) ∙ append_assoc C n.front (q ∷ n.todo) in
         let were : now.pairs ≡ (C ++ n.front) ++ n.before ∷ n.x ∷ n.todo = whole_is ∙ sym (append_assoc C n.front (n.before ∷ n.x ∷ n.todo)) in
         let are : new.pairs ≡ (C ++ n.front) ++ q ∷ n.todo = pairs ∙ sym (append_assoc C n.front (q ∷ n.todo)) in
         let files : SameFiles now.disk new.disk (all_slots_not_moved now.pairs) = subst (λ z. SameFiles now.disk new.disk (all_slots_not_moved z)) (sym whole_is)
         (recursion_from_All (λ (s : Slot). HasSameFileBlocksOfStructOnDisks now.disk new.disk s.struct) (all_slots_not_moved (C ++ (n.front ++ n.before ∷ n.x ∷ n.todo))) apart.device.files) in
         let still : HasNoMove (gstate_of_pairs new.pairs) = subst (λ z. HasNoMove (gstate_of_pairs z)) (sym pairs) apart.no_move in
-        let map_is : new.map ≡ block_map_with_freed_pair now.map n.x.at = is.map ∙ ap (λ (z : Pair). block_map_with_freed_pair now.map z.at) (next_is now C n.front n.before n.x n.todo index here) in
+        let map_is : new.map ≡ block_map_with_freed_pair now.map n.x.at = is.map ∙ ap (λ (z : Pair). block_map_with_freed_pair now.map z.at) (gone_is now (behind - 1) (C ++ n.front) n.before n.x n.todo (were_is now C n.front n.before n.x n.todo (behind - 1) g here is_ready is_unled) (number_is now C n.front n.before n.x n.todo (behind - 1) g here is_ready is_unled)) in
         record {
           gone = u.gone ++ file_blocks_of_slots now.disk n.x.content.slots;
           was = u.was;
@@ -370,9 +367,9 @@ module _ (old now : KeptThread) (dropped number : ℕ) (rest : List ℕ) (n : Is
           kept = n.front ++ q ∷ [];
           way = drops old.disk old.pairs now dropped C n.seen n.x n.todo n.parts n.kept n.numbers n.way n.unreached n.front n.before n.split new q rest n.more
               (subst (λ z. IsUnthreaded now.disk new.disk C n.front n.before n.x q z) (sym (joined_singles n.todo)) apart) pairs;
-          state = λ some none. ap gstate_of_pairs pairs ∙ state_now now C n.front n.before n.x n.todo index behind g here next is_ready is_unled ∙ want.last none;
+          state = λ some none. ap gstate_of_pairs pairs ∙ state_now now C n.front n.before n.x n.todo (behind - 1) g here is_ready is_unled ∙ want.last none;
           device = stays_then old now new u.device on;
-          survives = survives_on new u address words on stops;
+          survives = survives_on new u on stops;
         }
 
 -- ---- in the list of numbers
@@ -400,15 +397,13 @@ way_at old now xs dropped low u = subst (IsUnderWay old now dropped) (drop_here 
 pub next_at : (old now : KeptThread) (xs : List ℕ) (dropped : ℕ) → dropped < length xs → IsUnderWay old now dropped (drop dropped xs) → IsNext old now dropped (slice_index_or xs dropped 0) (drop (suc dropped) xs)
 next_at old now xs dropped low u = next_goes old now dropped (slice_index_or xs dropped 0) (drop (suc dropped) xs) (way_at old now xs dropped low u)
 
--- how the number, the index and the one in front of it hang together
+-- how the number and the index hang together
 pub record AreIndexes (number dropped : ℕ) : Type 0 where
   pub enough : dropped ≤ number
-  pub some : 1 ≤ number - dropped
-  pub next : number - dropped ≡ number - dropped - 1 + 1
   pub sum : number - dropped + dropped ≡ number
 
 pub indexes : (old now : KeptThread) (dropped number : ℕ) (rest : List ℕ) → IsNext old now dropped number rest → AreIndexes number dropped
-indexes old now dropped number rest n = let k = n.number_is in record { enough = omega arith; some = omega arith; next = omega arith; sum = omega arith }
+indexes old now dropped number rest n = let k = n.number_is in record { enough = omega arith; sum = omega arith }
 
 pub wanted : (now : KeptThread) (xs : List ℕ) (dropped : ℕ) (g : Gstate) → dropped < length xs → g ≡ gstate_zero_after_last_unreached_pair_drop now (nat_eq (dropped + 1) (length xs)) → IsWanted now (drop (suc dropped) xs) g
 wanted now xs dropped g low is = record {

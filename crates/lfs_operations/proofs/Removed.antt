@@ -45,16 +45,14 @@ use Rattle.lfs_operations.specs.Removing.{CanRemoveFileInPair, IsFileRemoved, Re
 use Rattle.lfs_operations.proofs.Held.{CompletesTo, below, fits_there, here, raw_there}
 use Rattle.lfs_operations.proofs.Splicing.{Commits, IsSplicing}
 use Rattle.lfs_operations.proofs.Stepped.{HasStep, becomes, put_step, survives}
+use Rattle.lfs_operations.proofs.Threads.{get_behind}
+use Rattle.lfs_operations.proofs.Putting.{same_err}
 
 -- no hard tail leads to the first pair of a directory
 pub flag_ends : (before : List Pair) → Ends before → ends_in_hard_tail false before ≡ false
 flag_ends [] h = refl
 flag_ends (p ∷ []) h = h
 flag_ends (p ∷ q ∷ ps) h = flag_ends (q ∷ ps) h
-
-get_behind : (xs : List Pair) (p : Pair) (ys : List Pair) → slice_get (xs ++ p ∷ ys) (length xs) ≡ Some p
-get_behind [] p ys = refl
-get_behind (x ∷ xs) p ys = get_behind xs p ys
 
 -- where a pair is the first of its directory, no other stands in front of it there
 pub alone : (chain before left tail : List Pair) (p : Pair) (a : ℕ × ℕ) (first : ℕ) → IsDistinct nat_eq (blocks_of_pairs (chain ++ ((before ++ left) ++ p ∷ tail))) → same_pair (first_pair_address (left ++ p ∷ [])) a ≡ true
@@ -250,9 +248,6 @@ module _ (t : KeptThread) (index id first : ℕ) (take : CanRemoveFileInPair t i
       (λ clean. IsTrueAfterAnyPowerLossSince-weaker (λ left x. inl x) (stops clean))
 
 -- ---- what it tells
-
-same_err : {A : Type 0} (a b : Error) (r : Result A Error) → r ≡ Err a → r ≡ Err b → a ≡ b
-same_err a b r h k = cc
 
 -- an error that is passed on
 pub reports_again : {X Y : Type 0} (old new : ThreadView) (e : Error) (result : Result X Error) (given : Result Y Error) → result ≡ Err e → given ≡ Err e → new.failed ≡ is_err result → IoMeantFaultNoMemoryWroteNothing old.kept new.kept result → ReportsErrorsOfCommitTakingNoBlock old new given

@@ -37,11 +37,12 @@ use Rattle.lfs_thread.specs.Steps.{IsPairWrittenOnDisk, thread_pair_at_index, bl
 use Rattle.lfs_operations.specs.Dropping.{CanDropPairAt, IsNextPairDropped, ShowsTreeAfterPairDrops, IsLeftByStoppedPairDrop, HasSameBlocksInFlight, tail_over_dropped_pair, content_after_next_pair_drop}
 use Rattle.lfs_operations.specs.Editing.{CanEditEntryOfPair, slot_of_editable_entry}
 use Rattle.lfs_operations.specs.Removing.{IsFileRemoved, is_pair_dropped_with_slot, tree_without_named_entry}
-use Rattle.lfs_operations.proofs.Dropped.{device_dropped, device_kept, dropped_count, flying_same, length_fewer, profile_same, used_fewer}
+use Rattle.lfs_operations.proofs.Dropped.{device_dropped, device_kept, dropped_count, flying_same, length_fewer, used_fewer}
 use Rattle.lfs_operations.proofs.DroppedTails.{front_is, gone_is, gstate_is, no_move_state, without_is}
 use Rattle.lfs_operations.proofs.Held.{below, here}
-use Rattle.lfs_operations.proofs.Placing.{nothing_came}
+use Rattle.lfs_operations.proofs.Placing.{left_after, left_still}
 use Rattle.lfs_operations.proofs.RootStays.{root_stays}
+use Rattle.lfs_operations.proofs.Threads.{get_behind}
 
 -- ---- the pair in front
 
@@ -54,10 +55,6 @@ pub last_pair : (xs : List Pair) → xs ≢ [] → LastPair xs
 last_pair [] n = absurd (n refl)
 last_pair (x ∷ []) n = record { front = []; last = x; is = refl }
 last_pair (x ∷ y ∷ xs) n = let l = last_pair (y ∷ xs) (λ e. absurd (cc)) in record { front = x ∷ l.front; last = l.last; is = ap (λ z. x ∷ z) l.is }
-
-get_behind : (xs : List Pair) (p : Pair) (ys : List Pair) → slice_get (xs ++ p ∷ ys) (length xs) ≡ Some p
-get_behind [] p ys = refl
-get_behind (x ∷ xs) p ys = get_behind xs p ys
 
 -- a pair that isn't the first of its directory has others in front of it there
 not_alone : (chain before left tail : List Pair) (p : Pair) (a : ℕ × ℕ) (first : ℕ) → IsDistinct nat_eq (blocks_of_pairs (chain ++ ((before ++ left) ++ p ∷ tail))) → same_pair (first_pair_address (left ++ p ∷ [])) a ≡ true
@@ -73,9 +70,53 @@ run_hard [] x o right h = h.0
 run_hard (y ∷ []) x o right h = h.1.0
 run_hard (y ∷ z ∷ left) x o right h = run_hard (z ∷ left) x o right h.1
 
-flag_last : (xs : List Pair) (x : Pair) (b : Bool) → ends_in_hard_tail b (xs ++ x ∷ []) ≡ is_hard_tail x.content.tail
+pub flag_last : (xs : List Pair) (x : Pair) (b : Bool) → ends_in_hard_tail b (xs ++ x ∷ []) ≡ is_hard_tail x.content.tail
 flag_last [] x b = refl
 flag_last (y ∷ xs) x b = flag_last xs x (is_hard_tail y.content.tail)
+
+-- The pair o at a site has others of its directory in front of it, so it stands behind x, whose hard tail leads to it.
+pub record StandsBehind (ps : List Pair) (v : Site) (o : Pair) (index : ℕ) : Type 0 where
+  pub w : Site
+  pub x : Pair
+  pub there : ps ≡ thread_at w (x ∷ o ∷ [])
+  pub site : IsSite w (x ∷ o ∷ [])
+  pub number : length (w.chain ++ (w.before ++ w.left)) + 1 ≡ index
+  pub hard : is_hard_tail x.content.tail ≡ true
+  pub begin : begin_of v (o ∷ []) ≡ begin_of w (x ∷ o ∷ [])
+  pub led : ends_in_hard_tail false (v.before ++ v.left) ≡ true
+
+pub stands_behind : (ps : List Pair) (v : Site) (o : Pair) (index : ℕ) → ps ≡ thread_at v (o ∷ []) → IsSite v (o ∷ []) → index ≡ length v.chain + length (v.before ++ v.left) → v.left ≢ [] → StandsBehind ps v o index
+stands_behind ps v o index is at number some = record {
+  w = record { chain = v.chain; before = v.before; left = l.front; right = v.right; after = v.after };
+  x = l.last;
+  there = is ∙ ap (λ z. v.chain ++ z) dirs_is;
+  site = record { chain = subst (IsChain v.chain) dirs_is at.chain; ends = at.ends; run = run };
+  number =
+      let a = length-append v.chain (v.before ++ l.front) in
+      let b = length-append v.before l.front in
+      let c = length-append v.before v.left in
+      let d = ap length l.is in
+      let e = length-append l.front (l.last ∷ []) in
+      omega arith;
+  hard = hard;
+  begin = ap first_pair_address (ap (λ z. z ++ o ∷ []) l.is ∙ append_assoc l.front (l.last ∷ []) (o ∷ []));
+  led = ap (λ z. ends_in_hard_tail false (v.before ++ z)) l.is ∙ ap (ends_in_hard_tail false) (sym (append_assoc v.before l.front (l.last ∷ []))) ∙ flag_last (v.before ++ l.front) l.last false ∙ hard;
+}
+  where
+    l : LastPair v.left
+    l = last_pair v.left some
+
+    dirs_is : (v.before ++ v.left) ++ o ∷ (v.right ++ v.after) ≡ (v.before ++ l.front) ++ l.last ∷ o ∷ (v.right ++ v.after)
+    dirs_is = ap (λ z. (v.before ++ z) ++ o ∷ (v.right ++ v.after)) l.is
+        ∙ append_assoc v.before (l.front ++ l.last ∷ []) (o ∷ (v.right ++ v.after))
+        ∙ ap (λ z. v.before ++ z) (append_assoc l.front (l.last ∷ []) (o ∷ (v.right ++ v.after)))
+        ∙ sym (append_assoc v.before l.front (l.last ∷ o ∷ (v.right ++ v.after)))
+
+    run : IsRun (l.front ++ (l.last ∷ o ∷ v.right))
+    run = subst IsRun (ap (λ z. z ++ o ∷ v.right) l.is ∙ append_assoc l.front (l.last ∷ []) (o ∷ v.right)) at.run
+
+    hard : is_hard_tail l.last.content.tail ≡ true
+    hard = run_hard l.front l.last o v.right run
 
 -- a hard tail takes over what comes
 pub over_hard : (f g : Option Tail) → is_hard_tail f ≡ true → tail_over_dropped_pair f g ≡ g
@@ -137,71 +178,41 @@ module _ (t : KeptThread) (index id first : ℕ) (can : CanEditEntryOfPair t ind
       let e = ap (λ (z : Pair). length z.content.slots) (here t can.ready can.first index o can.stands.rest can.stands.place) in
       can.stands.stands.held ∙ only_slot can.stands.stands.left can.stands.stands.right u (sym n ∙ sym e ∙ alone_there.1)
 
-  front : LastPair v.left
-  front = last_pair v.left (not_alone v.chain v.before v.left (v.right ++ v.after) o can.at can.first (subst (λ z. IsDistinct nat_eq (blocks_of_pairs z)) there_before can.ready.accepted.thread.distinct) same_before
+  behind : StandsBehind t.pairs v o index
+  behind = stands_behind t.pairs v o index there_before site_before number_before
+      (not_alone v.chain v.before v.left (v.right ++ v.after) o can.at can.first (subst (λ z. IsDistinct nat_eq (blocks_of_pairs z)) there_before can.ready.accepted.thread.distinct) same_before
       (subst (λ z. IsPairAtAddress z can.at can.first) there_before can.begins) (λ e. alone_there.0 (number_before ∙ e)))
 
   abbrev x : Pair
-  x = front.last
+  x = behind.x
 
   abbrev w : Site
-  w = record { chain = v.chain; before = v.before; left = front.front; right = v.right; after = v.after }
-
-  dirs_is : dirs_at v (o ∷ []) ≡ dirs_at w (x ∷ o ∷ [])
-  dirs_is =
-      let rest = v.right ++ v.after in
-      ap (λ z. (v.before ++ z) ++ o ∷ rest) front.is
-      ∙ append_assoc v.before (front.front ++ x ∷ []) (o ∷ rest)
-      ∙ ap (λ z. v.before ++ z) (append_assoc front.front (x ∷ []) (o ∷ rest))
-      ∙ sym (append_assoc v.before front.front (x ∷ o ∷ rest))
+  w = behind.w
 
   there : t.pairs ≡ thread_at w (x ∷ o ∷ [])
-  there = there_before ∙ ap (λ z. v.chain ++ z) dirs_is
+  there = behind.there
 
   abbrev ahead : List Pair
-  ahead = v.chain ++ (v.before ++ front.front)
+  ahead = w.chain ++ (w.before ++ w.left)
 
   abbrev back : List Pair
-  back = v.right ++ v.after
+  back = w.right ++ w.after
 
   grouped : (ps : List Pair) → thread_at w ps ≡ ahead ++ (ps ++ back)
-  grouped ps = sym (append_assoc v.chain (v.before ++ front.front) (ps ++ (v.right ++ v.after)))
+  grouped ps = sym (append_assoc w.chain (w.before ++ w.left) (ps ++ (w.right ++ w.after)))
 
   is : t.pairs ≡ ahead ++ x ∷ o ∷ back
   is = there ∙ grouped (x ∷ o ∷ [])
 
-  place : length ahead + 1 ≡ index
-  place =
-      let a = length-append v.chain (v.before ++ front.front) in
-      let b = length-append v.before front.front in
-      let c = length-append v.before v.left in
-      let d = ap length front.is in
-      let e = length-append front.front (x ∷ []) in
-      let n = number_before in
-      omega arith
-
   number : length ahead ≡ index - 1
-  number = let e = place in omega arith
-
-  site_now : IsSite w (x ∷ o ∷ [])
-  site_now = record {
-    chain = subst (IsChain v.chain) dirs_is site_before.chain;
-    ends = site_before.ends;
-    run = subst IsRun (ap (λ z. z ++ o ∷ v.right) front.is ∙ append_assoc front.front (x ∷ []) (o ∷ v.right)) site_before.run;
-  }
-
-  hard : is_hard_tail x.content.tail ≡ true
-  hard = run_hard front.front x o v.right site_now.run
-
-  same_now : same_pair (begin_of w (x ∷ o ∷ [])) can.at ≡ true
-  same_now = subst (λ z. same_pair (first_pair_address z) can.at ≡ true) (ap (λ z. z ++ o ∷ []) front.is ∙ append_assoc front.front (x ∷ []) (o ∷ [])) same_before
+  number = let e = behind.number in omega arith
 
   -- a hard tail leads to the pair
   pub flag_whole : ends_in_hard_tail false (v.before ++ v.left) ≡ true
-  flag_whole = ap (λ z. ends_in_hard_tail false (v.before ++ z)) front.is ∙ ap (ends_in_hard_tail false) (sym (append_assoc v.before front.front (x ∷ []))) ∙ flag_last (v.before ++ front.front) x false ∙ hard
+  flag_whole = behind.led
 
   pub stands_whole : StandsWhole t index id can
-  stands_whole = record { w = w; x = x; there = there; site = site_now; number = place; hard = hard; same = same_now; held = held }
+  stands_whole = record { w = w; x = x; there = there; site = behind.site; number = behind.number; hard = behind.hard; same = subst (λ z. same_pair z can.at ≡ true) behind.begin same_before; held = held }
 
   front_there : thread_pair_at_index t (index - 1) ≡ x
   front_there = front_is t (index - 1) ahead x o back is number
@@ -210,11 +221,11 @@ module _ (t : KeptThread) (index id first : ℕ) (can : CanEditEntryOfPair t ind
   gone_there = gone_is t (index - 1) ahead x o back is number
 
   pub below_whole : index - 1 + 1 < length t.pairs
-  below_whole = let e = place in let l = below t can.ready can.first index o can.stands.rest can.stands.place in omega arith
+  below_whole = let e = behind.number in let l = below t can.ready can.first index o can.stands.rest can.stands.place in omega arith
 
   pub can_drop_file : CanDropPairAt t index zero_gstate
   can_drop_file = record {
-    above = let e = place in omega arith;
+    above = let e = behind.number in omega arith;
     below = below t can.ready can.first index o can.stands.rest can.stands.place;
     thread = can.ready.accepted.thread;
     fits = subst (λ (z : Pair). IsContentFittingPair t.disk.block_size t.disk.page z.content) (sym front_there) x_fits;
@@ -250,11 +261,11 @@ module _ (t : KeptThread) (index id first : ℕ) (can : CanEditEntryOfPair t ind
     writable = subst (IsWritableImage t.disk) there can.ready.writable;
     settled = ap gstate_of_pairs (sym there) ∙ can.ready.settled;
     still = still;
-    site = site_now;
+    site = behind.site;
     device = subst (λ z. IsDevice t.disk disk z (thread_at w (q ∷ []))) (sym (grouped (x ∷ o ∷ []))) (subst (IsDevice t.disk disk (ahead ++ x ∷ o ∷ back)) (sym (grouped (q ∷ [])))
         (device_dropped t (index - 1) ahead x o back is number (subst (IsAcceptedImage t.disk) is can.ready.accepted) disk c slots_same written));
     at = refl;
-    tail = ap₂ (λ (y z : Pair). tail_over_dropped_pair y.content.tail z.content.tail) front_there gone_there ∙ over_hard x.content.tail o.content.tail hard;
+    tail = ap₂ (λ (y z : Pair). tail_over_dropped_pair y.content.tail z.content.tail) front_there gone_there ∙ over_hard x.content.tail o.content.tail behind.hard;
     slots = slots_same;
     held = held;
     other = can.stands.stands.entry;
@@ -271,7 +282,7 @@ module _ (t : KeptThread) (index id first : ℕ) (can : CanEditEntryOfPair t ind
 
     follows : (disk : Disk) → IsPairWrittenOnDisk t (index - 1) c disk → IsImageAfterTreeChange t.disk (thread_at w (x ∷ o ∷ [])) disk (thread_at w (q ∷ [])) turn (λ d. d)
     follows disk written = subst (λ n. IsImageAfterTreeChange t.disk (thread_at w (x ∷ o ∷ [])) disk (thread_at w (q ∷ [])) (tree_after_removal (can.path ++ n ∷ [])) (λ d. d)) can.stands.stands.named
-        (file_goes t.disk disk w x (o ∷ []) q [] [] [] x.content.slots [] u (drop_step t.disk disk w x o q u (drop_on disk written)) can.stands.stands.entry can.path can.at leads_now same_now file
+        (file_goes t.disk disk w x (o ∷ []) q [] [] [] x.content.slots [] u (drop_step t.disk disk w x o q u (drop_on disk written)) can.stands.stands.entry can.path can.at leads_now (subst (λ z. same_pair z can.at ≡ true) behind.begin same_before) file
         (λ e. (recovered_from t.disk (thread_at w (x ∷ o ∷ [])) accepted (ap gstate_of_pairs (sym there) ∙ can.ready.settled)).reached))
 
     pairs_now : (new : KeptThread) → IsNextPairDropped t (index - 1) zero_gstate new → new.pairs ≡ thread_at w (q ∷ [])
@@ -318,7 +329,7 @@ module _ (t : KeptThread) (index id first : ℕ) (can : CanEditEntryOfPair t ind
             };
             shows = ap (tree_on_disk new.disk) p ∙ f.shows ∙ ap (λ z. turn (tree_on_disk t.disk z)) (sym there);
             flying = subst (HasSameBlocksInFlight t.map) (sym map_is) (flying_same t.map o.at (used_blocks t.disk t.pairs) (used_blocks new.disk new.pairs ++ skip_list_blocks_of_struct t.disk u.struct) can.ready.used once now_used);
-            root = ap pair_count_before_root p ∙ root_stays t.disk new.disk w.chain (dirs_at w (x ∷ o ∷ [])) (dirs_at w (q ∷ [])) site_now.chain accepted f.accepted f.root ∙ sym (ap pair_count_before_root there);
+            root = ap pair_count_before_root p ∙ root_stays t.disk new.disk w.chain (dirs_at w (x ∷ o ∷ [])) (dirs_at w (q ∷ [])) behind.site.chain accepted f.accepted f.root ∙ sym (ap pair_count_before_root there);
           }
 
       pub gone_whole : IsFileRemoved t new can.path can.name (slot_of_editable_entry can).struct
@@ -326,7 +337,7 @@ module _ (t : KeptThread) (index id first : ℕ) (can : CanEditEntryOfPair t ind
         now = shrunk;
         completed = λ z given tree is_path. subst (λ y. IsImageAfterCompletedOperation t.disk y z (ops.Remove given) new.disk new.pairs) (sym there)
             (subst (λ y. IsImageAfterCompletedOperation t.disk (thread_at w (x ∷ o ∷ [])) z (ops.Remove given) new.disk y) (sym (pairs_now new h))
-            (drop_completed t.disk new.disk w x o q u (drop_on new.disk h.written) file can.path can.at leads_now same_now z given (tree ∙ ap (tree_on_disk t.disk) there)
+            (drop_completed t.disk new.disk w x o q u (drop_on new.disk h.written) file can.path can.at leads_now (subst (λ z. same_pair z can.at ≡ true) behind.begin same_before) z given (tree ∙ ap (tree_on_disk t.disk) there)
             (is_path ∙ ap (λ n. can.path ++ n ∷ []) (sym can.stands.stands.named))));
         once = λ b.
             let e = count_append b (used_blocks new.disk new.pairs) (skip_list_blocks_of_struct t.disk u.struct) in
@@ -343,25 +354,12 @@ module _ (t : KeptThread) (index id first : ℕ) (can : CanEditEntryOfPair t ind
         go : (h.content ≡ (thread_pair_at_index t (index - 1)).content) ⊎ (h.content ≡ content_after_next_pair_drop t (index - 1) zero_gstate) → IsLeftOf (disk_with_blocks left t.disk) (tree_on_disk t.disk t.pairs) (turn (tree_on_disk t.disk t.pairs))
         go (inl e) =
             let same = e ∙ ap (λ (z : Pair). z.content) front_there in
-            let d = device_kept t (index - 1) ahead x o back is number (subst (IsAcceptedImage t.disk) is can.ready.accepted) (disk_with_blocks left t.disk) x.content refl
-            (subst (λ y. IsPairWrittenOnDisk t (index - 1) y (disk_with_blocks left t.disk)) same h.written) in
-            let on = subst (λ z. IsDevice t.disk (disk_with_blocks left t.disk) z z) (sym is ∙ there_before) d in
-            let f = nothing_came t.disk (disk_with_blocks left t.disk) v o site_before (subst (IsAcceptedImage t.disk) there_before can.ready.accepted) on in
-            record {
-              pairs = thread_at v (o ∷ []);
-              accepted = f.accepted;
-              writable = profile_same t.disk (disk_with_blocks left t.disk) (thread_at v (o ∷ [])) refl refl refl (subst (IsWritableImage t.disk) there_before can.ready.writable);
-              tree = inl (f.shows ∙ ap (tree_on_disk t.disk) (sym there_before));
-            }
+            left_still t.disk left t.pairs can.ready.accepted can.ready.writable (subst (λ z. IsDevice t.disk (disk_with_blocks left t.disk) z z) (sym is)
+            (device_kept t (index - 1) ahead x o back is number (subst (IsAcceptedImage t.disk) is can.ready.accepted) (disk_with_blocks left t.disk) x.content refl (subst (λ y. IsPairWrittenOnDisk t (index - 1) y (disk_with_blocks left t.disk)) same h.written)))
+            (inl refl)
         go (inr e) =
             let written = subst (λ y. IsPairWrittenOnDisk t (index - 1) y (disk_with_blocks left t.disk)) e h.written in
-            let f = follows (disk_with_blocks left t.disk) written in
-            record {
-              pairs = thread_at w (q ∷ []);
-              accepted = f.accepted;
-              writable = drop_writable t.disk (disk_with_blocks left t.disk) w x o q u (drop_on (disk_with_blocks left t.disk) written);
-              tree = inr (f.shows ∙ ap (λ z. turn (tree_on_disk t.disk z)) (sym there));
-            }
+            left_after (record { follows = follows (disk_with_blocks left t.disk) written; writable = drop_writable t.disk (disk_with_blocks left t.disk) w x o q u (drop_on (disk_with_blocks left t.disk) written) }) (inr (ap (λ z. turn (tree_on_disk t.disk z)) (sym there)))
 
     pub whole_survives : (new : List DeviceCallEvent) → PowerLossLeavesSuchBlocksAfterCleanErases t.history new (IsLeftByStoppedPairDrop t (index - 1) zero_gstate)
         → SurvivesPowerLossInCallsSince t.disk t.history new (tree_on_disk t.disk t.pairs) (tree_without_named_entry t can.path can.name)

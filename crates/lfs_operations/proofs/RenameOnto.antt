@@ -58,10 +58,6 @@ module _ (disk new : Disk) (w : Site) (p q : Pair) (more : List Pair) (extra : L
       ∙ ap (λ z. shown_before w l ++ z) (append_assoc (slots_without_superblock passed) (moved ∷ []) (shown_behind w r)) ∙ sym (append_assoc (shown_before w l) (slots_without_superblock passed) (moved ∷ shown_behind w r))
       ∙ sym (set-append_seam ahead target (shown_behind w r) moved) ∙ ap (λ z. set z number moved) (sym left_over)
 
-  at_target : slice_get (entries_by_directory_in_thread (thread_at w (p ∷ [])) a) (length (shown_before w l ++ u ∷ slots_without_superblock passed)) ≡ Some target
-  at_target = ap (λ z. slice_get z (length (shown_before w l ++ u ∷ slots_without_superblock passed))) (shows ∙ sym (append_assoc (shown_before w l) (u ∷ slots_without_superblock passed) (target ∷ shown_behind w r)))
-      ∙ get_here (shown_before w l ++ u ∷ slots_without_superblock passed) (shown_behind w r) target
-
   pub onto_behind_follows : IsImageAfterTreeChange disk (thread_at w (p ∷ [])) new (thread_at w (q ∷ more)) (tree_after_rename (P ++ u.name ∷ []) (P ++ target.name ∷ [])) (directory_addresses_after_rename (P ++ u.name ∷ []) (P ++ target.name ∷ []))
   onto_behind_follows = entry_moves_onto disk new w p [] q more extra [] l (u ∷ (passed ++ target ∷ [])) (passed ++ moved ∷ []) r c
       P a leads same (place_at w l) u at_old number target there shown_moved (sibling_apart P u.name target.name differs) file
@@ -99,10 +95,6 @@ module _ (disk new : Disk) (w : Site) (p q : Pair) (more : List Pair) (extra : L
       ≡ set (remove (entries_by_directory_in_thread (thread_at w (p ∷ [])) a) (length (shown_before w l ++ target ∷ slots_without_superblock passed))) (place_at w l) (record u { name = target.name })
   shown_moved2 = ap (λ z. shown_before w l ++ (z ++ shown_behind w r)) (entry_among [] moved2 passed other)
       ∙ sym (set-append_seam (shown_before w l) target (slots_without_superblock passed ++ shown_behind w r) moved2) ∙ ap (λ z. set z (place_at w l) moved2) (sym left_over2)
-
-  at_target2 : slice_get (entries_by_directory_in_thread (thread_at w (p ∷ [])) a) (place_at w l) ≡ Some target
-  at_target2 = ap (λ z. slice_get z (place_at w l)) (shows2 ∙ append_assoc (shown_before w l) (target ∷ slots_without_superblock passed) (u ∷ shown_behind w r))
-      ∙ get_here (shown_before w l) (slots_without_superblock passed ++ u ∷ shown_behind w r) target
 
   pub onto_ahead_follows : IsImageAfterTreeChange disk (thread_at w (p ∷ [])) new (thread_at w (q ∷ more)) (tree_after_rename (P ++ u.name ∷ []) (P ++ target.name ∷ [])) (directory_addresses_after_rename (P ++ u.name ∷ []) (P ++ target.name ∷ []))
   onto_ahead_follows = entry_moves_onto disk new w p [] q more extra [] l (target ∷ (passed ++ u ∷ [])) (moved2 ∷ passed) r c

@@ -1,5 +1,5 @@
 -- An entry that takes the place of a directory while the sync bit turns, as a step of the thread.
-use Rattle.std.proofs.Common.{ℕ, ◌≡◌, ◌⊎◌, inl, inr, ◌+◌, ◌≤◌, true, false, List, [], ◌∷◌, ◌++◌, length, Some, refl, sym, ap, ap₂, subst, ◌∙◌, arith, append_assoc, append-nil, length-append, sum_by, set, insert}
+use Rattle.std.proofs.Common.{ℕ, ◌≡◌, ◌⊎◌, inl, inr, ◌+◌, ◌≤◌, true, false, List, [], ◌∷◌, ◌++◌, length, Some, refl, sym, ap, ap₂, subst, ◌∙◌, arith, append_assoc, append-nil, length-append, sum_by, insert}
 use Rattle.std.specs.Option.{option_and_then}
 use Rattle.std.proofs.lemmas.List.Elements.{recursion_from_All}
 use Rattle.std.proofs.lemmas.List.Sums.{sum_by-append, sum_by-cons}
@@ -7,7 +7,7 @@ use Rattle.std.proofs.lemmas.Option.{same_Some}
 use Rattle.lfs_model.specs.TreeEdits.{tree_after_rename}
 use Rattle.lfs_model.specs.Blocks.{Blocks}
 use Rattle.lfs_model.specs.Changes.{PairContentChange, Delete, PutMove, raw_pair_content_after_changes}
-use Rattle.lfs_model.specs.Content.{RawPairContent, RawSlot, slots_if_names_and_structs_present, pair_content_if_slots_complete, content_of_pair_at, current_block_of_pair_at, raw_content_of_pair_at}
+use Rattle.lfs_model.specs.Content.{RawPairContent, RawSlot, slots_if_names_and_structs_present, pair_content_if_slots_complete, raw_content_of_pair_at}
 use Rattle.lfs_model.specs.Disk.{Disk}
 use Rattle.lfs_model.specs.History.{DeviceCallEvent}
 use Rattle.lfs_model.specs.InDirectory.{HasEntryOfNameAtId}
@@ -17,7 +17,7 @@ use Rattle.lfs_model.specs.PowerLoss.{HasTreeBeforeOrAfterOperation as IsLeftOf,
 use Rattle.lfs_model.specs.SlotEdits.{pair_with_slots}
 use Rattle.lfs_model.specs.Slots.{PairContent, IsContentFittingPair, Gstate, Slot, gstate_xor, zero_gstate, same_pair, slot_size, struct_len}
 use Rattle.lfs_model.specs.Thread.{Pair, gstate_of_pairs, pair_address_named_by_tail, starts_with_superblock}
-use Rattle.lfs_model.specs.View.{BeginsWithLogEntry, IsAcceptedImage, IsFileOrDirectoryEntry, superblock_name_log_entry}
+use Rattle.lfs_model.specs.View.{IsAcceptedImage, IsFileOrDirectoryEntry}
 use Rattle.lfs_model.specs.Profile.{IsWritableImage}
 use Rattle.lfs_model.specs.Shown.{IsPathToDirectory, all_slots_not_moved, tree_on_disk}
 use Rattle.lfs_model.proofs.Became.{fits_same}
@@ -26,7 +26,7 @@ use Rattle.lfs_model.proofs.Committed.{no_move_from}
 use Rattle.lfs_model.proofs.Completed.{complete_insert, complete_length, completed_from, completed_parts}
 use Rattle.lfs_model.proofs.Effects.{does_first, puts_move}
 use Rattle.lfs_model.proofs.Files.{HasSameFileBlocksOfStructOnDisks}
-use Rattle.lfs_model.proofs.Global.{HasNoMove, gstate_comm, gstate_cons, gstate_moved, gstate_right, sync_bit_delta, turned_is}
+use Rattle.lfs_model.proofs.Global.{HasNoMove, gstate_comm, sync_bit_delta, turned_is}
 use Rattle.lfs_model.proofs.Histories.{IsTrueAfterAnyPowerLossSince-weaker}
 use Rattle.lfs_model.proofs.Moves.{IsStep, insert_here}
 use Rattle.lfs_model.proofs.OneCommit.{some_filled}
@@ -36,7 +36,6 @@ use Rattle.lfs_model.proofs.Sites.{Site, begin_of, thread_at}
 use Rattle.lfs_model.proofs.Splices.{IsDevice, stays_shape}
 use Rattle.lfs_model.proofs.StepsTaken.{IsWritableImageAfterTreeChange, commit_taken}
 use Rattle.lfs_model.proofs.Unchanged.{HasFirst}
-use Rattle.lfs_pair.specs.Commit.{KeepsBlocksOutsidePair}
 use Rattle.lfs_thread.specs.Device.{PowerLossLeavesSuchBlocksAfterCleanErases}
 use Rattle.lfs_thread.specs.Kept.{KeptThread}
 use Rattle.lfs_thread.specs.Steps.{CanChangePair, IsPairChanged, PowerLossLeavesPairOldOrChanged, IsCommitRefused, IsPairWrittenOnDisk, SlotsBeginWithSuperblock, complete_content_after_changes, thread_pair_at_index, thread_pairs_with_content_replaced_at_index}
@@ -45,7 +44,7 @@ use Rattle.lfs_operations.specs.Renaming.{id_after_slot_removal, tree_with_renam
 use Rattle.lfs_operations.specs.RenamingOver.{CanReplaceDirectoryInPair, IsDirectoryReplacedInPair, replace_directory_in_pair_changes}
 use Rattle.lfs_operations.specs.RenamingSlots.{HasSlotOfId, NamelessSlot, nameless_slot_of, slot_creation_changes}
 use Rattle.lfs_operations.proofs.Held.{CompletesTo, below, here, raw_there}
-use Rattle.lfs_operations.proofs.Placing.{IsPlaced as IsPlacedOn, all_apart, device, nothing_came}
+use Rattle.lfs_operations.proofs.Placing.{device, left_after, left_still}
 use Rattle.lfs_operations.proofs.RenameMade as made
 use Rattle.lfs_operations.proofs.RenameMade.{ComesAhead, ComesBehind, Leaves, behind_or_ahead}
 use Rattle.lfs_operations.proofs.RenameOnto.{onto_ahead_follows, onto_behind_follows}
@@ -53,6 +52,7 @@ use Rattle.lfs_operations.proofs.RenamePlaced.{IsPlaced, blocks_now, carries_ahe
 use Rattle.lfs_operations.proofs.RenameSlots.{IsOf, name_length, slot_comes, slot_of_parts, with_slot}
 use Rattle.lfs_operations.proofs.RenameTarget as both
 use Rattle.lfs_operations.proofs.RenameTarget.{follower}
+use Rattle.lfs_operations.proofs.Threads.{one_now, placed_one, sync_turned}
 
 -- ---- a delta that turns the sync bit
 
@@ -328,24 +328,8 @@ module _ (t : KeptThread) (index id place : ℕ) (name : Name) (rename : CanRepl
     pair_there : thread_pair_at_index t index ≡ p
     pair_there = here t can.ready can.first index p can.stands.rest can.stands.place
 
-    at_is : (thread_pair_at_index t index).at ≡ p.at
-    at_is = ap (λ (z : Pair). z.at) pair_there
-
-    abbrev ahead : List Pair
-    ahead = w.chain ++ (w.before ++ w.left)
-
-    abbrev behind : List Pair
-    behind = w.right ++ w.after
-
-    grouped : (z : Pair) → thread_at w (z ∷ []) ≡ (w.chain ++ (w.before ++ w.left)) ++ z ∷ (w.right ++ w.after)
-    grouped z = sym (append_assoc w.chain (w.before ++ w.left) (z ∷ (w.right ++ w.after)))
-
     pub gstate_now : gstate_of_pairs (thread_at w (q ∷ [])) ≡ sync_bit_delta
-    gstate_now =
-        let turn : gstate_of_pairs (q ∷ []) ≡ gstate_xor sync_bit_delta (gstate_of_pairs (p ∷ []))
-        = gstate_cons q [] ∙ gstate_right q.content.move ∙ ap (λ (z : Pair). gstate_xor z.content.move sync_bit_delta) pair_there ∙ gstate_comm p.content.move sync_bit_delta
-        ∙ ap (gstate_xor sync_bit_delta) (sym (gstate_cons p [] ∙ gstate_right p.content.move)) in
-        ap gstate_of_pairs (grouped q) ∙ gstate_moved sync_bit_delta ahead (p ∷ []) (q ∷ []) behind turn ∙ ap (λ z. gstate_xor sync_bit_delta (gstate_of_pairs z)) (sym (grouped p)) ∙ ap (gstate_xor sync_bit_delta) settled ∙ gstate_right sync_bit_delta
+    gstate_now = sync_turned w p q (ap (λ (z : Pair). gstate_xor z.content.move sync_bit_delta) pair_there) settled
 
     no_move_now : HasNoMove (gstate_of_pairs (thread_at w (q ∷ [])))
     no_move_now = subst HasNoMove (sym gstate_now) (record { kind = refl; id = refl; pair = refl })
@@ -361,16 +345,8 @@ module _ (t : KeptThread) (index id place : ℕ) (name : Name) (rename : CanRepl
     still_has : HasFirst p.content.slots → SlotsBeginWithSuperblock q.content.slots
     still_has first = subst SlotsBeginWithSuperblock (sym kept) (still_first h.olds h.news h.r h.l k.front (subst SlotsBeginWithSuperblock k.was (first.kind, first.name)))
 
-    placed_on : (disk : Disk) (d : PairContent) → (HasFirst p.content.slots → SlotsBeginWithSuperblock d.slots) → IsPairWrittenOnDisk t index d disk → IsPlacedOn t.disk disk p (record { at = p.at; content = d }) [] []
-    placed_on disk d first is = record {
-      geometry = record { block_size = is.shape.block_size; page = is.shape.page; order = is.shape.order; profile = is.shape.profile; count = is.shape.count };
-      same = λ b none. (subst (λ at. KeepsBlocksOutsidePair at t.disk.blocks disk.blocks) at_is is.others).others b (all_apart (p.at.0 ∷ p.at.1 ∷ []) b none);
-      contents = (ap (content_of_pair_at disk) (sym at_is) ∙ is.holds, tt);
-      first = λ z b. subst (λ at. BeginsWithLogEntry (current_block_of_pair_at disk at) superblock_name_log_entry) at_is (is.first (subst (λ at. BeginsWithLogEntry (current_block_of_pair_at t.disk at) superblock_name_log_entry) (sym at_is) b) (first z));
-    }
-
     device_of : (disk : Disk) → IsPairWrittenOnDisk t index (over_content h.x h.y) disk → IsDevice t.disk disk (thread_at w (p ∷ [])) (thread_at w (q ∷ []))
-    device_of disk is = device t.disk disk w p q [] [] accepted accepted.owned_once (placed_on disk (over_content h.x h.y) still_has is)
+    device_of disk is = device t.disk disk w p q [] [] accepted accepted.owned_once (placed_one t index w p there k.place disk (over_content h.x h.y) still_has is)
 
     pub step : (disk : Disk) → IsPairWrittenOnDisk t index (over_content h.x h.y) disk → IsStep t.disk disk w p [] q [] [] [] h.l h.olds h.news h.r
     step disk is =
@@ -409,13 +385,7 @@ module _ (t : KeptThread) (index id place : ℕ) (name : Name) (rename : CanRepl
         (h.follows disk q (step disk is) (ap (λ (g : Gstate). g.sync) gstate_now))
 
     pub pair_now : thread_pairs_with_content_replaced_at_index t index (over_content h.x h.y) ≡ thread_at w (q ∷ [])
-    pair_now =
-        ap (λ (z : Pair). set t.pairs index (record { at = z.at; content = over_content h.x h.y })) pair_there
-        ∙ ap₂ (λ (z : List Pair) (i : ℕ). set z i q) (there ∙ grouped p) (k.place ∙ sym (length-append w.chain (w.before ++ w.left))) ∙ set_at ahead p behind q ∙ sym (grouped q)
-      where
-        set_at : (xs : List Pair) (x : Pair) (zs : List Pair) (y : Pair) → set (xs ++ x ∷ zs) (length xs) y ≡ xs ++ y ∷ zs
-        set_at [] x zs y = refl
-        set_at (z ∷ xs) x zs y = ap (λ a. z ∷ a) (set_at xs x zs y)
+    pair_now = one_now t index w p there k.place (over_content h.x h.y)
 
   pub can_over : CanChangePair t index (replace_directory_in_pair_changes t index id place name)
   can_over = record {
@@ -460,22 +430,11 @@ module _ (t : KeptThread) (index id place : ℕ) (name : Name) (rename : CanRepl
       go (inl e) =
           let same = e ∙ ap (λ (z : Pair). z.content) (here t can.ready can.first index p can.stands.rest can.stands.place) in
           let ok = subst (IsAcceptedImage t.disk) there can.ready.accepted in
-          let f = nothing_came t.disk (disk_with_blocks left t.disk) w p has_over.placed.site ok
-          (device t.disk (disk_with_blocks left t.disk) w p p [] [] ok ok.owned_once (placed_on has_over (disk_with_blocks left t.disk) p.content (λ z. (z.kind, z.name)) (subst (λ z. IsPairWrittenOnDisk t index z (disk_with_blocks left t.disk)) same is.written))) in
-          record {
-            pairs = thread_at w (p ∷ []);
-            accepted = f.accepted;
-            writable = (let o = subst (IsWritableImage t.disk) there can.ready.writable in record { pairs = o.pairs; slots = o.slots; no_empty_pair = o.no_empty_pair });
-            tree = inl (f.shows ∙ ap (tree_on_disk t.disk) (sym there));
-          }
-      go (inr m) =
-          let done = taken has_over (disk_with_blocks left t.disk) (subst (λ z. IsPairWrittenOnDisk t index z (disk_with_blocks left t.disk)) (same_made is.content m.0) is.written) in
-          record {
-            pairs = thread_at w (q has_over ∷ []);
-            accepted = done.follows.accepted;
-            writable = done.writable;
-            tree = inr (done.follows.shows ∙ ap (λ z. tree_after_rename (can.path ++ can.name ∷ []) (can.path ++ name ∷ []) (tree_on_disk t.disk z)) (sym there));
-          }
+          left_still t.disk left (thread_at w (p ∷ [])) ok (subst (IsWritableImage t.disk) there can.ready.writable)
+          (device t.disk (disk_with_blocks left t.disk) w p p [] [] ok ok.owned_once (placed_one t index w p there has_over.placed.place (disk_with_blocks left t.disk) p.content (λ z. (z.kind, z.name)) (subst (λ z. IsPairWrittenOnDisk t index z (disk_with_blocks left t.disk)) same is.written)))
+          (inl (ap (tree_on_disk t.disk) (sym there)))
+      go (inr m) = left_after (taken has_over (disk_with_blocks left t.disk) (subst (λ z. IsPairWrittenOnDisk t index z (disk_with_blocks left t.disk)) (same_made is.content m.0) is.written))
+          (inr (ap (λ z. tree_after_rename (can.path ++ can.name ∷ []) (can.path ++ name ∷ []) (tree_on_disk t.disk z)) (sym there)))
 
   pub over_survives : (new : List DeviceCallEvent) → PowerLossLeavesSuchBlocksAfterCleanErases t.history new (PowerLossLeavesPairOldOrChanged t index (replace_directory_in_pair_changes t index id place name))
       → SurvivesPowerLossInCallsSince t.disk t.history new (tree_on_disk t.disk t.pairs) (tree_with_renamed_entry t rename.can.path rename.can.name name)

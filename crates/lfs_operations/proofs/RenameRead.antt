@@ -21,7 +21,7 @@ use Rattle.lfs_operations.specs.Changing.{CanChangeOrSplitPair, IsLeftByStoppedC
 use Rattle.lfs_operations.specs.Ready.{IsImageReadyForChange}
 use Rattle.lfs_operations.specs.Renaming.{ReportsErrorsOfReadThenChangeOrSplit}
 use Rattle.lfs_operations.proofs.Held.{here, holds}
-use Rattle.lfs_operations.proofs.Putting.{cut_later, left_later, read_is, reports_later, with_history, writes_later, writes_none}
+use Rattle.lfs_operations.proofs.Putting.{cut_later, left_later, read_is, reports_later, with_history, writes_later, writes_none, same_err}
 
 -- ---- only read
 
@@ -31,9 +31,6 @@ read_survives t h reads ready tree clean = IsTrueAfterAnyPowerLossSince-read_cou
 pub read_writes : (t mid : KeptThread) → IsThreadOnlyRead t mid → (index : ℕ) → WritesPairAndTwoFreeBlocks t index mid
 read_writes t mid only index = subst (λ (k : KeptThread). WritesPairAndTwoFreeBlocks t index k) (sym (read_is t mid only))
     (writes_later t mid.history only.reads index [] (with_history t mid.history) (writes_none (with_history t mid.history) index))
-
-same_err : {A : Type 0} (a b : Error) (r : Result A Error) → r ≡ Err a → r ≡ Err b → a ≡ b
-same_err a b r h k = cc
 
 -- an error of a call that only reads, passed on
 pub reports_read : {X Y : Type 0} (t mid : KeptThread) (e : Error) (result : Result X Error) (given : Result Y Error) → result ≡ Err e → given ≡ Err e → IoMeantFaultNoMemoryWroteNothing t mid result → ReportsFaultsChangingNothingAtNoSpace t mid given

@@ -16,7 +16,7 @@ use Rattle.lfs_thread.specs.Steps.{CanChangePair, IoMeantFaultNoMemoryWroteNothi
 use Rattle.lfs_operations.specs.Ready.{IsImageReadyForChange}
 use Rattle.lfs_operations.specs.RenamingOver.{ReportsErrorsOfReadThenCommit}
 use Rattle.lfs_operations.proofs.Held.{here, holds}
-use Rattle.lfs_operations.proofs.Putting.{read_is, with_history}
+use Rattle.lfs_operations.proofs.Putting.{read_is, with_history, same_err}
 use Rattle.lfs_operations.proofs.RenameRead.{changed_earlier, written_earlier}
 
 pub changed_after_read : (t mid new : KeptThread) (index : ℕ) (changes : List PairContentChange) → IsThreadOnlyRead t mid → IsPairChanged mid index changes new → IsPairChanged t index changes new
@@ -73,9 +73,6 @@ change_stops_after_read t mid new index changes bs only ready first p rest place
     earlier left is = record { content = is.content; is = is.is; written = written_earlier t mid.history index is.content (disk_with_blocks left t.disk) is.written }
 
 -- ---- what it tells
-
-same_err : {A : Type 0} (a b : Error) (r : Result A Error) → r ≡ Err a → r ≡ Err b → a ≡ b
-same_err a b r h k = cc
 
 -- an error passed on
 reported_again : {X Y : Type 0} (t new : KeptThread) (e : Error) (result : Result X Error) (given : Result Y Error) → result ≡ Err e → given ≡ Err e → IoMeantFaultNoMemoryWroteNothing t new result → IoMeantFaultNoMemoryWroteNothing t new given

@@ -1,7 +1,6 @@
 -- The entry of an empty directory goes, and then its pair: what each of the two steps comes to, in an accepted image.
-use Rattle.std.proofs.Common.{ℕ, ◌≡◌, ◌≢◌, ◌&&◌, true, false, nat_eq, List, [], ◌∷◌, ◌++◌, length, Option, Some, None, refl, sym, ap, subst, ◌∙◌, arith, append_assoc, length-append}
+use Rattle.std.proofs.Common.{ℕ, ◌≡◌, ◌≢◌, ◌&&◌, true, false, List, [], ◌∷◌, ◌++◌, length, Option, Some, None, refl, sym, ap, subst, ◌∙◌, arith}
 use Rattle.std.specs.Prelude.{is_some}
-use Rattle.std.specs.List.{IsDistinct}
 use Rattle.std.proofs.lemmas.List.Elements.{recursion_from_All}
 use Rattle.lfs_model.specs.TreeEdits.{tree_after_subtree_replacement, tree_after_removal}
 use Rattle.lfs_model.specs.Disk.{Disk}
@@ -10,30 +9,30 @@ use Rattle.lfs_model.specs.Session.{Session}
 use Rattle.lfs_model.specs.SlotEdits.{slot_of_path}
 use Rattle.lfs_model.specs.Slots.{Branch, Slot, Tail, is_superblock, zero_gstate, same_pair}
 use Rattle.lfs_model.specs.Refusals.{path_of_bytes_or_root}
-use Rattle.lfs_model.specs.Thread.{Pair, blocks_of_pairs, gstate_of_pairs, is_hard_tail, pair_count_before_root}
+use Rattle.lfs_model.specs.Thread.{Pair, gstate_of_pairs, is_hard_tail, pair_count_before_root}
 use Rattle.lfs_model.specs.Tree.{Path}
 use Rattle.lfs_model.specs.View.{IsAcceptedImage}
 use Rattle.lfs_model.specs.Profile.{IsWritableImage}
 use Rattle.lfs_model.specs.Shown.{IsPathToDirectory, all_slots_not_moved, entries_by_directory_in_thread, tree_on_disk, used_blocks}
-use Rattle.lfs_model.proofs.Alike.{alike_itself}
+use Rattle.lfs_model.proofs.Alike.{alike_itself, ArePairsWithSameAddressesAndSlots, alike_append}
 use Rattle.lfs_model.proofs.Changes.{IsImageAfterTreeChange, SameFiles, slots_files}
 use Rattle.lfs_model.proofs.Committed.{IsImageAfterCompletedOperation}
-use Rattle.lfs_model.proofs.Counts.{occurrence_count_of_number, each_append, each_left, each_right}
+use Rattle.lfs_model.proofs.Counts.{occurrence_count_of_number, each_left, each_right}
 use Rattle.lfs_model.proofs.Drops.{softened}
 use Rattle.lfs_model.proofs.Files.{HasSameFileBlocksOfStructOnDisks}
 use Rattle.lfs_model.proofs.Global.{HasNoMove}
 use Rattle.lfs_model.proofs.Layouts.{onward_all}
 use Rattle.lfs_model.proofs.Moves.{IsStep}
 use Rattle.lfs_model.proofs.RemovedDirectory.{IsRmdir, rmdir_completed}
-use Rattle.lfs_model.proofs.RmdirSteps.{IsGone, rmdir_ahead_completed, rmdir_behind_completed, rmdir_named, rmdir_taken}
-use Rattle.lfs_model.proofs.Searches.{avoids_behind, avoids_front}
+use Rattle.lfs_model.proofs.RmdirSteps.{IsGone, rmdir_named, rmdir_taken}
 use Rattle.lfs_model.proofs.Sites.{Site, begin_of, dirs_at, thread_at}
 use Rattle.lfs_model.proofs.Splices.{IsDevice, count_files, file_blocks_of_slots, slots_of_pairs_in_order, unmoved_in}
 use Rattle.lfs_model.proofs.StepsTaken.{IsWritableImageAfterTreeChange}
 use Rattle.lfs_operations.specs.Dropping.{tail_over_dropped_pair}
-use Rattle.lfs_operations.proofs.Dropped.{count_used, slots_append}
+use Rattle.lfs_operations.proofs.Owning.{count_used, slots_append}
 use Rattle.lfs_operations.proofs.Placing.{blocks_append}
-use Rattle.lfs_operations.proofs.RmdirPlaces.{Ahead, Behind, Itself, Next, WhereIs, soft_end, where_is}
+use Rattle.lfs_operations.proofs.RmdirPlaces.{HasPlaceOver, place_over}
+use Rattle.lfs_model.proofs.OneCommit.{some_filled}
 
 -- ---- the first step
 
@@ -68,12 +67,6 @@ pub record HasPlace (disk middle : Disk) (w : Site) (p q : Pair) (u : Slot) (P :
       → IsImageAfterCompletedOperation disk (thread_at w (p ∷ [])) s (ops.Remove path) new (w.chain ++ (front ++ y ∷ back))
 
 module _ (disk middle : Disk) (w : Site) (p q : Pair) (l r : List Slot) (u : Slot) (P : Path) (a d : ℕ × ℕ) (c : Unlinks disk middle w p q l r u P a d) (o : Pair) (address : same_pair o.at d ≡ true) (alone : is_hard_tail o.content.tail ≡ false) where
-  abbrev in_front : List Pair
-  in_front = w.before ++ w.left
-
-  abbrev in_back : List Pair
-  in_back = w.right ++ w.after
-
   abbrev path_there : Path
   path_there = P ++ u.name ∷ []
 
@@ -82,112 +75,47 @@ module _ (disk middle : Disk) (w : Site) (p q : Pair) (l r : List Slot) (u : Slo
   takes_place front x back there new y gone =
       rmdir_taken disk middle new w p [] q l r u c.step c.other c.writable P a c.leads c.same d c.branch c.empty c.sync c.settled front x o y back there address alone gone
 
-  ahead_place : (mid : List Pair) (x : Pair) (back : List Pair) (n : ℕ) → in_back ≡ mid ++ x ∷ o ∷ back → length (in_front ++ p ∷ mid) ≡ n → is_hard_tail x.content.tail ≡ false → HasPlace disk middle w p q u P o n
-  ahead_place mid x back n e k soft =
-      let there : dirs_at w (q ∷ []) ≡ ((w.before ++ w.left) ++ q ∷ mid) ++ x ∷ o ∷ back = ap (λ z. in_front ++ q ∷ z) e ∙ sym (append_assoc in_front (q ∷ mid) (x ∷ o ∷ back)) in
-      record {
-        front = (w.before ++ w.left) ++ q ∷ mid;
-        x = x;
-        back = back;
-        there = there;
-        number = let g = length-append in_front (q ∷ mid) in let h = length-append in_front (p ∷ mid) in omega arith;
-        soft = soft;
-        taken = takes_place ((w.before ++ w.left) ++ q ∷ mid) x back there;
-        completed = λ new y gone s path tree is. rmdir_ahead_completed disk middle new w p q l r u c.step c.other c.old_writable c.writable P a c.leads c.same d c.branch c.empty c.sync c.settled
-            mid x o y back e address alone c.held c.kept c.some gone s path tree is;
-      }
-
-  behind_place : (front : List Pair) (x : Pair) (mid : List Pair) → in_front ≡ front ++ x ∷ o ∷ mid → is_hard_tail x.content.tail ≡ false → HasPlace disk middle w p q u P o (length front)
-  behind_place front x mid e soft =
-      let there : dirs_at w (q ∷ []) ≡ front ++ x ∷ o ∷ (mid ++ q ∷ (w.right ++ w.after)) = ap (λ z. z ++ q ∷ in_back) e ∙ append_assoc front (x ∷ o ∷ mid) (q ∷ in_back) in
-      record {
-        front = front;
-        x = x;
-        back = mid ++ q ∷ (w.right ++ w.after);
-        there = there;
-        number = refl;
-        soft = soft;
-        taken = takes_place front x (mid ++ q ∷ (w.right ++ w.after)) there;
-        completed = λ new y gone s path tree is. rmdir_behind_completed disk middle new w p q l r u c.step c.other c.old_writable c.writable P a c.leads c.same d c.branch c.empty c.sync c.settled
-            front x o y mid e address alone c.held c.kept c.some gone s path tree is;
-      }
-
-  -- the pair that had the entry is the one in front
-  module _ (back : List Pair) (e : in_back ≡ o ∷ back) (soft : is_hard_tail p.content.tail ≡ false) where
-    there_next : dirs_at w (q ∷ []) ≡ in_front ++ q ∷ o ∷ back
-    there_next = ap (λ z. in_front ++ q ∷ z) e
-
-    were : thread_at w (p ∷ []) ≡ w.chain ++ (in_front ++ p ∷ o ∷ back)
-    were = ap (λ z. w.chain ++ (in_front ++ p ∷ z)) e
-
-    distinct : IsDistinct nat_eq (blocks_of_pairs ((w.chain ++ (in_front ++ p ∷ [])) ++ o ∷ back))
-    distinct = subst (λ z. IsDistinct nat_eq (blocks_of_pairs z))
-        (were ∙ ap (λ z. w.chain ++ z) (sym (append_assoc in_front (p ∷ []) (o ∷ back))) ∙ sym (append_assoc w.chain (in_front ++ p ∷ []) (o ∷ back))) c.step.accepted.thread.distinct
-
-    module _ (new : Disk) (y : Pair) (gone : IsGone middle new w.chain in_front q o y back) where
-      abbrev after : List Pair
-      after = w.chain ++ (in_front ++ y ∷ back)
-
-      taken_next : IsWritableImageAfterTreeChange disk (thread_at w (p ∷ [])) new after (tree_after_removal path_there) (tree_after_subtree_replacement path_there (λ t. None))
-      taken_next = takes_place in_front q back there_next new y gone
-
-      made_next : IsRmdir disk new after true w.chain in_front [] back p o (y ∷ []) l u r d path_there
-      made_next = record {
-        is_chain = ap pair_count_before_root (sym were) ∙ c.step.site.chain;
-        accepted = subst (IsAcceptedImage disk) were c.step.accepted;
-        writable = subst (IsWritableImage disk) were c.old_writable;
-        settled = ap gstate_of_pairs (sym were) ∙ c.settled;
-        still = gone.settled;
-        walk = tree_after_subtree_replacement path_there (λ t. None);
-        follows = subst (λ z. IsImageAfterTreeChange disk z new after (tree_after_removal path_there) (tree_after_subtree_replacement path_there (λ t. None))) were taken_next.follows;
-        still_writable = taken_next.writable;
-        held = c.held;
-        branch = c.branch;
-        alike_address = address;
-        soft = alone;
-        begins = soft_end None in_front p soft;
-        apart =
-            let ahead_of = each_right (λ (z : Pair). same_pair z.at d ≡ false) w.chain (in_front ++ p ∷ []) (avoids_front (w.chain ++ (in_front ++ p ∷ [])) o back d distinct address) in
-            each_append (λ (z : Pair). same_pair z.at d ≡ false) in_front (p ∷ back) (each_left (λ (z : Pair). same_pair z.at d ≡ false) in_front (p ∷ []) ahead_of)
-            ((each_right (λ (z : Pair). same_pair z.at d ≡ false) in_front (p ∷ []) ahead_of).0, avoids_behind (w.chain ++ (in_front ++ p ∷ [])) o back d distinct address);
-        stays = (gone.at ∙ c.step.shape.at, gone.slots ∙ c.kept, c.some);
-        alike = alike_itself after;
-        named = subst (λ z. slot_of_path z path_there ≡ Some u) were
-            (rmdir_named disk middle new w p [] q l r u c.step c.other c.writable P a c.leads c.same d c.branch c.empty c.sync c.settled in_front q o y back there_next address alone gone);
-      }
-
-      completed_next : (s : Session) (path : List ℕ) → s.tree ≡ tree_on_disk disk (thread_at w (p ∷ [])) → path_of_bytes_or_root path ≡ P ++ u.name ∷ [] → IsImageAfterCompletedOperation disk (thread_at w (p ∷ [])) s (ops.Remove path) new after
-      completed_next s path tree is = subst (λ z. IsImageAfterCompletedOperation disk z s (ops.Remove path) new after) (sym were)
-          (rmdir_completed disk new after true w.chain in_front [] back p o (y ∷ []) l u r d path_there made_next s path (tree ∙ ap (tree_on_disk disk) were) is)
-
-    next_place : HasPlace disk middle w p q u P o (length in_front)
-    next_place = record {
-      front = w.before ++ w.left;
-      x = q;
-      back = back;
-      there = there_next;
-      number = refl;
-      soft = ap is_hard_tail c.tail ∙ soft;
-      taken = takes_place (w.before ++ w.left) q back there_next;
-      completed = completed_next;
-    }
-
-  -- o holds no slot, so it isn't p
-  not_itself : o.content.slots ≡ [] → p ≡ o → ⊥
-  not_itself none e = no_slot l (sym c.held ∙ ap (λ (z : Pair). z.content.slots) e ∙ none)
-    where
-      no_slot : (xs : List Slot) → xs ++ u ∷ r ≡ [] → ⊥
-      no_slot [] k = absurd (cc)
-      no_slot (s ∷ xs) k = absurd (cc)
-
   pub place_of : (front : List Pair) (x : Pair) (back : List Pair) → dirs_at w (p ∷ []) ≡ front ++ x ∷ o ∷ back → is_hard_tail x.content.tail ≡ false → o.content.slots ≡ [] → HasPlace disk middle w p q u P o (length front)
-  place_of front x back e soft none = by (where_is in_front p in_back front x o back e)
+  place_of front x back e soft none = go (place_over w p q o d address c.step.accepted.thread.distinct (ap is_hard_tail c.tail) front x back e soft (λ is. some_filled l r u (sym c.held ∙ ap (λ (z : Pair). z.content.slots) is ∙ none)))
     where
-      by : WhereIs in_front p in_back front x o back → HasPlace disk middle w p q u P o (length front)
-      by (Ahead mid h k) = ahead_place mid x back (length front) h (ap length (sym k)) soft
-      by (Next h i k) = subst (λ z. HasPlace disk middle w p q u P o (length z)) h (next_place back k (ap (λ (z : Pair). is_hard_tail z.content.tail) (sym i) ∙ soft))
-      by (Itself h) = absurd (not_itself none h)
-      by (Behind mid h) = behind_place front x mid h soft
+      go : HasPlaceOver w p q o d (length front) → HasPlace disk middle w p q u P o (length front)
+      go k = record {
+        front = k.front;
+        x = k.x;
+        back = k.back;
+        there = k.there;
+        number = k.number;
+        soft = k.soft;
+        taken = takes_place k.front k.x k.back k.there;
+        completed = λ new y gone s path tree is. subst (λ z. IsImageAfterCompletedOperation disk z s (ops.Remove path) new (w.chain ++ (k.front ++ y ∷ k.back))) (sym k.were)
+            (rmdir_completed disk new (w.chain ++ (k.front ++ y ∷ k.back)) k.b w.chain k.one k.mid k.other p o (q ∷ []) l u r d path_there (made new y gone) s path (tree ∙ ap (tree_on_disk disk) k.were) is);
+      }
+        where
+          made : (new : Disk) (y : Pair) → IsGone middle new w.chain k.front k.x o y k.back → IsRmdir disk new (w.chain ++ (k.front ++ y ∷ k.back)) k.b w.chain k.one k.mid k.other p o (q ∷ []) l u r d (P ++ u.name ∷ [])
+          made new y gone =
+              let taken = takes_place k.front k.x k.back k.there new y gone in
+              record {
+                is_chain = ap pair_count_before_root (sym k.were) ∙ c.step.site.chain;
+                accepted = subst (IsAcceptedImage disk) k.were c.step.accepted;
+                writable = subst (IsWritableImage disk) k.were c.old_writable;
+                settled = ap gstate_of_pairs (sym k.were) ∙ c.settled;
+                still = gone.settled;
+                walk = tree_after_subtree_replacement path_there (λ t. None);
+                follows = subst (λ z. IsImageAfterTreeChange disk z new (w.chain ++ (k.front ++ y ∷ k.back)) (tree_after_removal path_there) (tree_after_subtree_replacement path_there (λ t. None))) k.were taken.follows;
+                still_writable = taken.writable;
+                held = c.held;
+                branch = c.branch;
+                alike_address = address;
+                soft = alone;
+                begins = k.begins;
+                apart = k.apart;
+                stays = (c.step.shape.at, c.kept, (λ h. c.some (k.led h)));
+                alike = subst (λ z. ArePairsWithSameAddressesAndSlots (w.chain ++ z) (w.chain ++ (k.front ++ y ∷ k.back))) (sym k.are)
+                    (alike_append w.chain (k.front ++ k.x ∷ k.back) w.chain (k.front ++ y ∷ k.back) (alike_itself w.chain)
+                    (alike_append k.front (k.x ∷ k.back) k.front (y ∷ k.back) (alike_itself k.front) (gone.at, gone.slots, alike_itself k.back)));
+                named = subst (λ z. slot_of_path z path_there ≡ Some u) k.were
+                    (rmdir_named disk middle new w p [] q l r u c.step c.other c.writable P a c.leads c.same d c.branch c.empty c.sync c.settled k.front k.x o y k.back k.there address alone gone);
+              }
 
 -- ---- the tail
 

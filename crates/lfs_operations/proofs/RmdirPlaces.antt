@@ -1,12 +1,12 @@
 -- Where the pair of an empty directory stands in the thread, from the entry that names it.
-use Rattle.std.proofs.Common.{ℕ, zero, suc, ◌≡◌, ◌+◌, ◌<◌, true, false, cond, slice_get, get_or, List, [], ◌∷◌, ◌++◌, length, Option, Some, None, refl, sym, ap, subst, ◌∙◌, arith, append_assoc, append-nil, length-append}
+use Rattle.std.proofs.Common.{ℕ, zero, suc, ◌≡◌, ◌+◌, ◌<◌, true, false, cond, slice_get, get_or, List, [], ◌∷◌, ◌++◌, length, Option, Some, None, refl, sym, ap, subst, ◌∙◌, arith, append_assoc, append-nil, length-append, Bool, nat_eq}
 use Rattle.std.specs.Option.{option_and_then}
 use Rattle.std.specs.Prelude.{is_some}
 use Rattle.std.proofs.lemmas.Option.{same_Some}
 use Rattle.lfs_model.specs.Disk.{Disk}
 use Rattle.lfs_model.specs.Layout.{directory_address_of_pair, directory_address_continued_by_hard_tail}
 use Rattle.lfs_model.specs.Slots.{Branch, Slot, same_pair}
-use Rattle.lfs_model.specs.Thread.{Pair, pairs_from_root_directory_on, first_pair_address, gstate_of_pairs, is_hard_tail, root_directory_address_of_pairs}
+use Rattle.lfs_model.specs.Thread.{Pair, pairs_from_root_directory_on, first_pair_address, gstate_of_pairs, is_hard_tail, root_directory_address_of_pairs, blocks_of_pairs}
 use Rattle.lfs_model.specs.Tree.{Path, branch_address_of_struct, directory_address_at_path, directory_address_at_path_from_slot, root_slot}
 use Rattle.lfs_model.specs.View.{IsAcceptedImage}
 use Rattle.lfs_model.specs.Shown.{IsPathToDirectory, entries_by_directory_in_thread}
@@ -18,13 +18,18 @@ use Rattle.lfs_model.proofs.Listings.{Ends, IsRun}
 use Rattle.lfs_model.proofs.Names.{found_at}
 use Rattle.lfs_model.proofs.Pairs.{pair_back, pair_on}
 use Rattle.lfs_model.proofs.Paths.{append_step}
-use Rattle.lfs_model.proofs.Searches.{same_number}
-use Rattle.lfs_model.proofs.Sites.{Site, dirs_at}
+use Rattle.lfs_model.proofs.Searches.{same_number, avoids_behind, avoids_front}
+use Rattle.lfs_model.proofs.Sites.{Site, dirs_at, thread_at}
 use Rattle.lfs_model.proofs.Superblocks.{IsChain, pairs_behind}
 use Rattle.lfs_model.proofs.Uses.{accepted_sound}
 use Rattle.lfs_model.proofs.Walks.{leads_below}
 use Rattle.lfs_model.proofs.Writable.{ends_in_hard_tail}
 use Rattle.lfs_operations.proofs.RemovedWhole.{last_pair}
+use Rattle.lfs_operations.proofs.Threads.{get_behind}
+use Rattle.std.specs.List.{IsDistinct}
+use Rattle.lfs_model.proofs.Counts.{Each, each_append, each_left, each_right}
+use Rattle.lfs_model.proofs.RemovedDirectory.{onward_append, before_gone, from_kept}
+use Rattle.lfs_model.proofs.TwoPlaces.{two}
 
 -- ---- lists
 
@@ -32,10 +37,6 @@ pub get_some : (xs : List Pair) (n : ℕ) (d : Pair) → n < length xs → slice
 get_some [] n d l = absurd (omega arith)
 get_some (x ∷ xs) zero d l = refl
 get_some (x ∷ xs) (suc n) d l = get_some xs n d (omega arith)
-
-get_behind : (xs : List Pair) (p : Pair) (ys : List Pair) → slice_get (xs ++ p ∷ ys) (length xs) ≡ Some p
-get_behind [] p ys = refl
-get_behind (x ∷ xs) p ys = get_behind xs p ys
 
 -- Where the pair p stands, beside two others of the same list that stand one behind the other.
 pub data WhereIs (xs : List Pair) (p : Pair) (ys front : List Pair) (x o : Pair) (back : List Pair) : Type 0 where
@@ -169,3 +170,116 @@ number_of_first disk chain dirs d ok h n o there at =
     let b = length-append h.front (h.before ∷ []) in
     let c = length-append chain h.front in
     (omega arith, same_Some h.first o (sym first_there ∙ ap (slice_get (chain ++ dirs)) (sym e) ∙ there))
+
+-- ---- the pair that goes, once the one of its entry is changed
+
+-- Once p is q, the pair o stands behind x. Of the thread with p and o somewhere, o's directory begins with it, and no other pair is there.
+pub record HasPlaceOver (w : Site) (p q o : Pair) (d : ℕ × ℕ) (n : ℕ) : Type 0 where
+  pub front : List Pair
+  pub x : Pair
+  pub back : List Pair
+  pub there : dirs_at w (q ∷ []) ≡ front ++ x ∷ o ∷ back
+  pub number : length front ≡ n
+  pub soft : is_hard_tail x.content.tail ≡ false
+  pub b : Bool
+  pub one : List Pair
+  pub mid : List Pair
+  pub other : List Pair
+  pub were : thread_at w (p ∷ []) ≡ w.chain ++ two b one (p ∷ []) mid (o ∷ []) other
+  pub begins : onward_all None (before_gone b one mid p) ≡ None
+  pub apart : Each (λ z. same_pair z.at d ≡ false) (two b one (p ∷ []) mid [] other)
+  pub are : two b one (q ∷ []) mid [] other ≡ front ++ x ∷ back
+  pub led : is_some (from_kept b one mid o) ≡ true → is_some (onward_all None (w.before ++ w.left)) ≡ true
+
+module _ (w : Site) (p q o : Pair) (d : ℕ × ℕ) (address : same_pair o.at d ≡ true) (distinct : IsDistinct nat_eq (blocks_of_pairs (thread_at w (p ∷ [])))) (tail : is_hard_tail q.content.tail ≡ is_hard_tail p.content.tail) where
+  abbrev in_front : List Pair
+  in_front = w.before ++ w.left
+
+  abbrev in_back : List Pair
+  in_back = w.right ++ w.after
+
+  -- the pairs but o aren't at its address
+  others_apart : (front back : List Pair) → thread_at w (p ∷ []) ≡ w.chain ++ (front ++ o ∷ back) → Each (λ z. same_pair z.at d ≡ false) front × Each (λ z. same_pair z.at d ≡ false) back
+  others_apart front back is =
+      let e = subst (λ z. IsDistinct nat_eq (blocks_of_pairs z)) (is ∙ sym (append_assoc w.chain front (o ∷ back))) distinct in
+      (each_right (λ (z : Pair). same_pair z.at d ≡ false) w.chain front (avoids_front (w.chain ++ front) o back d e address), avoids_behind (w.chain ++ front) o back d e address)
+
+  ahead_place : (mid : List Pair) (x : Pair) (back : List Pair) (n : ℕ) → in_back ≡ mid ++ x ∷ o ∷ back → length (in_front ++ p ∷ mid) ≡ n → is_hard_tail x.content.tail ≡ false → HasPlaceOver w p q o d n
+  ahead_place mid x back n e k soft =
+      let whole : thread_at w (p ∷ []) ≡ w.chain ++ ((in_front ++ p ∷ (mid ++ x ∷ [])) ++ o ∷ back)
+      = ap (λ z. w.chain ++ (in_front ++ p ∷ z)) (e ∙ sym (append_assoc mid (x ∷ []) (o ∷ back))) ∙ ap (λ z. w.chain ++ z) (sym (append_assoc in_front (p ∷ (mid ++ x ∷ [])) (o ∷ back))) in
+      let a = others_apart (in_front ++ p ∷ (mid ++ x ∷ [])) back whole in
+      let f = each_left (λ (z : Pair). same_pair z.at d ≡ false) in_front (p ∷ (mid ++ x ∷ [])) a.0 in
+      let g = each_right (λ (z : Pair). same_pair z.at d ≡ false) in_front (p ∷ (mid ++ x ∷ [])) a.0 in
+      record {
+        front = in_front ++ q ∷ mid;
+        x = x;
+        back = back;
+        there = ap (λ z. in_front ++ q ∷ z) e ∙ sym (append_assoc in_front (q ∷ mid) (x ∷ o ∷ back));
+        number = let g = length-append in_front (q ∷ mid) in let h = length-append in_front (p ∷ mid) in omega arith;
+        soft = soft;
+        b = true;
+        one = in_front;
+        mid = mid ++ x ∷ [];
+        other = back;
+        were = ap (λ z. w.chain ++ (in_front ++ p ∷ z)) (e ∙ sym (append_assoc mid (x ∷ []) (o ∷ back)));
+        begins = ap (λ z. onward_all None z) (sym (append_assoc in_front (p ∷ mid) (x ∷ []))) ∙ soft_end None (in_front ++ p ∷ mid) x soft;
+        apart = each_append (λ (z : Pair). same_pair z.at d ≡ false) in_front (p ∷ ((mid ++ x ∷ []) ++ back)) f (g.0, each_append (λ (z : Pair). same_pair z.at d ≡ false) (mid ++ x ∷ []) back g.1 a.1);
+        are = ap (λ z. in_front ++ q ∷ z) (append_assoc mid (x ∷ []) back) ∙ sym (append_assoc in_front (q ∷ mid) (x ∷ back));
+        led = λ h. h;
+      }
+
+  next_place : (back : List Pair) (n : ℕ) → in_back ≡ o ∷ back → length in_front ≡ n → is_hard_tail p.content.tail ≡ false → HasPlaceOver w p q o d n
+  next_place back n e k soft =
+      let whole : thread_at w (p ∷ []) ≡ w.chain ++ ((in_front ++ p ∷ []) ++ o ∷ back) = ap (λ z. w.chain ++ (in_front ++ p ∷ z)) e ∙ ap (λ z. w.chain ++ z) (sym (append_assoc in_front (p ∷ []) (o ∷ back))) in
+      let a = others_apart (in_front ++ p ∷ []) back whole in
+      let f = each_left (λ (z : Pair). same_pair z.at d ≡ false) in_front (p ∷ []) a.0 in
+      let g = each_right (λ (z : Pair). same_pair z.at d ≡ false) in_front (p ∷ []) a.0 in
+      record {
+        front = in_front;
+        x = q;
+        back = back;
+        there = ap (λ z. in_front ++ q ∷ z) e;
+        number = k;
+        soft = tail ∙ soft;
+        b = true;
+        one = in_front;
+        mid = [];
+        other = back;
+        were = ap (λ z. w.chain ++ (in_front ++ p ∷ z)) e;
+        begins = soft_end None in_front p soft;
+        apart = each_append (λ (z : Pair). same_pair z.at d ≡ false) in_front (p ∷ back) f (g.0, a.1);
+        are = refl;
+        led = λ h. h;
+      }
+
+  behind_place : (front : List Pair) (x : Pair) (mid : List Pair) → in_front ≡ front ++ x ∷ o ∷ mid → is_hard_tail x.content.tail ≡ false → HasPlaceOver w p q o d (length front)
+  behind_place front x mid e soft =
+      let turned : dirs_at w (p ∷ []) ≡ (front ++ x ∷ []) ++ o ∷ (mid ++ p ∷ in_back) = ap (λ z. z ++ p ∷ in_back) e ∙ append_assoc front (x ∷ o ∷ mid) (p ∷ in_back) ∙ sym (append_assoc front (x ∷ []) (o ∷ (mid ++ p ∷ in_back))) in
+      let a = others_apart (front ++ x ∷ []) (mid ++ p ∷ in_back) (ap (λ z. w.chain ++ z) turned) in
+      record {
+        front = front;
+        x = x;
+        back = mid ++ q ∷ in_back;
+        there = ap (λ z. z ++ q ∷ in_back) e ∙ append_assoc front (x ∷ o ∷ mid) (q ∷ in_back);
+        number = refl;
+        soft = soft;
+        b = false;
+        one = front ++ x ∷ [];
+        mid = mid;
+        other = in_back;
+        were = ap (λ z. w.chain ++ z) turned;
+        begins = soft_end None front x soft;
+        apart = each_append (λ (z : Pair). same_pair z.at d ≡ false) (front ++ x ∷ []) (mid ++ p ∷ in_back) a.0 a.1;
+        are = append_assoc front (x ∷ []) (mid ++ q ∷ in_back);
+        led = λ h. ap is_some (ap (onward_all None) (e ∙ sym (append_assoc front (x ∷ []) (o ∷ mid))) ∙ onward_append None (front ++ x ∷ []) (o ∷ mid)) ∙ h;
+      }
+
+  pub place_over : (front : List Pair) (x : Pair) (back : List Pair) → dirs_at w (p ∷ []) ≡ front ++ x ∷ o ∷ back → is_hard_tail x.content.tail ≡ false → (p ≡ o → ⊥) → HasPlaceOver w p q o d (length front)
+  place_over front x back e soft not_itself = by (where_is in_front p in_back front x o back e)
+    where
+      by : WhereIs in_front p in_back front x o back → HasPlaceOver w p q o d (length front)
+      by (Ahead mid h k) = ahead_place mid x back (length front) h (ap length (sym k)) soft
+      by (Next h i k) = next_place back (length front) k (ap length h) (ap (λ (z : Pair). is_hard_tail z.content.tail) (sym i) ∙ soft)
+      by (Itself h) = absurd (not_itself h)
+      by (Behind mid h) = behind_place front x mid h soft

@@ -1,53 +1,48 @@
 -- An empty directory that goes in two steps of the thread.
-use Rattle.std.proofs.Common.{ℕ, ◌≡◌, ◌≢◌, ◌⊎◌, inl, inr, ◌+◌, ◌-◌, ◌<◌, ◌≤◌, true, false, nat_eq, slice_get, set, List, [], ◌∷◌, ◌++◌, length, Some, None, refl, sym, ap, ap₂, subst, ◌∙◌, arith, append_assoc, append-nil, length-append}
+use Rattle.std.proofs.Common.{ℕ, ◌≡◌, ◌≢◌, ◌⊎◌, inl, inr, ◌+◌, ◌-◌, ◌<◌, true, false, nat_eq, slice_get, List, [], ◌∷◌, ◌++◌, length, Some, None, refl, sym, ap, ap₂, subst, ◌∙◌, arith, append_assoc, append-nil, length-append}
 use Rattle.std.specs.List.{IsDistinct}
 use Rattle.lfs_model.specs.TreeEdits.{tree_after_removal, tree_after_subtree_replacement}
 use Rattle.lfs_model.specs.Blocks.{Blocks}
 use Rattle.lfs_model.specs.BlockSets.{AreExactlyTheUsedBlocks}
-use Rattle.lfs_model.specs.Content.{content_of_pair_at, current_block_of_pair_at}
 use Rattle.lfs_model.specs.Disk.{Disk}
 use Rattle.lfs_model.specs.InDirectory.{IsPairAtAddress}
 use Rattle.lfs_model.specs.Operations as ops
 use Rattle.lfs_model.specs.PowerLoss.{HasTreeBeforeOrAfterOperation as IsLeftOf, disk_with_blocks}
 use Rattle.lfs_model.specs.SlotEdits.{pair_with_slots}
 use Rattle.lfs_model.specs.Slots.{PairContent, Gstate, Slot, gstate_xor, zero_gstate, same_pair}
-use Rattle.lfs_model.specs.Thread.{Pair, blocks_of_pairs, gstate_of_pairs, is_hard_tail, starts_with_superblock, pair_count_before_root, blocks_of_pair_address}
-use Rattle.lfs_model.specs.View.{BeginsWithLogEntry, IsAcceptedImage, superblock_name_log_entry}
+use Rattle.lfs_model.specs.Thread.{Pair, blocks_of_pairs, gstate_of_pairs, is_hard_tail, starts_with_superblock, pair_count_before_root}
+use Rattle.lfs_model.specs.View.{IsAcceptedImage}
 use Rattle.lfs_model.specs.Profile.{IsWritableImage}
 use Rattle.lfs_model.specs.Shown.{IsPathToDirectory, entries_by_directory_in_thread, tree_on_disk, used_blocks}
 use Rattle.lfs_model.proofs.Became.{fits_same}
 use Rattle.lfs_model.proofs.Committed.{IsImageAfterCompletedOperation, no_move_from}
-use Rattle.lfs_model.proofs.Counts.{occurrence_count_of_number, once_from_distinct}
-use Rattle.lfs_model.proofs.Global.{HasNoMove, gstate_comm, gstate_cons, gstate_moved, gstate_right, sync_bit_delta}
+use Rattle.lfs_model.proofs.Counts.{occurrence_count_of_number}
+use Rattle.lfs_model.proofs.Global.{HasNoMove, sync_bit_delta}
 use Rattle.lfs_model.proofs.Indexes.{site_shows}
 use Rattle.lfs_model.proofs.Moves.{IsStep, directory_goes, entry_only, get_here, place_at, shown_before, shown_behind}
-use Rattle.lfs_model.proofs.RmdirSteps.{IsGone, step_chain}
+use Rattle.lfs_model.proofs.RmdirSteps.{step_chain}
 use Rattle.lfs_model.proofs.Searches.{is_site, number_is, same, site, thread_is}
-use Rattle.lfs_model.proofs.Sites.{IsSite, Site, begin_of, dirs_at, run_changed, thread_at}
-use Rattle.lfs_model.proofs.Splices.{IsDevice, file_blocks_of_slots, stays_shape}
+use Rattle.lfs_model.proofs.Sites.{IsSite, Site, begin_of, dirs_at, thread_at}
+use Rattle.lfs_model.proofs.Splices.{IsDevice, stays_shape}
 use Rattle.lfs_model.proofs.StepsTaken.{IsWritableImageAfterTreeChange, commit_taken}
 use Rattle.lfs_model.proofs.Unchanged.{HasFirst}
 use Rattle.lfs_model.proofs.Writable.{ends_in_hard_tail}
-use Rattle.lfs_pair.specs.Commit.{KeepsBlocksOutsidePair}
 use Rattle.lfs_thread.specs.Kept.{KeptThread}
-use Rattle.lfs_thread.specs.Steps.{IsPairWrittenOnDisk, SlotsBeginWithSuperblock, empty_pair_at_anchor, thread_pair_at_index, block_map_with_freed_pair}
-use Rattle.lfs_operations.specs.Dropping.{CanDropPairAt, IsNextPairDropped, IsLeftByStoppedPairDrop, HasSameBlocksInFlight, content_after_next_pair_drop}
+use Rattle.lfs_thread.specs.Steps.{IsPairWrittenOnDisk, SlotsBeginWithSuperblock, empty_pair_at_anchor, thread_pair_at_index}
+use Rattle.lfs_operations.specs.Dropping.{IsNextPairDropped, IsLeftByStoppedPairDrop, HasSameBlocksInFlight, ShowsTreeAfterPairDrops}
 use Rattle.lfs_operations.specs.Editing.{CanEditEntryOfPair}
 use Rattle.lfs_operations.specs.Removing.{is_pair_dropped_with_slot, tree_without_named_entry}
 use Rattle.lfs_operations.specs.Unlinking.{CanRemoveDirectory, IsDirectoryRemoved, IsLeftByStoppedUnlink, IsDirectoryEntryUnlinked, content_without_directory_entry}
-use Rattle.lfs_operations.proofs.Dropped.{dropped_count, flying_same, length_fewer, profile_same, used_fewer}
-use Rattle.lfs_operations.proofs.DroppedTails.{no_move_state}
-use Rattle.lfs_operations.proofs.Placing.{IsPlaced, all_apart, device, nothing_came}
+use Rattle.lfs_operations.proofs.Placing.{device, left_after, left_still}
 use Rattle.lfs_operations.proofs.Removed.{alone, flag_ends, stays_there}
-use Rattle.lfs_operations.proofs.RmdirEnd as end
 use Rattle.lfs_operations.proofs.Rmdir.{HasPlace, Unlinks, place_of, unlinked_count}
 use Rattle.lfs_operations.proofs.RmdirPlaces.{HasFront, directory_led, flag_from, get_some, has_front, number_of_first, shows_nothing}
-use Rattle.lfs_operations.proofs.RootStays.{root_stays}
 use Rattle.lfs_operations.proofs.Unlinked.{fits_gone, held_there, pair_there, slots_gone}
-
-get_at : (xs : List Pair) (p : Pair) (zs : List Pair) (n : ℕ) (q : Pair) → length xs ≡ n → set (xs ++ p ∷ zs) n q ≡ xs ++ q ∷ zs
-get_at [] p zs n q e = ap (λ (k : ℕ). set (p ∷ zs) k q) (sym e)
-get_at (x ∷ xs) p zs n q e = ap (λ (k : ℕ). set (x ∷ (xs ++ p ∷ zs)) k q) (sym e) ∙ ap (λ z. x ∷ z) (get_at xs p zs (length xs) q refl)
+use Rattle.lfs_operations.proofs.LastDrop.{IsAllButDropped, is_gone, left_last, pairs_end, shows_dropped, y}
+use Rattle.lfs_operations.proofs.Owning.{used_same}
+use Rattle.lfs_model.proofs.Superblocks.{IsChain}
+use Rattle.lfs_model.specs.Tree.{Path}
+use Rattle.lfs_operations.proofs.Threads.{one_now, placed_one, sync_turned}
 
 module _ (t : KeptThread) (index id first gone : ℕ) (take : CanRemoveDirectory t index id first gone) (goes : is_pair_dropped_with_slot t index first ≡ false) where
   abbrev can : CanEditEntryOfPair t index id
@@ -70,6 +65,9 @@ module _ (t : KeptThread) (index id first gone : ℕ) (take : CanRemoveDirectory
 
   abbrev w : Site
   w = site t.disk t.pairs can.path can.at can.ready.accepted can.leads can.first index p can.stands.rest can.stands.place can.begins
+
+  abbrev path_there : Path
+  path_there = can.path ++ u.name ∷ []
 
   there : t.pairs ≡ thread_at w (p ∷ [])
   there = thread_is t.disk t.pairs can.path can.at can.ready.accepted can.leads can.first index p can.stands.rest can.stands.place can.begins
@@ -149,9 +147,6 @@ module _ (t : KeptThread) (index id first gone : ℕ) (take : CanRemoveDirectory
   abbrev q : Pair
   q = record { at = p.at; content = c }
 
-  at_is : (thread_pair_at_index t index).at ≡ p.at
-  at_is = ap (λ (z : Pair). z.at) (pair_there t index id can)
-
   kept : q.content.slots ≡ l ++ r
   kept = slots_gone t index id can
 
@@ -167,15 +162,8 @@ module _ (t : KeptThread) (index id first gone : ℕ) (take : CanRemoveDirectory
   grouped : (z : Pair) → thread_at w (z ∷ []) ≡ ahead ++ z ∷ behind
   grouped z = sym (append_assoc w.chain (w.before ++ w.left) (z ∷ (w.right ++ w.after)))
 
-  number_ahead : length ahead ≡ index
-  number_ahead = length-append w.chain (w.before ++ w.left) ∙ sym number_there
-
   gstate_middle : gstate_of_pairs (thread_at w (q ∷ [])) ≡ sync_bit_delta
-  gstate_middle =
-      let turned : gstate_of_pairs (q ∷ []) ≡ gstate_xor sync_bit_delta (gstate_of_pairs (p ∷ []))
-      = gstate_cons q [] ∙ gstate_right q.content.move ∙ ap (λ (z : Pair). gstate_xor z.content.move sync_bit_delta) (pair_there t index id can) ∙ gstate_comm p.content.move sync_bit_delta
-      ∙ ap (gstate_xor sync_bit_delta) (sym (gstate_cons p [] ∙ gstate_right p.content.move)) in
-      ap gstate_of_pairs (grouped q) ∙ gstate_moved sync_bit_delta ahead (p ∷ []) (q ∷ []) behind turned ∙ ap (λ z. gstate_xor sync_bit_delta (gstate_of_pairs z)) (sym (grouped p)) ∙ ap (gstate_xor sync_bit_delta) settled ∙ gstate_right sync_bit_delta
+  gstate_middle = sync_turned w p q (ap (λ (z : Pair). gstate_xor z.content.move sync_bit_delta) (pair_there t index id can)) settled
 
   no_move_middle : HasNoMove (gstate_of_pairs (thread_at w (q ∷ [])))
   no_move_middle = subst HasNoMove (sym gstate_middle) (record { kind = refl; id = refl; pair = refl })
@@ -188,16 +176,8 @@ module _ (t : KeptThread) (index id first gone : ℕ) (take : CanRemoveDirectory
       go [] f e = absurd (let z = sym (f refl) ∙ e.0 in cc)
       go (s ∷ l) f e = e
 
-  placed : (disk : Disk) (d : PairContent) → (HasFirst p.content.slots → SlotsBeginWithSuperblock d.slots) → IsPairWrittenOnDisk t index d disk → IsPlaced t.disk disk p (record { at = p.at; content = d }) [] []
-  placed disk d first h = record {
-    geometry = record { block_size = h.shape.block_size; page = h.shape.page; order = h.shape.order; profile = h.shape.profile; count = h.shape.count };
-    same = λ b none. (subst (λ at. KeepsBlocksOutsidePair at t.disk.blocks disk.blocks) at_is h.others).others b (all_apart (p.at.0 ∷ p.at.1 ∷ []) b none);
-    contents = (ap (content_of_pair_at disk) (sym at_is) ∙ h.holds, tt);
-    first = λ k b. subst (λ at. BeginsWithLogEntry (current_block_of_pair_at disk at) superblock_name_log_entry) at_is (h.first (subst (λ at. BeginsWithLogEntry (current_block_of_pair_at t.disk at) superblock_name_log_entry) (sym at_is) b) (first k));
-  }
-
   device_of : (disk : Disk) → IsPairWrittenOnDisk t index c disk → IsDevice t.disk disk (thread_at w (p ∷ [])) (thread_at w (q ∷ []))
-  device_of disk h = device t.disk disk w p q [] [] accepted accepted.owned_once (placed disk c still_has h)
+  device_of disk h = device t.disk disk w p q [] [] accepted accepted.owned_once (placed_one t index w p there number_there disk c still_has h)
 
   front_same : starts_with_superblock p.content.slots ≡ true → starts_with_superblock q.content.slots ≡ true
   front_same e = ap starts_with_superblock kept ∙ go l (λ k. can.stands.stands.entry) (sym (ap starts_with_superblock held) ∙ e)
@@ -260,163 +240,57 @@ module _ (t : KeptThread) (index id first gone : ℕ) (take : CanRemoveDirectory
     abbrev k : HasPlace t.disk m.disk w p q u can.path o (length front.front)
     k = place m.disk h.written
 
-    abbrev first_part : List Pair
-    first_part = w.chain ++ k.front
-
     pairs_middle : m.pairs ≡ thread_at w (q ∷ [])
-    pairs_middle = h.pairs
-        ∙ ap (λ (z : Pair). set t.pairs index (record { at = z.at; content = c })) (pair_there t index id can)
-        ∙ ap (λ (z : List Pair). set z index q) (there ∙ grouped p) ∙ get_at ahead p behind index q number_ahead ∙ sym (grouped q)
+    pairs_middle = h.pairs ∙ one_now t index w p there number_there c
 
-    is_middle : m.pairs ≡ first_part ++ k.x ∷ o ∷ k.back
-    is_middle = pairs_middle ∙ ap (λ z. w.chain ++ z) k.there ∙ sym (append_assoc w.chain k.front (k.x ∷ o ∷ k.back))
+    used_middle : (b : ℕ) → occurrence_count_of_number b (used_blocks m.disk m.pairs) ≡ occurrence_count_of_number b (used_blocks t.disk t.pairs)
+    used_middle b = ap (λ z. occurrence_count_of_number b (used_blocks m.disk z)) (pairs_middle ∙ grouped q)
+        ∙ unlinked_count t.disk m.disk ahead p q behind l r u take.to (subst (λ z. HasNoMove (gstate_of_pairs z)) (grouped p) (no_move_from (thread_at w (p ∷ [])) settled)) (subst (λ z. HasNoMove (gstate_of_pairs z)) (grouped q) no_move_middle)
+        (subst (λ z. IsDevice t.disk m.disk z (ahead ++ q ∷ behind)) (grouped p) (subst (IsDevice t.disk m.disk (thread_at w (p ∷ []))) (grouped q) (device_of m.disk h.written))) refl held kept take.branch b
+        ∙ ap (λ z. occurrence_count_of_number b (used_blocks t.disk z)) (sym (there ∙ grouped p))
 
-    number_middle : length first_part ≡ gone - 1
-    number_middle =
-        let a = length-append w.chain k.front in
-        let b = length-append w.chain front.front in
-        let n = k.number in
-        let f = first_is.0 in
-        omega arith
+    chain_middle : IsChain w.chain (dirs_at w (q ∷ []))
+    chain_middle = step_chain t.disk m.disk w p [] q [] [] [] l (u ∷ []) [] r (step m.disk h.written)
 
-    accepted_middle : IsAcceptedImage m.disk (thread_at w (q ∷ []))
-    accepted_middle = (first_taken m.disk h.written).follows.accepted
-
-    accepted_parts : IsAcceptedImage m.disk (first_part ++ k.x ∷ o ∷ k.back)
-    accepted_parts = subst (IsAcceptedImage m.disk) (sym pairs_middle ∙ is_middle) accepted_middle
-
-    x_there : thread_pair_at_index m (gone - 1) ≡ k.x
-    x_there = end.x_there m (gone - 1) w.chain k.front k.x o k.back is_middle number_middle
-
-    o_there : thread_pair_at_index m (gone - 1 + 1) ≡ o
-    o_there = end.o_there m (gone - 1) w.chain k.front k.x o k.back is_middle number_middle
-
-    pub can_drop_gone : CanDropPairAt m gone zero_gstate
-    can_drop_gone = record {
-      above = let f = first_is.0 in omega arith;
-      below =
-          let e = ap length is_middle in
-          let a = length-append first_part (k.x ∷ o ∷ k.back) in
-          let n = number_middle in
-          let f = first_is.0 in
-          omega arith;
-      thread = h.thread;
-      fits = end.x_fits m (gone - 1) w.chain k.front k.x o k.back is_middle number_middle (subst (IsWritableImage m.disk) (sym pairs_middle) (first_taken m.disk h.written).writable);
-      storable = no_move_state;
+    -- the directory's own pair may go
+    pub may_go : IsAllButDropped t m (thread_pair_at_index t gone) gone (tree_after_removal (take.can.path ++ take.can.stands.stands.slot.name ∷ [])) (tree_after_subtree_replacement (take.can.path ++ take.can.stands.stands.slot.name ∷ []) (λ t. None))
+    may_go = record {
+      ready = can.ready;
+      taken = subst (λ z. IsWritableImageAfterTreeChange t.disk t.pairs m.disk z (tree_after_removal path_there) (tree_after_subtree_replacement path_there (λ t. None))) (sym pairs_middle)
+          (subst (λ z. IsWritableImageAfterTreeChange t.disk z m.disk (thread_at w (q ∷ [])) (tree_after_removal path_there) (tree_after_subtree_replacement path_there (λ t. None))) (sym there) (first_taken m.disk h.written));
+      no_move = subst (λ z. HasNoMove (gstate_of_pairs z)) (sym pairs_middle) no_move_middle;
+      chain = w.chain;
+      front = k.front;
+      x = k.x;
+      back = k.back;
+      there = pairs_middle ∙ ap (λ z. w.chain ++ z) k.there;
+      is_chain = subst (IsChain w.chain) k.there chain_middle;
+      number = let a = length-append w.chain k.front in let b = length-append w.chain front.front in let n = k.number in let f = first_is.0 in omega arith;
+      soft = k.soft;
+      drops = λ new y gone. subst (λ z. IsWritableImageAfterTreeChange t.disk z new (w.chain ++ (k.front ++ y ∷ k.back)) (tree_after_removal path_there) (tree_after_subtree_replacement path_there (λ t. None))) (sym there) (k.taken new y gone);
+      empty = take.empty;
+      used = subst (λ s. AreExactlyTheUsedBlocks s (used_blocks m.disk m.pairs)) (sym h.map) (used_same t.map (used_blocks t.disk t.pairs) (used_blocks m.disk m.pairs) used_middle can.ready.used);
+      size = ap length h.map ∙ can.ready.size ∙ sym h.written.shape.count;
+      flying = subst (HasSameBlocksInFlight t.map) (sym h.map) (λ b. ((λ f. f), (λ f. f)));
+      root = ap pair_count_before_root pairs_middle ∙ chain_middle ∙ sym (ap pair_count_before_root there ∙ site_is.chain);
+      shape = h.written.shape;
     }
 
-    -- ---- the second step
+    turned : tree_after_removal (can.path ++ u.name ∷ []) (tree_on_disk t.disk t.pairs) ≡ tree_without_named_entry t take.can.path take.can.name
+    turned = ap (λ n. tree_after_removal (can.path ++ n ∷ []) (tree_on_disk t.disk t.pairs)) can.stands.stands.named
 
-    abbrev d : PairContent
-    d = content_after_next_pair_drop m (gone - 1) zero_gstate
-
-    abbrev y : Pair
-    y = record { at = k.x.at; content = d }
-
-    d_slots : d.slots ≡ k.x.content.slots
-    d_slots = end.taken_slots m (gone - 1) w.chain k.front k.x o k.back is_middle number_middle
-
-    regrouped : w.chain ++ (k.front ++ y ∷ k.back) ≡ first_part ++ y ∷ k.back
-    regrouped = end.regrouped m (gone - 1) w.chain k.front k.x o k.back is_middle number_middle
-
-    settled_end : gstate_of_pairs (w.chain ++ (k.front ++ y ∷ k.back)) ≡ zero_gstate
-    settled_end = end.settled_end m (gone - 1) w.chain k.front k.x o k.back is_middle number_middle
-
-    device_end : (disk : Disk) → IsPairWrittenOnDisk m (gone - 1) d disk → IsDevice m.disk disk (first_part ++ k.x ∷ o ∷ k.back) (first_part ++ y ∷ k.back)
-    device_end = end.device_end m (gone - 1) w.chain k.front k.x o k.back is_middle number_middle accepted_parts
-
-    is_gone : (disk : Disk) → IsPairWrittenOnDisk m (gone - 1) d disk → IsGone m.disk disk w.chain k.front k.x o y k.back
-    is_gone = end.is_gone m (gone - 1) w.chain k.front k.x o k.back is_middle number_middle accepted_parts k.soft
-
-    end_taken : (disk : Disk) → IsPairWrittenOnDisk m (gone - 1) d disk
-        → IsWritableImageAfterTreeChange t.disk (thread_at w (p ∷ [])) disk (w.chain ++ (k.front ++ y ∷ k.back)) (tree_after_removal (can.path ++ u.name ∷ [])) (tree_after_subtree_replacement (can.path ++ u.name ∷ []) (λ t. None))
-    end_taken disk written = k.taken disk y (is_gone disk written)
-
-    turned : tree_after_removal (can.path ++ u.name ∷ []) (tree_on_disk t.disk (thread_at w (p ∷ []))) ≡ tree_without_named_entry t can.path can.name
-    turned = ap₂ (λ n z. tree_after_removal (can.path ++ n ∷ []) (tree_on_disk t.disk z)) can.stands.stands.named (sym there)
-
-    module _ (new : KeptThread) (g : IsNextPairDropped m (gone - 1) zero_gstate new) where
-      pairs_end : new.pairs ≡ w.chain ++ (k.front ++ y ∷ k.back)
-      pairs_end = end.pairs_end m (gone - 1) w.chain k.front k.x o k.back is_middle number_middle new g
-
-      map_end : new.map ≡ block_map_with_freed_pair t.map o.at
-      map_end = g.map ∙ ap₂ (λ s (z : Pair). block_map_with_freed_pair s z.at) h.map o_there
-
-      end_used : (b : ℕ) → occurrence_count_of_number b (used_blocks new.disk new.pairs) + occurrence_count_of_number b (blocks_of_pair_address o.at) ≡ occurrence_count_of_number b (used_blocks t.disk t.pairs)
-      end_used b =
-          let e1 = unlinked_count t.disk m.disk ahead p q behind l r u take.to (subst (λ z. HasNoMove (gstate_of_pairs z)) (grouped p) (no_move_from (thread_at w (p ∷ [])) settled)) (subst (λ z. HasNoMove (gstate_of_pairs z)) (grouped q) no_move_middle)
-          (subst (λ z. IsDevice t.disk m.disk z (ahead ++ q ∷ behind)) (grouped p) (subst (IsDevice t.disk m.disk (thread_at w (p ∷ []))) (grouped q) (device_of m.disk h.written))) refl held kept take.branch b in
-          let e2 = dropped_count m.disk new.disk first_part k.x o y k.back (subst (λ z. HasNoMove (gstate_of_pairs z)) (sym pairs_middle ∙ is_middle) no_move_middle)
-          (subst (λ z. HasNoMove (gstate_of_pairs z)) regrouped (no_move_from (w.chain ++ (k.front ++ y ∷ k.back)) settled_end)) (device_end new.disk g.written) refl d_slots b in
-          let f1 = ap (λ z. occurrence_count_of_number b (used_blocks new.disk z)) (pairs_end ∙ regrouped) in
-          let f2 = ap (λ z. occurrence_count_of_number b (used_blocks m.disk z)) (sym (grouped q) ∙ sym pairs_middle ∙ is_middle) in
-          let f3 = ap (λ z. occurrence_count_of_number b (used_blocks t.disk z)) (there ∙ grouped p) in
-          let f4 = ap (λ z. occurrence_count_of_number b (file_blocks_of_slots m.disk z)) take.empty in
-          omega arith
-
-      once : (b : ℕ) → occurrence_count_of_number b (used_blocks t.disk t.pairs) ≤ 1
-      once b = once_from_distinct (used_blocks t.disk t.pairs) can.ready.accepted.owned_once b
-
-      pub directory_removed : IsDirectoryRemoved t new take.can.path take.can.name
-      directory_removed =
-          let f = end_taken new.disk g.written in
-          record {
-            now = record {
-              ready = record {
-                accepted = subst (IsAcceptedImage new.disk) (sym pairs_end) f.follows.accepted;
-                writable = subst (IsWritableImage new.disk) (sym pairs_end) f.writable;
-                settled = g.gstate;
-                used = record {
-                  owned = used_blocks new.disk new.pairs;
-                  are = subst (λ s. AreExactlyTheUsedBlocks s (used_blocks new.disk new.pairs)) (sym map_end) (used_fewer t.map o.at (used_blocks t.disk t.pairs) (used_blocks new.disk new.pairs) can.ready.used once end_used);
-                  same = λ b. omega arith;
-                };
-                size = ap length map_end ∙ length_fewer t.map o.at (used_blocks t.disk t.pairs) (used_blocks new.disk new.pairs) can.ready.used once end_used ∙ can.ready.size
-                    ∙ sym h.written.shape.count ∙ sym g.written.shape.count;
-                large = subst (λ n. 1024 ≤ n) (sym (g.written.shape.block_size ∙ h.written.shape.block_size)) can.ready.large;
-              };
-              shows = ap (tree_on_disk new.disk) pairs_end ∙ f.follows.shows ∙ turned;
-              flying = subst (HasSameBlocksInFlight t.map) (sym map_end) (flying_same t.map o.at (used_blocks t.disk t.pairs) (used_blocks new.disk new.pairs) can.ready.used once end_used);
-              root = ap pair_count_before_root pairs_end ∙ root_stays t.disk new.disk w.chain (dirs_at w (p ∷ [])) (k.front ++ y ∷ k.back) site_is.chain accepted f.follows.accepted f.follows.root ∙ sym (ap pair_count_before_root there);
-            };
-            completed = λ z given tree is_path. subst (λ s. IsImageAfterCompletedOperation t.disk s z (ops.Remove given) new.disk new.pairs) (sym there)
-                (subst (λ s. IsImageAfterCompletedOperation t.disk (thread_at w (p ∷ [])) z (ops.Remove given) new.disk s) (sym pairs_end)
-                (k.completed new.disk y (is_gone new.disk g.written) z given (tree ∙ ap (tree_on_disk t.disk) there) (is_path ∙ ap (λ n. can.path ++ n ∷ []) (sym can.stands.stands.named))));
-          }
-
-    -- ---- at a stop in the second step
-
-    same_shape : (left : Blocks) → disk_with_blocks left m.disk ≡ disk_with_blocks left t.disk
-    same_shape left = λ j. record { block_size = h.written.shape.block_size j; page = h.written.shape.page j; order = h.written.shape.order j; profile = h.written.shape.profile j; blocks = left }
-
-    site_middle : IsSite w (q ∷ [])
-    site_middle = record {
-      chain = step_chain t.disk m.disk w p [] q [] [] [] l (u ∷ []) [] r (step m.disk h.written);
-      ends = site_is.ends;
-      run = run_changed w.left p w.right q w.right ((step m.disk h.written).shape.run w.right) site_is.run;
+    pub directory_removed : (new : KeptThread) → IsNextPairDropped m (gone - 1) zero_gstate new → IsDirectoryRemoved t new take.can.path take.can.name
+    unfolding may_go
+    directory_removed new g = record {
+      now = subst (λ z. ShowsTreeAfterPairDrops t new z []) turned (shows_dropped may_go new g);
+      completed = λ z given tree is_path. subst (λ s. IsImageAfterCompletedOperation t.disk s z (ops.Remove given) new.disk new.pairs) (sym there)
+          (subst (λ s. IsImageAfterCompletedOperation t.disk (thread_at w (p ∷ [])) z (ops.Remove given) new.disk s) (sym (pairs_end may_go new g))
+          (k.completed new.disk (y may_go) (is_gone may_go new.disk g.written) z given (tree ∙ ap (tree_on_disk t.disk) there) (is_path ∙ ap (λ n. can.path ++ n ∷ []) (sym can.stands.stands.named))));
     }
 
+    -- what a stop in the second step leaves
     pub left_second : (left : Blocks) → IsLeftByStoppedPairDrop m (gone - 1) zero_gstate left → IsLeftOf (disk_with_blocks left t.disk) (tree_on_disk t.disk t.pairs) (tree_without_named_entry t take.can.path take.can.name)
-    left_second left g = subst (λ z. IsLeftOf z (tree_on_disk t.disk t.pairs) (tree_without_named_entry t can.path can.name)) (same_shape left) (go g.is)
-      where
-        go : (g.content ≡ (thread_pair_at_index m (gone - 1)).content) ⊎ (g.content ≡ content_after_next_pair_drop m (gone - 1) zero_gstate) → IsLeftOf (disk_with_blocks left m.disk) (tree_on_disk t.disk t.pairs) (tree_without_named_entry t can.path can.name)
-        go (inl e) =
-            let on = end.device_left m (gone - 1) w.chain k.front k.x o k.back is_middle number_middle accepted_parts (disk_with_blocks left m.disk) (subst (λ z. IsPairWrittenOnDisk m (gone - 1) z (disk_with_blocks left m.disk)) e g.written) in
-            let f = nothing_came m.disk (disk_with_blocks left m.disk) w q site_middle accepted_middle (subst (λ z. IsDevice m.disk (disk_with_blocks left m.disk) z z) pairs_middle on) in
-            record {
-              pairs = thread_at w (q ∷ []);
-              accepted = f.accepted;
-              writable = profile_same m.disk (disk_with_blocks left m.disk) (thread_at w (q ∷ [])) refl refl refl (first_taken m.disk h.written).writable;
-              tree = inr (f.shows ∙ (first_taken m.disk h.written).follows.shows ∙ turned);
-            }
-        go (inr e) =
-            let f = end_taken (disk_with_blocks left m.disk) (subst (λ z. IsPairWrittenOnDisk m (gone - 1) z (disk_with_blocks left m.disk)) e g.written) in
-            record {
-              pairs = w.chain ++ (k.front ++ y ∷ k.back);
-              accepted = f.follows.accepted;
-              writable = f.writable;
-              tree = inr (f.follows.shows ∙ turned);
-            }
+    left_second left g = subst (IsLeftOf (disk_with_blocks left t.disk) (tree_on_disk t.disk t.pairs)) turned (left_last may_go left g)
 
   -- ---- at a stop in the first step
 
@@ -426,20 +300,9 @@ module _ (t : KeptThread) (index id first gone : ℕ) (take : CanRemoveDirectory
       go : (g.content ≡ (thread_pair_at_index t index).content) ⊎ (g.content ≡ content_without_directory_entry t index id) → IsLeftOf (disk_with_blocks left t.disk) (tree_on_disk t.disk t.pairs) (tree_without_named_entry t can.path can.name)
       go (inl e) =
           let same = e ∙ ap (λ (z : Pair). z.content) (pair_there t index id can) in
-          let on = device t.disk (disk_with_blocks left t.disk) w p p [] [] accepted accepted.owned_once
-          (placed (disk_with_blocks left t.disk) p.content (λ h. (h.kind, h.name)) (subst (λ z. IsPairWrittenOnDisk t index z (disk_with_blocks left t.disk)) same g.written)) in
-          let f = nothing_came t.disk (disk_with_blocks left t.disk) w p site_is accepted on in
-          record {
-            pairs = thread_at w (p ∷ []);
-            accepted = f.accepted;
-            writable = profile_same t.disk (disk_with_blocks left t.disk) (thread_at w (p ∷ [])) refl refl refl writable;
-            tree = inl (f.shows ∙ ap (tree_on_disk t.disk) (sym there));
-          }
-      go (inr e) =
-          let f = first_taken (disk_with_blocks left t.disk) (subst (λ z. IsPairWrittenOnDisk t index z (disk_with_blocks left t.disk)) e g.written) in
-          record {
-            pairs = thread_at w (q ∷ []);
-            accepted = f.follows.accepted;
-            writable = f.writable;
-            tree = inr (f.follows.shows ∙ ap₂ (λ n z. tree_after_removal (can.path ++ n ∷ []) (tree_on_disk t.disk z)) can.stands.stands.named (sym there));
-          }
+          left_still t.disk left (thread_at w (p ∷ [])) accepted writable
+          (device t.disk (disk_with_blocks left t.disk) w p p [] [] accepted accepted.owned_once
+          (placed_one t index w p there number_there (disk_with_blocks left t.disk) p.content (λ h. (h.kind, h.name)) (subst (λ z. IsPairWrittenOnDisk t index z (disk_with_blocks left t.disk)) same g.written)))
+          (inl (ap (tree_on_disk t.disk) (sym there)))
+      go (inr e) = left_after (first_taken (disk_with_blocks left t.disk) (subst (λ z. IsPairWrittenOnDisk t index z (disk_with_blocks left t.disk)) e g.written))
+          (inr (ap₂ (λ n z. tree_after_removal (can.path ++ n ∷ []) (tree_on_disk t.disk z)) can.stands.stands.named (sym there)))

@@ -1,18 +1,15 @@
 -- The root directory stays where it is: as many pairs stand in front of it as before.
-use Rattle.std.proofs.Common.{ℕ, zero, suc, ◌≡◌, ◌<◌, ◌≤◌, ◌-◌, Bool, true, false, take, List, [], ◌∷◌, ◌++◌, length, drop, Option, Some, refl, sym, ap, subst, ◌∙◌, arith, set, get_or, remove, slice_get}
+use Rattle.std.proofs.Common.{ℕ, zero, suc, ◌≡◌, true, List, [], ◌∷◌, ◌++◌, length, drop, Option, Some, refl, sym, ap, subst, ◌∙◌, slice_get}
 use Rattle.std.proofs.lemmas.Option.{same_Some}
 use Rattle.lfs_model.specs.Disk.{Disk}
-use Rattle.lfs_model.specs.Slots.{PairContent, same_pair}
-use Rattle.lfs_model.specs.Steps.{ArePairsWithSameAddressesAndSlots, ends_in_hard_tail}
+use Rattle.lfs_model.specs.Slots.{same_pair}
+use Rattle.lfs_model.specs.Steps.{ArePairsWithSameAddressesAndSlots}
 use Rattle.lfs_model.specs.Thread.{AreLinkedByTails, Pair, anchor_pair_address, pairs_from_root_directory_on, first_pair_address, pair_address_named_by_tail, root_directory_address_of_pairs, starts_with_superblock, pair_count_before_root}
 use Rattle.lfs_model.specs.View.{IsAcceptedImage, first_pair_slots}
 use Rattle.lfs_model.proofs.Pairs.{pair_itself}
 use Rattle.lfs_model.proofs.Searches.{same_number}
 use Rattle.lfs_model.proofs.Superblocks.{IsChain, pairs_behind}
-use Rattle.lfs_thread.specs.Kept.{KeptThread}
-use Rattle.lfs_thread.specs.Steps.{empty_pair_at_anchor}
-use Rattle.lfs_operations.specs.MoveEnds.{CanEndMoveAt, HasEndedMoveAt, content_after_move_ends, is_pair_named_by_hard_tail, pairs_after_move_ends}
-use Rattle.lfs_operations.specs.Ready.{KeepsPairCountBeforeRoot}
+use Rattle.lfs_operations.proofs.Threads.{get_behind}
 
 -- the pair of that number has that address
 abbrev HasAddress : List Pair → ℕ → ℕ × ℕ → Type 0
@@ -44,10 +41,6 @@ two_links : (at : Option (ℕ × ℕ)) (chain dirs news : List Pair) → AreLink
 two_links at [] dirs news l m = (at, (l, m))
 two_links at (c ∷ chain) dirs news l m = two_links (pair_address_named_by_tail c.content.tail) chain dirs news l.1 m.1
 
-get_behind : (chain : List Pair) (p : Pair) (ps : List Pair) → slice_get (chain ++ p ∷ ps) (length chain) ≡ Some p
-get_behind [] p ps = refl
-get_behind (c ∷ chain) p ps = get_behind chain p ps
-
 first_there : (chain : List Pair) (to : Option (ℕ × ℕ)) (dirs news : List Pair) → AreLinkedByTails to dirs → AreLinkedByTails to news → starts_with_superblock (first_pair_slots dirs) ≡ true → HasAddress (chain ++ news) (length chain) (first_pair_address dirs)
 first_there chain to [] news l m e = absurd (cc)
 first_there chain to (d ∷ dirs) [] l m e = absurd (let k = sym m ∙ l.0 in cc)
@@ -74,39 +67,3 @@ stays_there new ps qs now same h = number_of_root new qs (pair_count_before_root
 
 pub alike_stays : (disk new : Disk) (ps qs : List Pair) → IsAcceptedImage disk ps → IsAcceptedImage new qs → root_directory_address_of_pairs qs ≡ root_directory_address_of_pairs ps → ArePairsWithSameAddressesAndSlots ps qs → pair_count_before_root qs ≡ pair_count_before_root ps
 alike_stays disk new ps qs ok now same alike = stays_there new ps qs now same (alike_there ps qs (pair_count_before_root ps) (root_directory_address_of_pairs ps) alike (root_there disk ps ok))
-
--- ---- a move ends
-
-set_there : (ps : List Pair) (i n : ℕ) (c : PairContent) (at : ℕ × ℕ) → HasAddress ps n at → HasAddress (set ps i (record { at = (get_or ps i empty_pair_at_anchor).at; content = c })) n at
-set_there [] i n c at (p, (e, a)) = absurd (cc)
-set_there (x ∷ ps) zero zero c at (p, (e, a)) = (record { at = x.at; content = c }, (refl, ap (λ (z : Pair). z.at) (same_Some x p e) ∙ a))
-set_there (x ∷ ps) zero (suc n) c at h = h
-set_there (x ∷ ps) (suc i) zero c at h = h
-set_there (x ∷ ps) (suc i) (suc n) c at h = set_there ps i n c at h
-
-remove_there : (ps : List Pair) (i n : ℕ) (at : ℕ × ℕ) → n < i → HasAddress ps n at → HasAddress (remove ps i) n at
-remove_there [] i n at low (p, (e, a)) = absurd (cc)
-remove_there (x ∷ ps) zero n at low h = absurd (omega arith)
-remove_there (x ∷ ps) (suc i) zero at low h = h
-remove_there (x ∷ ps) (suc i) (suc n) at low h = remove_there ps i n at (omega arith) h
-
--- a pair to which a hard tail leads stands behind the root's first one
-led_behind : (ps : List Pair) (pair : ℕ) → pair_count_before_root ps ≤ pair → is_pair_named_by_hard_tail ps pair ≡ true → pair_count_before_root ps < pair
-led_behind ps pair low led = go (pair - pair_count_before_root ps) refl
-  where
-    go : (n : ℕ) → pair - pair_count_before_root ps ≡ n → pair_count_before_root ps < pair
-    go zero e = absurd (let k = sym (ap (λ i. ends_in_hard_tail false (take i (pairs_from_root_directory_on ps))) e) ∙ led in cc)
-    go (suc n) e = omega arith
-
-pub move_end_stays : (old new : KeptThread) (pair id : ℕ) (goes : Bool) → CanEndMoveAt old pair id goes → HasEndedMoveAt old pair id goes new → KeepsPairCountBeforeRoot old new
-move_end_stays old new pair id goes can ended = stays_there new.disk old.pairs new.pairs ended.taken.follows.accepted ended.taken.follows.root
-    (alike_there (pairs_after_move_ends old pair id goes) new.pairs (pair_count_before_root old.pairs) (root_directory_address_of_pairs old.pairs) ended.alike (go goes refl))
-  where
-    was : HasAddress old.pairs (pair_count_before_root old.pairs) (root_directory_address_of_pairs old.pairs)
-    was = root_there old.disk old.pairs can.accepted
-
-    go : (b : Bool) → goes ≡ b → HasAddress (pairs_after_move_ends old pair id goes) (pair_count_before_root old.pairs) (root_directory_address_of_pairs old.pairs)
-    go true e = subst (λ b. HasAddress (pairs_after_move_ends old pair id b) (pair_count_before_root old.pairs) (root_directory_address_of_pairs old.pairs)) (sym e)
-        (remove_there old.pairs pair (pair_count_before_root old.pairs) (root_directory_address_of_pairs old.pairs) (led_behind old.pairs pair can.begins (can.alone e).0) was)
-    go false e = subst (λ b. HasAddress (pairs_after_move_ends old pair id b) (pair_count_before_root old.pairs) (root_directory_address_of_pairs old.pairs)) (sym e)
-        (set_there old.pairs pair (pair_count_before_root old.pairs) (content_after_move_ends old pair id) (root_directory_address_of_pairs old.pairs) was)

@@ -1,28 +1,25 @@
 -- What a change or a split comes to, and what a stop in it leaves, as a commit of the laws.
-use Rattle.std.proofs.Common.{ℕ, ◌≡◌, ◌≢◌, true, false, slice_get, ◌⊎◌, inl, inr, ⊎_elim, ◌+◌, ◌<◌, ◌≤◌, List, [], ◌∷◌, ◌++◌, length, Some, refl, sym, ap, subst, ◌∙◌, arith}
-use Rattle.std.specs.Prelude.{All, Contains}
+use Rattle.std.proofs.Common.{ℕ, ◌≡◌, ◌≢◌, true, false, ◌⊎◌, inl, inr, ⊎_elim, ◌+◌, ◌<◌, ◌≤◌, List, [], ◌∷◌, ◌++◌, length, sym, ap, subst, ◌∙◌, arith, append-nil, nat_eq}
+use Rattle.std.specs.Prelude.{Contains}
 use Rattle.std.proofs.lemmas.Bool.{cases_lt}
-use Rattle.std.proofs.lemmas.Option.{same_Some}
 use Rattle.std.proofs.lemmas.List.Elements.{recursion_from_All}
 use Rattle.lfs_model.specs.Blocks.{Blocks}
-use Rattle.lfs_model.specs.BlockSets.{AreExactlyTheUsedBlocks, IsBlockFree, IsBlockInFlight}
+use Rattle.lfs_model.specs.BlockSets.{AreExactlyTheUsedBlocks, IsBlockFree}
 use Rattle.lfs_model.specs.Changes.{PairContentChange}
-use Rattle.lfs_model.specs.Content.{content_of_pair_at}
-use Rattle.lfs_model.specs.declared.limits.Profile.{Profile}
 use Rattle.lfs_model.specs.Disk.{Disk, block_count}
 use Rattle.lfs_model.specs.PowerLoss.{HasTreeBeforeOrAfterOperation as IsLeftOf, SurvivesPowerLossInCallsSince, disk_with_blocks}
-use Rattle.lfs_model.specs.Slots.{Slot, PairContent, IsContentFittingPair}
+use Rattle.lfs_model.specs.Slots.{Slot}
 use Rattle.lfs_model.specs.Thread.{Pair, blocks_of_pairs, gstate_of_pairs, pair_count_before_root}
 use Rattle.lfs_model.specs.Tree.{Tree}
 use Rattle.lfs_model.specs.View.{IsAcceptedImage}
-use Rattle.lfs_model.specs.Profile.{IsWritableImage, IsSlotWithinWritableLimits}
+use Rattle.lfs_model.specs.Profile.{IsWritableImage}
 use Rattle.lfs_model.specs.Shown.{all_slots_not_moved, tree_on_disk, used_blocks}
 use Rattle.lfs_model.proofs.BlockSets.{Contains-occurrence_count_of_number, occurrence_count_of_number-Contains}
 use Rattle.lfs_model.proofs.Changes.{IsImageAfterTreeChange, SameFiles}
 use Rattle.lfs_model.proofs.Files.{HasSameFileBlocksOfStructOnDisks}
 use Rattle.lfs_model.proofs.Writable.{ends_in_hard_tail}
 use Rattle.lfs_model.proofs.Committed.{IsCommit, commit_writable}
-use Rattle.lfs_model.proofs.Counts.{occurrence_count_of_number, each_counted, each_right, once_from_distinct}
+use Rattle.lfs_model.proofs.Counts.{occurrence_count_of_number, once_from_distinct, count_append}
 use Rattle.lfs_model.proofs.Histories.{IsTrueAfterAnyPowerLossSince-weaker}
 use Rattle.lfs_model.proofs.Laws.{DirectoryAddressByPath}
 use Rattle.lfs_model.proofs.Sites.{Site, dirs_at, thread_at}
@@ -30,13 +27,14 @@ use Rattle.lfs_model.proofs.Splices.{IsDevice}
 use Rattle.lfs_model.specs.History.{DeviceCallEvent}
 use Rattle.lfs_thread.specs.Device.{PowerLossLeavesSuchBlocksAfterCleanErases}
 use Rattle.lfs_thread.specs.Kept.{KeptThread}
-use Rattle.lfs_thread.specs.Steps.{thread_pair_at_index, complete_content_after_changes, front_pair_of_split, back_pair_of_split, AreBothSplitPartsOnDisk, HasSameGeometry, HasPairOldContentOnDisk, IsPairChanged, PowerLossLeavesPairOldOrChanged, IsPairWrittenOnDisk}
-use Rattle.lfs_operations.specs.Changing.{IsPairSplitInto, IsLeftByStoppedChangeOrSplit, IsPairChangedOrSplit, IsChangedContentTooLarge}
+use Rattle.lfs_operations.specs.Changing.{IsLeftByStoppedChangeOrSplit, IsPairChangedOrSplit}
 use Rattle.lfs_operations.specs.Ready.{AreUsedBlocksBeforeMapIsUpdated, ShowsTreeReadyForChange, ShowsTreeReadyOnceMapIsUpdated, HasNoNewBlockInFlight, KeepsStatesOfTakenBlocks}
-use Rattle.lfs_operations.proofs.Owning.{count_pairs, length_now, none_comes_now, stay_taken, used_count_now, used_more, used_same}
-use Rattle.lfs_operations.proofs.Placing.{device, nothing_came}
+use Rattle.lfs_operations.proofs.Owning.{count_pairs, used_count_now, used_same}
+use Rattle.lfs_operations.proofs.Placing.{left_after, left_still}
 use Rattle.lfs_operations.proofs.RootStays.{root_stays}
-use Rattle.lfs_operations.proofs.Splicing.{AreOn, Commits, IsSplicing, cut_front, accepted, at_is, commit_one, commit_two, fresh_distinct, one_now, pair_is, placed_one, placed_still, two_now}
+use Rattle.lfs_operations.proofs.Splicing.{Commits, IsSplicing, accepted, commits, turn}
+use Rattle.lfs_operations.proofs.MovTurned.{IsMapped, TurnedOn, TurnedTo, left_put, put_turned}
+use Rattle.std.specs.List.{IsDistinct}
 
 -- the pair became that on the disk, or that and a new one behind it
 pub record HasCommit (t : KeptThread) (w : Site) (p : Pair) (l olds news r : List Slot) (come : List ℕ) (disk : Disk) : Type 0 where
@@ -57,23 +55,9 @@ pub record HasStep (t : KeptThread) (w : Site) (p : Pair) (l olds news r : List 
   pub stays : KeepsStatesOfTakenBlocks t.map new.map
   pub none_comes : HasNoNewBlockInFlight t.map new.map
 
-writable_same : (disk new : Disk) (ps : List Pair) → new.block_size ≡ disk.block_size → new.page ≡ disk.page → new.profile ≡ disk.profile → IsWritableImage disk ps → IsWritableImage new ps
-writable_same disk new ps e f g h = record {
-  pairs = subst (λ (n : ℕ). All (λ p. IsContentFittingPair n new.page p.content) ps) (sym e) (subst (λ (n : ℕ). All (λ p. IsContentFittingPair disk.block_size n p.content) ps) (sym f) h.pairs);
-  slots = subst (λ (x : Profile). All (λ p. All (IsSlotWithinWritableLimits x new.block_size new.page) p.content.slots) ps) (sym g)
-      (subst (λ (n : ℕ). All (λ p. All (IsSlotWithinWritableLimits disk.profile n new.page) p.content.slots) ps) (sym e) (subst (λ (n : ℕ). All (λ p. All (IsSlotWithinWritableLimits disk.profile disk.block_size n) p.content.slots) ps) (sym f) h.slots));
-  no_empty_pair = h.no_empty_pair;
-}
-
 module _ (t : KeptThread) (index : ℕ) (changes : List PairContentChange) (w : Site) (p : Pair) (l olds news r : List Slot) (gone come : List ℕ) (k : IsSplicing t index changes w p l olds news r gone come) where
-  made_same : (c : PairContent) → complete_content_after_changes t index changes ≡ Some c → c ≡ k.content
-  made_same c m = same_Some c k.content (sym m ∙ k.made)
-
   used_before : AreExactlyTheUsedBlocks t.map (used_blocks t.disk (thread_at w (p ∷ [])))
   used_before = subst (λ z. AreExactlyTheUsedBlocks t.map (used_blocks t.disk z)) k.there k.ready.used
-
-  too_large : IsChangedContentTooLarge t index changes → IsContentFittingPair t.disk.block_size t.disk.page k.content → ⊥
-  too_large large = subst (λ c. IsContentFittingPair t.disk.block_size t.disk.page c → ⊥) (made_same large.0 large.1.0) large.1.1
 
   files_at : {disk : Disk} {q : Pair} {more : List Pair} → IsCommit t.disk disk w p q more come l olds news r → SameFiles t.disk disk (all_slots_not_moved t.pairs)
   files_at {disk = disk} c = subst (λ z. SameFiles t.disk disk (all_slots_not_moved z)) (sym k.there) (recursion_from_All (λ (s : Slot). HasSameFileBlocksOfStructOnDisks t.disk disk s.struct) (all_slots_not_moved (thread_at w (p ∷ []))) c.device.files)
@@ -92,121 +76,47 @@ module _ (t : KeptThread) (index : ℕ) (changes : List PairContentChange) (w : 
           let g = ap (λ z. occurrence_count_of_number b (blocks_of_pairs z)) k.there in
           inl (Contains-occurrence_count_of_number (blocks_of_pairs t.pairs) b (omega arith))
 
-  changed_step : (new : KeptThread) → IsPairChanged t index changes new → HasStep t w p l olds news r gone come new
-  changed_step new is =
-      let same = made_same is.content is.made in
-      let written = subst (λ c. IsPairWrittenOnDisk t index c new.disk) same is.written in
-      let commit = commit_one t index changes w p l olds news r gone come k new.disk written (subst (IsContentFittingPair t.disk.block_size t.disk.page) same is.fits) in
-      let q : Pair = record { at = p.at; content = k.content } in
-      let pairs : new.pairs ≡ thread_at w (q ∷ []) = is.pairs ∙ one_now t index changes w p l olds news r gone come k is.content ∙ ap (λ c. thread_at w (record { at = p.at; content = c } ∷ [])) same in
-      record {
-        q = q;
-        more = [];
-        commit = commit;
-        pairs = pairs;
-        used = record {
-          owned = used_blocks t.disk (thread_at w (p ∷ []));
-          are = subst (λ m. AreExactlyTheUsedBlocks m (used_blocks t.disk (thread_at w (p ∷ [])))) (sym is.map) used_before;
-          same = λ b.
-              let e = used_count_now t.disk new.disk w p q [] l olds news r gone come commit.commit (k.blocks new.disk commit.commit.device.geometry (files_at commit.commit) commit.come_same) b in
-              let f = ap (λ z. occurrence_count_of_number b (used_blocks new.disk z)) pairs in
-              omega arith;
-        };
-        once = λ b. once_from_distinct (used_blocks t.disk (thread_at w (p ∷ []))) (accepted t index changes w p l olds news r gone come k).owned_once b;
-        places = λ b has. ⊎_elim (λ was. inl was) (λ some. absurd (omega arith))
-            (place_of b (q ∷ []) [] (omega arith) (subst (λ (z : List Pair). Contains (blocks_of_pairs z) b) pairs has));
-        size = ap length is.map ∙ k.ready.size ∙ sym is.written.shape.count;
-        stays = λ b taken. ap (λ m. slice_get m b) is.map;
-        none_comes = λ b flies. subst (λ m. IsBlockInFlight m b) is.map flies;
-      }
-
-  cut_step : (new : KeptThread) (fresh : ℕ × ℕ) → IsChangedContentTooLarge t index changes → IsPairSplitInto t index fresh changes new → HasStep t w p l olds news r gone come new
-  cut_step new fresh large is =
-      let same = made_same is.content is.made in
-      let there : new.pairs ≡ thread_at w (front_pair_of_split t index is.content is.cut fresh ∷ back_pair_of_split is.content is.cut fresh ∷ [])
-      = is.pairs ∙ two_now t index changes w p l olds news r gone come k (front_pair_of_split t index is.content is.cut fresh) (back_pair_of_split is.content is.cut fresh) in
-      let held = recursion_from_All (λ (x : Pair). content_of_pair_at new.disk x.at ≡ Some x.content) (thread_at w (front_pair_of_split t index is.content is.cut fresh ∷ back_pair_of_split is.content is.cut fresh ∷ []))
-      (subst (All (λ (x : Pair). content_of_pair_at new.disk x.at ≡ Some x.content)) there is.thread.contents) in
-      let here = each_right (λ (x : Pair). content_of_pair_at new.disk x.at ≡ Some x.content) (w.before ++ w.left) (front_pair_of_split t index is.content is.cut fresh ∷ back_pair_of_split is.content is.cut fresh ∷ [] ++ (w.right ++ w.after))
-      (each_right (λ (x : Pair). content_of_pair_at new.disk x.at ≡ Some x.content) w.chain ((w.before ++ w.left) ++ (front_pair_of_split t index is.content is.cut fresh ∷ back_pair_of_split is.content is.cut fresh ∷ [] ++ (w.right ++ w.after))) held) in
-      let on = subst (λ c. AreOn t index c new.disk fresh is.cut) same (record { shape = is.shape; others = is.others; front = here.0; back = here.1.0; parts = is.parts }) in
-      let commit = commit_two t index changes w p l olds news r gone come k new.disk fresh is.cut is.free (too_large large) on in
-      let q = cut_front p.at k.content is.cut fresh in
-      let f = back_pair_of_split k.content is.cut fresh in
-      let pairs : new.pairs ≡ thread_at w (q ∷ f ∷ [])
-      = there ∙ ap (λ c. thread_at w (front_pair_of_split t index c is.cut fresh ∷ back_pair_of_split c is.cut fresh ∷ [])) same
-      ∙ ap (λ at. thread_at w (cut_front at k.content is.cut fresh ∷ f ∷ [])) (at_is t index changes w p l olds news r gone come k) in
-      record {
-        q = q;
-        more = f ∷ [];
-        commit = commit;
-        pairs = pairs;
-        used = record {
-          owned = fresh.0 ∷ fresh.1 ∷ used_blocks t.disk (thread_at w (p ∷ []));
-          are = subst (λ m. AreExactlyTheUsedBlocks m (fresh.0 ∷ fresh.1 ∷ used_blocks t.disk (thread_at w (p ∷ [])))) (sym is.map)
-              (used_more t.map fresh is.free (used_blocks t.disk (thread_at w (p ∷ []))) (fresh.0 ∷ fresh.1 ∷ used_blocks t.disk (thread_at w (p ∷ []))) (λ b. omega arith) used_before);
-          same = λ b.
-              let e = used_count_now t.disk new.disk w p q (f ∷ []) l olds news r gone come commit.commit (k.blocks new.disk commit.commit.device.geometry (files_at commit.commit) commit.come_same) b in
-              let h = ap (λ z. occurrence_count_of_number b (used_blocks new.disk z)) pairs in
-              omega arith;
-        };
-        once = λ b. once_from_distinct (fresh.0 ∷ fresh.1 ∷ used_blocks t.disk (thread_at w (p ∷ []))) (fresh_distinct t index changes w p l olds news r gone come k fresh is.free) b;
-        places = λ b has. ⊎_elim (λ was. inl was) (λ some. inr (each_counted (IsBlockFree t.map) (fresh.0 ∷ fresh.1 ∷ []) (is.free.first, (is.free.second, tt)) b some))
-            (place_of b (q ∷ f ∷ []) (fresh.0 ∷ fresh.1 ∷ []) (omega arith) (subst (λ (z : List Pair). Contains (blocks_of_pairs z) b) pairs has));
-        size = ap length is.map ∙ length_now t.map fresh is.free ∙ k.ready.size ∙ sym is.shape.count;
-        stays = λ b taken. ap (λ m. slice_get m b) is.map ∙ stay_taken t.map fresh is.free b taken;
-        none_comes = λ b flies. none_comes_now t.map fresh is.free b (subst (λ m. IsBlockInFlight m b) is.map flies);
-      }
+  mapped : IsMapped t
+  mapped = record { used = k.ready.used; size = k.ready.size }
 
   pub put_step : (new : KeptThread) → IsPairChangedOrSplit t index changes new → HasStep t w p l olds news r gone come new
-  put_step new (inl is) = changed_step new is
-  put_step new (inr (large, (fresh, is))) = cut_step new fresh large is
+  put_step new is = go (put_turned t index changes w p (l ++ (news ++ r)) p.content.move (turn t index changes w p l olds news r gone come k) mapped new is)
+    where
+      go : TurnedTo t w p (l ++ (news ++ r)) p.content.move new → HasStep t w p l olds news r gone come new
+      go x =
+          let commit = commits t index changes w p l olds news r gone come k new.disk x.q x.more x.turned x.fresh in
+          record {
+            q = x.q;
+            more = x.more;
+            commit = commit;
+            pairs = x.pairs;
+            used = record {
+              owned = blocks_of_pairs x.more ++ used_blocks t.disk (thread_at w (p ∷ []));
+              are = x.used (used_blocks t.disk (thread_at w (p ∷ []))) used_before;
+              same = λ b.
+                  let e = used_count_now t.disk new.disk w p x.q x.more l olds news r gone come commit.commit (k.blocks new.disk commit.commit.device.geometry (files_at commit.commit) commit.come_same) b in
+                  let f = ap (λ z. occurrence_count_of_number b (used_blocks new.disk z)) x.pairs in
+                  let g = count_append b (blocks_of_pairs x.more) (used_blocks t.disk (thread_at w (p ∷ []))) in
+                  omega arith;
+            };
+            once = λ b. once_from_distinct (blocks_of_pairs x.more ++ used_blocks t.disk (thread_at w (p ∷ []))) (subst (λ z. IsDistinct nat_eq (z ++ used_blocks t.disk (thread_at w (p ∷ [])))) (append-nil (blocks_of_pairs x.more)) x.turned.free.distinct) b;
+            places = λ b has. ⊎_elim (λ was. inl was) (λ some. inr (x.fresh b some))
+                (place_of b (x.q ∷ x.more) (blocks_of_pairs x.more) (let a = ap (λ (z : ℕ × ℕ). occurrence_count_of_number b (z.0 ∷ z.1 ∷ [])) x.turned.at in let c = count_append b (x.q.at.0 ∷ x.q.at.1 ∷ []) (blocks_of_pairs x.more) in omega arith)
+                (subst (λ (z : List Pair). Contains (blocks_of_pairs z) b) x.pairs has));
+            size = x.size ∙ k.ready.size ∙ sym x.shape.count;
+            stays = x.stays;
+            none_comes = x.none_comes;
+          }
 
   -- ---- at a stop
 
   abbrev pub Stays : Disk → Type 0
   Stays disk = IsDevice t.disk disk (thread_at w (p ∷ [])) (thread_at w (p ∷ []))
 
-  shape_of : (left : Blocks) → length left ≡ length t.disk.blocks → HasSameGeometry t.disk (disk_with_blocks left t.disk)
-  shape_of left e = record { block_size = refl; page = refl; order = refl; profile = refl; count = e }
-
-  left_one : (left : Blocks) → PowerLossLeavesPairOldOrChanged t index changes left → Stays (disk_with_blocks left t.disk) ⊎ HasCommit t w p l olds news r come (disk_with_blocks left t.disk)
-  left_one left is = go is.is
-    where
-      disk : Disk
-      disk = disk_with_blocks left t.disk
-
-      go : (is.content ≡ (thread_pair_at_index t index).content) ⊎ ((complete_content_after_changes t index changes ≡ Some is.content) × IsContentFittingPair t.disk.block_size t.disk.page is.content)
-          → Stays (disk_with_blocks left t.disk) ⊎ HasCommit t w p l olds news r come (disk_with_blocks left t.disk)
-      go (inl e) =
-          let same = e ∙ ap (λ (z : Pair). z.content) (pair_is t index changes w p l olds news r gone come k) in
-          inl (device t.disk (disk_with_blocks left t.disk) w p p [] [] (accepted t index changes w p l olds news r gone come k) (accepted t index changes w p l olds news r gone come k).owned_once
-          (placed_one t index changes w p l olds news r gone come k (disk_with_blocks left t.disk) p.content (λ h. (h.kind, h.name)) (subst (λ c. IsPairWrittenOnDisk t index c (disk_with_blocks left t.disk)) same is.written)))
-      go (inr (m, fits)) =
-          let same = made_same is.content m in
-          inr (record {
-            q = record { at = p.at; content = k.content };
-            more = [];
-            commit = commit_one t index changes w p l olds news r gone come k (disk_with_blocks left t.disk) (subst (λ c. IsPairWrittenOnDisk t index c (disk_with_blocks left t.disk)) same is.written)
-                (subst (IsContentFittingPair t.disk.block_size t.disk.page) same fits);
-          })
-
-  pub left_step : (left : Blocks) → IsLeftByStoppedChangeOrSplit t index changes left → Stays (disk_with_blocks left t.disk) ⊎ HasCommit t w p l olds news r come (disk_with_blocks left t.disk)
-  left_step left (inl is) = left_one left is
-  left_step left (inr (large, (fresh, (two, is)))) = go is.content
-    where
-      go : HasPairOldContentOnDisk t index (disk_with_blocks left t.disk) ⊎ AreBothSplitPartsOnDisk t index changes fresh (disk_with_blocks left t.disk) → Stays (disk_with_blocks left t.disk) ⊎ HasCommit t w p l olds news r come (disk_with_blocks left t.disk)
-      go (inl b) = inl (device t.disk (disk_with_blocks left t.disk) w p p [] (fresh.0 ∷ fresh.1 ∷ []) (accepted t index changes w p l olds news r gone come k) (fresh_distinct t index changes w p l olds news r gone come k fresh two)
-          (placed_still t index changes w p l olds news r gone come k (disk_with_blocks left t.disk) fresh (shape_of left is.others.count) is.others b))
-      go (inr h) =
-          let same = made_same h.content h.made in
-          inr (record {
-            q = cut_front p.at k.content h.cut fresh;
-            more = back_pair_of_split k.content h.cut fresh ∷ [];
-            commit = commit_two t index changes w p l olds news r gone come k (disk_with_blocks left t.disk) fresh h.cut two (too_large large)
-                (subst (λ c. AreOn t index c (disk_with_blocks left t.disk) fresh h.cut) same
-                (record { shape = shape_of left is.others.count; others = is.others; front = h.front; back = h.back; parts = h.parts }));
-          })
+  left_step : (left : Blocks) → IsLeftByStoppedChangeOrSplit t index changes left → Stays (disk_with_blocks left t.disk) ⊎ HasCommit t w p l olds news r come (disk_with_blocks left t.disk)
+  left_step left is = ⊎_elim (λ on. inl on)
+      (λ (x : TurnedOn t w p (l ++ (news ++ r)) p.content.move (disk_with_blocks left t.disk)). inr (record { q = x.q; more = x.more; commit = commits t index changes w p l olds news r gone come k (disk_with_blocks left t.disk) x.q x.more x.turned x.fresh }))
+      (left_put t index changes w p (l ++ (news ++ r)) p.content.move (turn t index changes w p l olds news r gone come k) mapped left is)
 
   -- Where each commit follows by that change of the tree, a stop leaves the tree from before or from after it.
   abbrev pub AllFollow : (Tree → Tree) → Type 0
@@ -218,22 +128,10 @@ module _ (t : KeptThread) (index : ℕ) (changes : List PairContentChange) (w : 
   left_tree change follow filled left is = go (left_step left is)
     where
       go : Stays (disk_with_blocks left t.disk) ⊎ HasCommit t w p l olds news r come (disk_with_blocks left t.disk) → IsLeftOf (disk_with_blocks left t.disk) (tree_on_disk t.disk t.pairs) (change (tree_on_disk t.disk t.pairs))
-      go (inl d) =
-          let f = nothing_came t.disk (disk_with_blocks left t.disk) w p k.site (accepted t index changes w p l olds news r gone come k) d in
-          record {
-            pairs = thread_at w (p ∷ []);
-            accepted = f.accepted;
-            writable = writable_same t.disk (disk_with_blocks left t.disk) (thread_at w (p ∷ [])) refl refl refl (subst (IsWritableImage t.disk) k.there k.ready.writable);
-            tree = inl (f.shows ∙ ap (tree_on_disk t.disk) (sym k.there));
-          }
+      go (inl d) = left_still t.disk left (thread_at w (p ∷ [])) (accepted t index changes w p l olds news r gone come k) (subst (IsWritableImage t.disk) k.there k.ready.writable) d (inl (ap (tree_on_disk t.disk) (sym k.there)))
       go (inr h) =
-          let f = (follow (disk_with_blocks left t.disk) h.q h.more h.commit).1 in
-          record {
-            pairs = thread_at w (h.q ∷ h.more);
-            accepted = f.accepted;
-            writable = commit_writable t.disk (disk_with_blocks left t.disk) w p h.q h.more come l olds news r h.commit.commit filled;
-            tree = inr (f.shows ∙ ap (λ z. change (tree_on_disk t.disk z)) (sym k.there));
-          }
+          let f = follow (disk_with_blocks left t.disk) h.q h.more h.commit in
+          left_after {walk = f.0} (record { follows = f.1; writable = commit_writable t.disk (disk_with_blocks left t.disk) w p h.q h.more come l olds news r h.commit.commit filled }) (inr (ap (λ z. change (tree_on_disk t.disk z)) (sym k.there)))
 
   pub survives : (change : Tree → Tree) → AllFollow change → (ends_in_hard_tail false (w.before ++ w.left) ≡ true → l ++ (news ++ r) ≢ []) → (new : List DeviceCallEvent) → PowerLossLeavesSuchBlocksAfterCleanErases t.history new (IsLeftByStoppedChangeOrSplit t index changes)
       → SurvivesPowerLossInCallsSince t.disk t.history new (tree_on_disk t.disk t.pairs) (change (tree_on_disk t.disk t.pairs))

@@ -12,7 +12,7 @@ use Rattle.lfs_model.specs.Operations as ops
 use Rattle.lfs_model.specs.PowerLoss.{HasTreeBeforeOrAfterOperation as IsLeftOf, disk_with_blocks}
 use Rattle.lfs_model.specs.Slots.{PairContent, IsContentFittingPair, Gstate, Slot, zero_gstate}
 use Rattle.lfs_model.specs.Thread.{Pair, gstate_of_pairs, is_hard_tail, starts_with_superblock, pair_count_before_root, blocks_of_pair_address}
-use Rattle.lfs_model.specs.Tree.{branch_address_of_struct}
+use Rattle.lfs_model.specs.Tree.{branch_address_of_struct, Path}
 use Rattle.lfs_model.specs.View.{IsAcceptedImage}
 use Rattle.lfs_model.specs.Profile.{IsWritableImage}
 use Rattle.lfs_model.specs.Shown.{IsPathToDirectory, entries_by_directory_in_thread, tree_on_disk, used_blocks}
@@ -20,25 +20,25 @@ use Rattle.lfs_model.proofs.Committed.{IsImageAfterCompletedOperation, no_move_f
 use Rattle.lfs_model.proofs.Counts.{Each, occurrence_count_of_number, each_right, once_from_distinct}
 use Rattle.lfs_model.proofs.Global.{HasNoMove, sync_bit_delta}
 use Rattle.lfs_model.proofs.Moves.{IsStep, directory_goes}
-use Rattle.lfs_model.proofs.RmdirSteps.{IsGone, step_chain}
+use Rattle.lfs_model.proofs.RmdirSteps.{step_chain}
 use Rattle.lfs_model.proofs.Searches.{slot_of_stands}
-use Rattle.lfs_model.proofs.Sites.{IsSite, Site, dirs_at, run_changed, thread_at}
+use Rattle.lfs_model.proofs.Sites.{Site, dirs_at, thread_at}
 use Rattle.lfs_model.proofs.Splices.{IsDevice, drop_shape, file_blocks_of_slots}
 use Rattle.lfs_model.proofs.StepsTaken.{IsWritableImageAfterTreeChange, drop_taken}
 use Rattle.lfs_thread.specs.Kept.{KeptThread}
 use Rattle.lfs_thread.specs.Steps.{IsPairWrittenOnDisk, empty_pair_at_anchor, thread_pair_at_index, block_map_with_freed_pair}
-use Rattle.lfs_operations.specs.Dropping.{CanDropPairAt, IsNextPairDropped, IsLeftByStoppedPairDrop, HasSameBlocksInFlight, tail_over_dropped_pair, content_after_next_pair_drop}
+use Rattle.lfs_operations.specs.Dropping.{CanDropPairAt, IsNextPairDropped, IsLeftByStoppedPairDrop, HasSameBlocksInFlight, tail_over_dropped_pair, content_after_next_pair_drop, ShowsTreeAfterPairDrops}
 use Rattle.lfs_operations.specs.Editing.{CanEditEntryOfPair}
 use Rattle.lfs_operations.specs.Removing.{tree_without_named_entry}
 use Rattle.lfs_operations.specs.Unlinking.{CanRemoveDirectory, IsDirectoryRemoved, pair_number_after_drop}
-use Rattle.lfs_operations.proofs.Dropped.{device_dropped, device_kept, dropped_count, flying_same, length_fewer, profile_same, used_fewer}
-use Rattle.lfs_operations.proofs.DroppedTails.{front_is, gone_is, gstate_is, no_move_state, without_is}
-use Rattle.lfs_operations.proofs.Placing.{nothing_came}
+use Rattle.lfs_operations.proofs.Dropped.{device_dropped, device_kept, dropped_count, flying_same, length_fewer, used_fewer}
+use Rattle.lfs_operations.proofs.DroppedTails.{front_is, gone_is, gstate_is, without_is}
+use Rattle.lfs_operations.proofs.Placing.{left_after, left_still}
 use Rattle.lfs_operations.proofs.RemovedWhole.{StandsWhole, over_hard}
-use Rattle.lfs_operations.proofs.RmdirEnd as end
 use Rattle.lfs_operations.proofs.RmdirPlaces.{HasFront, get_some, has_front, number_of_first, shows_nothing}
 use Rattle.lfs_operations.proofs.RmdirWhole.{HasPlaceWhole, UnlinksWhole, place_whole}
-use Rattle.lfs_operations.proofs.RootStays.{root_stays}
+use Rattle.lfs_operations.proofs.LastDrop.{IsAllButDropped, is_gone, left_last, pairs_end, shows_dropped, x_there, y}
+use Rattle.lfs_model.proofs.Superblocks.{IsChain}
 
 module _ (t : KeptThread) (index id first gone : ℕ) (take : CanRemoveDirectory t index id first gone) (s : StandsWhole t index id take.can) where
   abbrev can : CanEditEntryOfPair t index id
@@ -61,6 +61,9 @@ module _ (t : KeptThread) (index id first gone : ℕ) (take : CanRemoveDirectory
 
   abbrev old : List Pair
   old = thread_at w (x0 ∷ e ∷ [])
+
+  abbrev path_there : Path
+  path_there = can.path ++ u.name ∷ []
 
   accepted : IsAcceptedImage t.disk old
   accepted = subst (IsAcceptedImage t.disk) s.there can.ready.accepted
@@ -212,21 +215,15 @@ module _ (t : KeptThread) (index id first gone : ℕ) (take : CanRemoveDirectory
     abbrev k : HasPlaceWhole t.disk m.disk w x0 e q u can.path o (length front.front) front.before
     k = place m.disk h.written
 
-    abbrev first_part : List Pair
-    first_part = w.chain ++ k.front
-
     pairs_middle : m.pairs ≡ thread_at w (q ∷ [])
     pairs_middle = h.pairs ∙ without_is t (index - 1) ahead x0 e behind is number c ∙ sym (grouped (q ∷ []))
 
-    is_middle : m.pairs ≡ first_part ++ k.x ∷ o ∷ k.back
-    is_middle = pairs_middle ∙ ap (λ z. w.chain ++ z) k.there ∙ sym (append_assoc w.chain k.front (k.x ∷ o ∷ k.back))
-
     -- it stands behind one pair fewer where it stood behind the entry's
-    number_now : length first_part + 1 ≡ pair_number_after_drop index gone
+    number_now : length (w.chain ++ k.front) + 1 ≡ pair_number_after_drop index gone
     number_now = go k.number (nat_lt index gone) refl
       where
         go : ((length (w.before ++ w.left) + 1 < length front.front + 1) × (length k.front + 1 ≡ length front.front)) ⊎ ((length front.front + 1 < length (w.before ++ w.left) + 1) × (length k.front ≡ length front.front))
-            → (b : Bool) → nat_lt index gone ≡ b → length first_part + 1 ≡ cond b (gone - 1) gone
+            → (b : Bool) → nat_lt index gone ≡ b → length (w.chain ++ k.front) + 1 ≡ cond b (gone - 1) gone
         go (inl z) true l =
             let a = length-append w.chain k.front in
             let f = length-append w.chain front.front in
@@ -256,20 +253,55 @@ module _ (t : KeptThread) (index id first gone : ℕ) (take : CanRemoveDirectory
             let y = z.1 in
             omega arith
 
-    number_middle : length first_part ≡ pair_number_after_drop index gone - 1
-    number_middle = let n = number_now in omega arith
+    middle_used : (b : ℕ) → occurrence_count_of_number b (used_blocks m.disk m.pairs) + occurrence_count_of_number b (blocks_of_pair_address e.at) ≡ occurrence_count_of_number b (used_blocks t.disk t.pairs)
+    middle_used b =
+        let e1 = dropped_count t.disk m.disk ahead x0 e q behind (subst (λ z. HasNoMove (gstate_of_pairs z)) (grouped (x0 ∷ e ∷ [])) (no_move_from old settled)) (subst (λ z. HasNoMove (gstate_of_pairs z)) (grouped (q ∷ [])) no_move_middle)
+        (device_first m.disk h.written) refl slots_same b in
+        let f1 = ap (λ z. occurrence_count_of_number b (used_blocks m.disk z)) (pairs_middle ∙ grouped (q ∷ [])) in
+        let f2 = ap (λ z. occurrence_count_of_number b (used_blocks t.disk z)) is in
+        let f3 = ap (λ z. occurrence_count_of_number b (file_blocks_of_slots t.disk z)) s.held in
+        let f4 : occurrence_count_of_number b (file_blocks_of_slots t.disk (u ∷ [])) ≡ 0 = ap (λ z. occurrence_count_of_number b (file_blocks_of_slots t.disk (record u { struct = z } ∷ []))) take.branch in
+        omega arith
 
-    accepted_middle : IsAcceptedImage m.disk (thread_at w (q ∷ []))
-    accepted_middle = (first_taken m.disk h.written).follows.accepted
+    once : (b : ℕ) → occurrence_count_of_number b (used_blocks t.disk t.pairs) ≤ 1
+    once b = once_from_distinct (used_blocks t.disk t.pairs) can.ready.accepted.owned_once b
 
-    accepted_parts : IsAcceptedImage m.disk (first_part ++ k.x ∷ o ∷ k.back)
-    accepted_parts = subst (IsAcceptedImage m.disk) (sym pairs_middle ∙ is_middle) accepted_middle
+    map_middle : m.map ≡ block_map_with_freed_pair t.map e.at
+    map_middle = h.map ∙ ap (λ (z : Pair). block_map_with_freed_pair t.map z.at) e_there
 
-    x_there : thread_pair_at_index m (now - 1) ≡ k.x
-    x_there = end.x_there m (now - 1) w.chain k.front k.x o k.back is_middle number_middle
+    chain_middle : IsChain w.chain (dirs_at w (q ∷ []))
+    chain_middle = step_chain t.disk m.disk w x0 (e ∷ []) q [] [] [] x0.content.slots (u ∷ []) [] [] (step m.disk h.written)
 
-    pub o_there : thread_pair_at_index m (now - 1 + 1) ≡ o
-    o_there = end.o_there m (now - 1) w.chain k.front k.x o k.back is_middle number_middle
+    -- the directory's own pair may go
+    pub may_go : IsAllButDropped t m (thread_pair_at_index t gone) (pair_number_after_drop index gone) (tree_after_removal (take.can.path ++ take.can.stands.stands.slot.name ∷ [])) (tree_after_subtree_replacement (take.can.path ++ take.can.stands.stands.slot.name ∷ []) (λ t. None))
+    may_go = record {
+      ready = can.ready;
+      taken = subst (λ z. IsWritableImageAfterTreeChange t.disk t.pairs m.disk z (tree_after_removal path_there) (tree_after_subtree_replacement path_there (λ t. None))) (sym pairs_middle)
+          (subst (λ z. IsWritableImageAfterTreeChange t.disk z m.disk (thread_at w (q ∷ [])) (tree_after_removal path_there) (tree_after_subtree_replacement path_there (λ t. None))) (sym s.there) (first_taken m.disk h.written));
+      no_move = subst (λ z. HasNoMove (gstate_of_pairs z)) (sym pairs_middle) no_move_middle;
+      chain = w.chain;
+      front = k.front;
+      x = k.x;
+      back = k.back;
+      there = pairs_middle ∙ ap (λ z. w.chain ++ z) k.there;
+      is_chain = subst (IsChain w.chain) k.there chain_middle;
+      number = number_now;
+      soft = k.soft;
+      drops = λ new y gone. subst (λ z. IsWritableImageAfterTreeChange t.disk z new (w.chain ++ (k.front ++ y ∷ k.back)) (tree_after_removal path_there) (tree_after_subtree_replacement path_there (λ t. None))) (sym s.there) (k.taken new y gone);
+      empty = take.empty;
+      used = subst (λ z. AreExactlyTheUsedBlocks z (used_blocks m.disk m.pairs)) (sym map_middle) (used_fewer t.map e.at (used_blocks t.disk t.pairs) (used_blocks m.disk m.pairs) can.ready.used once middle_used);
+      size = ap length map_middle ∙ length_fewer t.map e.at (used_blocks t.disk t.pairs) (used_blocks m.disk m.pairs) can.ready.used once middle_used ∙ can.ready.size ∙ sym h.written.shape.count;
+      flying = subst (HasSameBlocksInFlight t.map) (sym map_middle) (flying_same t.map e.at (used_blocks t.disk t.pairs) (used_blocks m.disk m.pairs) can.ready.used once middle_used);
+      root = ap pair_count_before_root pairs_middle ∙ chain_middle ∙ sym (ap pair_count_before_root s.there ∙ s.site.chain);
+      shape = h.written.shape;
+    }
+
+    turned : tree_after_removal (can.path ++ u.name ∷ []) (tree_on_disk t.disk t.pairs) ≡ tree_without_named_entry t take.can.path take.can.name
+    turned = ap (λ n. tree_after_removal (can.path ++ n ∷ []) (tree_on_disk t.disk t.pairs)) can.stands.stands.named
+
+    x_now : thread_pair_at_index m (now - 1) ≡ k.x
+    unfolding may_go
+    x_now = x_there may_go
 
     -- the pair that is written in the second step is where the one in front of it was, or where the one in front of the entry's was
     pub written_then : ((thread_pair_at_index m (now - 1)).at ≡ (thread_pair_at_index t (gone - 1)).at) ⊎ ((thread_pair_at_index m (now - 1)).at ≡ (thread_pair_at_index t (index - 1)).at)
@@ -282,169 +314,21 @@ module _ (t : KeptThread) (index id first gone : ℕ) (take : CanRemoveDirectory
         old_front = front_is t (gone - 1) (w.chain ++ front.front) front.before o (front.run ++ front.after) is_old (let g = first_is.0 in omega arith)
 
         go : (k.x.at ≡ front.before.at) ⊎ (k.x.at ≡ x0.at) → ((thread_pair_at_index m (now - 1)).at ≡ (thread_pair_at_index t (gone - 1)).at) ⊎ ((thread_pair_at_index m (now - 1)).at ≡ (thread_pair_at_index t (index - 1)).at)
-        go (inl z) = inl (ap (λ (v : Pair). v.at) x_there ∙ z ∙ ap (λ (v : Pair). v.at) (sym old_front))
-        go (inr z) = inr (ap (λ (v : Pair). v.at) x_there ∙ z ∙ ap (λ (v : Pair). v.at) (sym x0_there))
+        go (inl z) = inl (ap (λ (v : Pair). v.at) x_now ∙ z ∙ ap (λ (v : Pair). v.at) (sym old_front))
+        go (inr z) = inr (ap (λ (v : Pair). v.at) x_now ∙ z ∙ ap (λ (v : Pair). v.at) (sym x0_there))
 
-    pub can_drop_then : CanDropPairAt m now zero_gstate
-    can_drop_then = record {
-      above = let n = number_now in omega arith;
-      below =
-          let e = ap length is_middle in
-          let a = length-append first_part (k.x ∷ o ∷ k.back) in
-          let n = number_now in
-          omega arith;
-      thread = h.thread;
-      fits = end.x_fits m (now - 1) w.chain k.front k.x o k.back is_middle number_middle (subst (IsWritableImage m.disk) (sym pairs_middle) (first_taken m.disk h.written).writable);
-      storable = no_move_state;
+    pub whole_removed : (new : KeptThread) → IsNextPairDropped m (now - 1) zero_gstate new → IsDirectoryRemoved t new take.can.path take.can.name
+    unfolding may_go
+    whole_removed new g = record {
+      now = subst (λ z. ShowsTreeAfterPairDrops t new z []) turned (shows_dropped may_go new g);
+      completed = λ z given tree is_path. subst (λ s. IsImageAfterCompletedOperation t.disk s z (ops.Remove given) new.disk new.pairs) (sym s.there)
+          (subst (λ s. IsImageAfterCompletedOperation t.disk old z (ops.Remove given) new.disk s) (sym (pairs_end may_go new g))
+          (k.completed new.disk (y may_go) (is_gone may_go new.disk g.written) z given (tree ∙ ap (tree_on_disk t.disk) s.there) (is_path ∙ ap (λ n. can.path ++ n ∷ []) (sym can.stands.stands.named))));
     }
 
-    -- ---- the second step
-
-    abbrev d : PairContent
-    d = content_after_next_pair_drop m (now - 1) zero_gstate
-
-    abbrev y : Pair
-    y = record { at = k.x.at; content = d }
-
-    d_slots : d.slots ≡ k.x.content.slots
-    d_slots = end.taken_slots m (now - 1) w.chain k.front k.x o k.back is_middle number_middle
-
-    regrouped : w.chain ++ (k.front ++ y ∷ k.back) ≡ first_part ++ y ∷ k.back
-    regrouped = end.regrouped m (now - 1) w.chain k.front k.x o k.back is_middle number_middle
-
-    settled_end : gstate_of_pairs (w.chain ++ (k.front ++ y ∷ k.back)) ≡ zero_gstate
-    settled_end = end.settled_end m (now - 1) w.chain k.front k.x o k.back is_middle number_middle
-
-    device_end : (disk : Disk) → IsPairWrittenOnDisk m (now - 1) d disk → IsDevice m.disk disk (first_part ++ k.x ∷ o ∷ k.back) (first_part ++ y ∷ k.back)
-    device_end = end.device_end m (now - 1) w.chain k.front k.x o k.back is_middle number_middle accepted_parts
-
-    is_gone : (disk : Disk) → IsPairWrittenOnDisk m (now - 1) d disk → IsGone m.disk disk w.chain k.front k.x o y k.back
-    is_gone = end.is_gone m (now - 1) w.chain k.front k.x o k.back is_middle number_middle accepted_parts k.soft
-
-    end_taken : (disk : Disk) → IsPairWrittenOnDisk m (now - 1) d disk
-        → IsWritableImageAfterTreeChange t.disk (old) disk (w.chain ++ (k.front ++ y ∷ k.back)) (tree_after_removal (can.path ++ u.name ∷ [])) (tree_after_subtree_replacement (can.path ++ u.name ∷ []) (λ t. None))
-    end_taken disk written = k.taken disk y (is_gone disk written)
-
-    turned : tree_after_removal (can.path ++ u.name ∷ []) (tree_on_disk t.disk (old)) ≡ tree_without_named_entry t can.path can.name
-    turned = ap₂ (λ n z. tree_after_removal (can.path ++ n ∷ []) (tree_on_disk t.disk z)) can.stands.stands.named (sym s.there)
-
-    module _ (new : KeptThread) (g : IsNextPairDropped m (now - 1) zero_gstate new) where
-      pairs_end : new.pairs ≡ w.chain ++ (k.front ++ y ∷ k.back)
-      pairs_end = end.pairs_end m (now - 1) w.chain k.front k.x o k.back is_middle number_middle new g
-
-      map_middle : m.map ≡ block_map_with_freed_pair t.map e.at
-      map_middle = h.map ∙ ap (λ (z : Pair). block_map_with_freed_pair t.map z.at) e_there
-
-      map_end : new.map ≡ block_map_with_freed_pair m.map o.at
-      map_end = g.map ∙ ap (λ (z : Pair). block_map_with_freed_pair m.map z.at) o_there
-
-      middle_used : (b : ℕ) → occurrence_count_of_number b (used_blocks m.disk m.pairs) + occurrence_count_of_number b (blocks_of_pair_address e.at) ≡ occurrence_count_of_number b (used_blocks t.disk t.pairs)
-      middle_used b =
-          let e1 = dropped_count t.disk m.disk ahead x0 e q behind (subst (λ z. HasNoMove (gstate_of_pairs z)) (grouped (x0 ∷ e ∷ [])) (no_move_from old settled)) (subst (λ z. HasNoMove (gstate_of_pairs z)) (grouped (q ∷ [])) no_move_middle)
-          (device_first m.disk h.written) refl slots_same b in
-          let f1 = ap (λ z. occurrence_count_of_number b (used_blocks m.disk z)) (pairs_middle ∙ grouped (q ∷ [])) in
-          let f2 = ap (λ z. occurrence_count_of_number b (used_blocks t.disk z)) is in
-          let f3 = ap (λ z. occurrence_count_of_number b (file_blocks_of_slots t.disk z)) s.held in
-          let f4 : occurrence_count_of_number b (file_blocks_of_slots t.disk (u ∷ [])) ≡ 0 = ap (λ z. occurrence_count_of_number b (file_blocks_of_slots t.disk (record u { struct = z } ∷ []))) take.branch in
-          omega arith
-
-      end_used : (b : ℕ) → occurrence_count_of_number b (used_blocks new.disk new.pairs) + occurrence_count_of_number b (blocks_of_pair_address o.at) ≡ occurrence_count_of_number b (used_blocks m.disk m.pairs)
-      end_used b =
-          let e2 = dropped_count m.disk new.disk first_part k.x o y k.back (subst (λ z. HasNoMove (gstate_of_pairs z)) (sym pairs_middle ∙ is_middle) no_move_middle)
-          (subst (λ z. HasNoMove (gstate_of_pairs z)) regrouped (no_move_from (w.chain ++ (k.front ++ y ∷ k.back)) settled_end)) (device_end new.disk g.written) refl d_slots b in
-          let f1 = ap (λ z. occurrence_count_of_number b (used_blocks new.disk z)) (pairs_end ∙ regrouped) in
-          let f2 = ap (λ z. occurrence_count_of_number b (used_blocks m.disk z)) is_middle in
-          let f4 = ap (λ z. occurrence_count_of_number b (file_blocks_of_slots m.disk z)) take.empty in
-          omega arith
-
-      once : (b : ℕ) → occurrence_count_of_number b (used_blocks t.disk t.pairs) ≤ 1
-      once b = once_from_distinct (used_blocks t.disk t.pairs) can.ready.accepted.owned_once b
-
-      once_middle : (b : ℕ) → occurrence_count_of_number b (used_blocks m.disk m.pairs) ≤ 1
-      once_middle b = let k = once b in let l = middle_used b in omega arith
-
-      used_middle : AreExactlyTheUsedBlocks m.map (used_blocks m.disk m.pairs)
-      used_middle = subst (λ s. AreExactlyTheUsedBlocks s (used_blocks m.disk m.pairs)) (sym map_middle) (used_fewer t.map e.at (used_blocks t.disk t.pairs) (used_blocks m.disk m.pairs) can.ready.used once middle_used)
-
-      flying_middle : HasSameBlocksInFlight t.map m.map
-      flying_middle = subst (HasSameBlocksInFlight t.map) (sym map_middle) (flying_same t.map e.at (used_blocks t.disk t.pairs) (used_blocks m.disk m.pairs) can.ready.used once middle_used)
-
-      flying_end : HasSameBlocksInFlight m.map new.map
-      flying_end = subst (HasSameBlocksInFlight m.map) (sym map_end) (flying_same m.map o.at (used_blocks m.disk m.pairs) (used_blocks new.disk new.pairs) used_middle once_middle end_used)
-
-      pub whole_removed : IsDirectoryRemoved t new take.can.path take.can.name
-      whole_removed =
-          let f = end_taken new.disk g.written in
-          record {
-            now = record {
-              ready = record {
-                accepted = subst (IsAcceptedImage new.disk) (sym pairs_end) f.follows.accepted;
-                writable = subst (IsWritableImage new.disk) (sym pairs_end) f.writable;
-                settled = g.gstate;
-                used = record {
-                  owned = used_blocks new.disk new.pairs;
-                  are = subst (λ s. AreExactlyTheUsedBlocks s (used_blocks new.disk new.pairs)) (sym map_end) (used_fewer m.map o.at (used_blocks m.disk m.pairs) (used_blocks new.disk new.pairs) used_middle once_middle end_used);
-                  same = λ b. omega arith;
-                };
-                size = ap length map_end ∙ length_fewer m.map o.at (used_blocks m.disk m.pairs) (used_blocks new.disk new.pairs) used_middle once_middle end_used
-                    ∙ ap length map_middle ∙ length_fewer t.map e.at (used_blocks t.disk t.pairs) (used_blocks m.disk m.pairs) can.ready.used once middle_used ∙ can.ready.size
-                    ∙ sym h.written.shape.count ∙ sym g.written.shape.count;
-                large = subst (λ n. 1024 ≤ n) (sym (g.written.shape.block_size ∙ h.written.shape.block_size)) can.ready.large;
-              };
-              shows = ap (tree_on_disk new.disk) pairs_end ∙ f.follows.shows ∙ turned;
-              flying = λ b. ((λ f. (flying_middle b).0 ((flying_end b).0 f)), (λ f. (flying_end b).1 ((flying_middle b).1 f)));
-              root = ap pair_count_before_root pairs_end
-                  ∙ root_stays t.disk new.disk w.chain (dirs_at w (x0 ∷ e ∷ [])) (k.front ++ y ∷ k.back) s.site.chain (subst (IsAcceptedImage t.disk) s.there can.ready.accepted) f.follows.accepted f.follows.root
-                  ∙ sym (ap pair_count_before_root s.there);
-            };
-            completed = λ z given tree is_path. subst (λ s. IsImageAfterCompletedOperation t.disk s z (ops.Remove given) new.disk new.pairs) (sym s.there)
-                (subst (λ s. IsImageAfterCompletedOperation t.disk (old) z (ops.Remove given) new.disk s) (sym pairs_end)
-                (k.completed new.disk y (is_gone new.disk g.written) z given (tree ∙ ap (tree_on_disk t.disk) s.there) (is_path ∙ ap (λ n. can.path ++ n ∷ []) (sym can.stands.stands.named))));
-          }
-
-    -- ---- at a stop in the second step
-
-    same_shape : (left : Blocks) → disk_with_blocks left m.disk ≡ disk_with_blocks left t.disk
-    same_shape left = λ j. record { block_size = h.written.shape.block_size j; page = h.written.shape.page j; order = h.written.shape.order j; profile = h.written.shape.profile j; blocks = left }
-
-    site_middle : IsSite w (q ∷ [])
-    site_middle = record {
-      chain = step_chain t.disk m.disk w x0 (e ∷ []) q [] [] [] x0.content.slots (u ∷ []) [] [] (step m.disk h.written);
-      ends = s.site.ends;
-      run = run_changed w.left x0 (e ∷ w.right) q w.right ((step m.disk h.written).shape.run w.right) s.site.run;
-    }
-
-    pub whole_second : (left : Blocks) → IsLeftByStoppedPairDrop m (now - 1) zero_gstate left → IsLeftOf (disk_with_blocks left t.disk) (tree_on_disk t.disk t.pairs) (tree_without_named_entry t can.path can.name)
-    whole_second left g = subst (λ z. IsLeftOf z (tree_on_disk t.disk t.pairs) (tree_without_named_entry t can.path can.name)) (same_shape left) (go g.is)
-      where
-        go : (g.content ≡ (thread_pair_at_index m (now - 1)).content) ⊎ (g.content ≡ content_after_next_pair_drop m (now - 1) zero_gstate) → IsLeftOf (disk_with_blocks left m.disk) (tree_on_disk t.disk t.pairs) (tree_without_named_entry t can.path can.name)
-        go (inl e) =
-            let on = end.device_left m (now - 1) w.chain k.front k.x o k.back is_middle number_middle accepted_parts (disk_with_blocks left m.disk) (subst (λ z. IsPairWrittenOnDisk m (now - 1) z (disk_with_blocks left m.disk)) e g.written) in
-            let f = nothing_came m.disk (disk_with_blocks left m.disk) w q site_middle accepted_middle (subst (λ z. IsDevice m.disk (disk_with_blocks left m.disk) z z) pairs_middle on) in
-            record {
-              pairs = thread_at w (q ∷ []);
-              accepted = f.accepted;
-              writable = profile_same m.disk (disk_with_blocks left m.disk) (thread_at w (q ∷ [])) refl refl refl (first_taken m.disk h.written).writable;
-              tree = inr (f.shows ∙ (first_taken m.disk h.written).follows.shows ∙ turned);
-            }
-        go (inr e) =
-            let f = end_taken (disk_with_blocks left m.disk) (subst (λ z. IsPairWrittenOnDisk m (now - 1) z (disk_with_blocks left m.disk)) e g.written) in
-            record {
-              pairs = w.chain ++ (k.front ++ y ∷ k.back);
-              accepted = f.follows.accepted;
-              writable = f.writable;
-              tree = inr (f.follows.shows ∙ turned);
-            }
-
-  -- the same thread, as a place of the pair in front
-  abbrev before_it : Site
-  before_it = record { chain = w.chain; before = w.before; left = w.left; right = e ∷ w.right; after = w.after }
-
-  is_before : t.pairs ≡ thread_at before_it (x0 ∷ [])
-  is_before = s.there
-
-  site_before : IsSite before_it (x0 ∷ [])
-  site_before = record { chain = s.site.chain; ends = s.site.ends; run = s.site.run }
+    -- what a stop in the second step leaves
+    pub whole_second : (left : Blocks) → IsLeftByStoppedPairDrop m (now - 1) zero_gstate left → IsLeftOf (disk_with_blocks left t.disk) (tree_on_disk t.disk t.pairs) (tree_without_named_entry t take.can.path take.can.name)
+    whole_second left g = subst (IsLeftOf (disk_with_blocks left t.disk) (tree_on_disk t.disk t.pairs)) turned (left_last may_go left g)
 
   -- ---- at a stop in the first step
 
@@ -454,20 +338,8 @@ module _ (t : KeptThread) (index id first gone : ℕ) (take : CanRemoveDirectory
       go : (g.content ≡ (thread_pair_at_index t (index - 1)).content) ⊎ (g.content ≡ content_after_next_pair_drop t (index - 1) sync_bit_delta) → IsLeftOf (disk_with_blocks left t.disk) (tree_on_disk t.disk t.pairs) (tree_without_named_entry t can.path can.name)
       go (inl z) =
           let same = z ∙ ap (λ (z : Pair). z.content) x0_there in
-          let on = device_kept t (index - 1) ahead x0 e behind is number accepted_is (disk_with_blocks left t.disk) x0.content refl (subst (λ z. IsPairWrittenOnDisk t (index - 1) z (disk_with_blocks left t.disk)) same g.written) in
-          let f = nothing_came t.disk (disk_with_blocks left t.disk) before_it x0 site_before (subst (IsAcceptedImage t.disk) is_before can.ready.accepted)
-          (subst (λ z. IsDevice t.disk (disk_with_blocks left t.disk) z z) (sym is ∙ is_before) on) in
-          record {
-            pairs = thread_at before_it (x0 ∷ []);
-            accepted = f.accepted;
-            writable = profile_same t.disk (disk_with_blocks left t.disk) (thread_at before_it (x0 ∷ [])) refl refl refl (subst (IsWritableImage t.disk) is_before can.ready.writable);
-            tree = inl (f.shows ∙ ap (tree_on_disk t.disk) (sym is_before));
-          }
-      go (inr z) =
-          let f = first_taken (disk_with_blocks left t.disk) (subst (λ y. IsPairWrittenOnDisk t (index - 1) y (disk_with_blocks left t.disk)) z g.written) in
-          record {
-            pairs = thread_at w (q ∷ []);
-            accepted = f.follows.accepted;
-            writable = f.writable;
-            tree = inr (f.follows.shows ∙ ap₂ (λ n z. tree_after_removal (can.path ++ n ∷ []) (tree_on_disk t.disk z)) can.stands.stands.named (sym s.there));
-          }
+          left_still t.disk left t.pairs can.ready.accepted can.ready.writable (subst (λ z. IsDevice t.disk (disk_with_blocks left t.disk) z z) (sym is)
+          (device_kept t (index - 1) ahead x0 e behind is number accepted_is (disk_with_blocks left t.disk) x0.content refl (subst (λ z. IsPairWrittenOnDisk t (index - 1) z (disk_with_blocks left t.disk)) same g.written)))
+          (inl refl)
+      go (inr z) = left_after (first_taken (disk_with_blocks left t.disk) (subst (λ y. IsPairWrittenOnDisk t (index - 1) y (disk_with_blocks left t.disk)) z g.written))
+          (inr (ap₂ (λ n z. tree_after_removal (can.path ++ n ∷ []) (tree_on_disk t.disk z)) can.stands.stands.named (sym s.there)))

@@ -1,7 +1,6 @@
 -- How a recovery ends a set move.
-use Rattle.std.specs.Prelude.{ℕ, ◌≡◌, ◌<◌, ◌≤◌, ◌-◌, ◌&&◌, ◌==◌, ◌++◌, nat_lt, Bool, true, false, List, [], ◌∷◌, length}
+use Rattle.std.specs.Prelude.{ℕ, ◌≡◌, ◌<◌, ◌≤◌, ◌-◌, ◌&&◌, ◌==◌, ◌++◌, nat_lt, Bool, true, false, List, ◌∷◌, length}
 use Rattle.lfs_model.specs.BlockSets.{AreExactlyTheUsedBlocks}
-use Rattle.lfs_model.specs.Changes.{PairContentChange, Delete, PutMove}
 use Rattle.lfs_model.specs.Disk.{Disk, block_count}
 use Rattle.lfs_model.specs.Layout.{IsSlotLayoutAfterOperation}
 use Rattle.lfs_model.specs.Operations as ops
@@ -17,16 +16,7 @@ use Rattle.lfs_thread.specs.Kept.{KeptThread}
 use Rattle.lfs_thread.specs.Steps.{thread_pair_at_index}
 use Rattle.lfs_operations.specs.Dropping.{HasSameBlocksInFlight}
 use Rattle.lfs_operations.specs.Ready.{KeepsPairCountBeforeRoot}
-use Rattle.lfs_operations.specs.Deltas.{delta_reaching_gstate, has_hard_tail_at, CanSetGstateInPair}
-
--- the slot at the id is removed, and the delta changes
-abbrev pub remove_moved_slot_changes : KeptThread → ℕ → ℕ → Gstate → List PairContentChange
-remove_moved_slot_changes t index id g = Delete id ∷ PutMove (delta_reaching_gstate t index g) ∷ []
-
--- there is a pair of that number with a slot of that id
-pub record CanRemoveMovedSlot (t : KeptThread) (index id : ℕ) (g : Gstate) : Type 0 where
-  pub can : CanSetGstateInPair t index g
-  pub below : id < length (thread_pair_at_index t index).content.slots
+use Rattle.lfs_operations.specs.Deltas.{has_hard_tail_at}
 
 -- the global state without a move
 abbrev pub gstate_without_move : Gstate → Gstate

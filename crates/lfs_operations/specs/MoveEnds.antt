@@ -14,8 +14,8 @@ use Rattle.lfs_model.specs.Slots.{gstate_kind_of_set_move}
 use Rattle.lfs_model.specs.Steps.{ArePairsWithSameAddressesAndSlots, occurrence_count_of_number, addresses_of_first_pairs_of_directories, IsTrueOfSomeElement, IsWritableImageAfterTreeChange, ends_in_hard_tail}
 use Rattle.lfs_thread.specs.Kept.{KeptThread}
 use Rattle.lfs_thread.specs.Steps.{HasSameGeometry, thread_pair_at_index, thread_pairs_with_content_replaced_at_index, block_map_with_freed_pair}
-use Rattle.lfs_operations.specs.Ready.{IsRawPairContentWellFormed}
-use Rattle.lfs_operations.specs.EndingMove.{gstate_without_move}
+use Rattle.lfs_operations.specs.Ready.{IsRawPairContentWellFormed, KeepsPairCountBeforeRoot}
+use Rattle.lfs_operations.specs.EndingMove.{IsEachRecoveryOfNewAllowedForOld, gstate_without_move}
 
 -- a move that names the slot at an id of a pair, with the sync bit set or not
 abbrev pub gstate_naming_moved_slot : Bool → ℕ × ℕ → ℕ → Gstate
@@ -82,6 +82,8 @@ pub record HasEndedMoveAt (old : KeptThread) (pair id : ℕ) (goes : Bool) (new 
   pub map : new.map ≡ map_after_move_ends old pair goes
   pub blocks : (b : ℕ) → occurrence_count_of_number b (used_blocks new.disk new.pairs) + occurrence_count_of_number b (blocks_dropped_at_move_end old pair goes) ≡ occurrence_count_of_number b (used_blocks old.disk old.pairs)
   pub shape : HasSameGeometry old.disk new.disk
-  -- The directories begin where they did. A pair without slots that ends its directory stays as it is.
+  -- The directories begin where they did. A pair without slots that ends its directory stays as it is. A recovery may go on.
   pub begins : addresses_of_first_pairs_of_directories (directories_in_thread new.pairs) ≡ addresses_of_first_pairs_of_directories (directories_in_thread old.pairs)
+  pub root : KeepsPairCountBeforeRoot old new
+  pub leads_on : IsEachRecoveryOfNewAllowedForOld old new
   pub kept : (z : Pair) → z.content.slots ≡ [] → is_hard_tail z.content.tail ≡ false → IsTrueOfSomeElement (λ x. x ≡ z) old.pairs → IsTrueOfSomeElement (λ x. x ≡ z) new.pairs

@@ -24,7 +24,7 @@ use std::alloc::Global;
 
 // What is known of any device, for the proof: its blocks hold bytes, and a block's number has 32
 // bits.
-fn show_device_facts_to_proof<D: BlockDevice>(thread: &Thread<D>)
+pub(crate) fn show_device_facts_to_proof<D: BlockDevice>(thread: &Thread<D>)
     ensures count { block_count thread.now.kept.disk < 2 ^ 32 }
     ensures bytes { AreAllBlockElementsBelow256 thread.now.kept.disk.blocks }
 {

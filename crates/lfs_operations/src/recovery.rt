@@ -1,38 +1,30 @@
 // The recovery: what a loss of power left half done is ended.
 
-ghost use Rattle.std.specs.Prelude.{ℕ, ◌≡◌, ◌<◌, ◌+◌, ◌-◌, ◌&&◌, false, OnOk, length, if◌then◌else◌, IfNone, IfSome, Option};
-ghost use Rattle.std.specs.Option.{option_map};
-ghost use Rattle.lfs_model.specs.LoggedContent.{Are32BitPairAddresses};
+ghost use Rattle.std.specs.Prelude.{◌≡◌, ◌<◌, ◌+◌, ◌-◌, ◌&&◌, false, OnOk, length, if◌then◌else◌, IfNone, IfSome, Option, Some};
 ghost use Rattle.lfs_model.specs.PowerLoss.{SurvivesPowerLossInCallsSince};
 ghost use Rattle.lfs_model.specs.Recovery.{IsNothingLeftToRecover};
-ghost use Rattle.lfs_model.specs.Slots.{pair_address_of_array, zero_gstate};
+ghost use Rattle.lfs_model.specs.Slots.{zero_gstate};
 ghost use Rattle.lfs_model.specs.Thread.{blocks_of_pairs, gstate_of_pairs, blocks_of_pair_address};
 ghost use Rattle.lfs_model.specs.View.{IsAcceptedImage};
 ghost use Rattle.lfs_model.specs.Shown.{tree_on_disk};
 ghost use Rattle.lfs_model.specs.Steps.{HasNoMove};
-ghost use Rattle.lfs_tag.specs.ContentView.{tail_view};
 ghost use Rattle.lfs_tag.specs.FieldsView.{move_view};
 ghost use Rattle.lfs_thread.specs.Device.{PowerLossLeavesSuchBlocksAfterCleanErases};
-ghost use Rattle.lfs_thread.specs.Steps.{IsPairChanged, IsPairAfterIndexDropped, PowerLossLeavesPairOldOrChanged, ThreadChangesOnlyTheseBlocks, thread_pair_at_index};
-ghost use Rattle.lfs_operations.specs.Deltas.{CanSetGstateInPair, CanTakeOverNextPair, Is32BitPairAddressIfSome, has_hard_tail_at, gstate_setting_changes, delta_reaching_gstate, next_pair_takeover_changes, delta_after_taking_over_next_pair, pair_named_by_optional_tail};
+ghost use Rattle.lfs_thread.specs.Steps.{complete_content_after_changes, IsPairChanged, PowerLossLeavesPairOldOrChanged, ThreadChangesOnlyTheseBlocks, thread_pair_at_index};
+ghost use Rattle.lfs_operations.specs.Deltas.{content_reaching_gstate, CanSetGstateInPair, has_hard_tail_at, gstate_setting_changes, delta_reaching_gstate};
 ghost use Rattle.lfs_operations.specs.Recovering.{CanClearSyncBit, CanDropUnreachedPairs, HasDroppedUnreachedPairsAndRecovered, IsSyncBitCleared, ReportsErrorsOfRecovery, gstate_zero_after_last_unreached_pair_drop};
-ghost use Rattle.lfs_operations.specs.EndingMove.{CanEndMove, CanRemoveMovedSlot, HasEndedMove, HasMovedSlotInPair, has_one_slot_after_hard_tail, remove_moved_slot_changes, gstate_without_move};
+ghost use Rattle.lfs_operations.specs.EndingMove.{CanEndMove, HasEndedMove, HasMovedSlotInPair, has_one_slot_after_hard_tail};
 ghost use Rattle.lfs_operations.specs.Removing.{ReportsErrorsOfCommitTakingNoBlock};
 
+use crate::drops::drop_pair_at;
+use crate::moves;
+use crate::new_directories::show_device_facts_to_proof;
 use lfs_device::{BlockDevice, Error};
 use lfs_pair::Change;
+use lfs_tag::MoveState;
 use lfs_tag::kinds::DELETE;
-use lfs_tag::{MoveState, Tail};
 use lfs_thread::{Thread, gstate_xor_delta, pair_number_at_address};
 use std::alloc::Global;
-
-// Returns the address as it is. For the proof, its blocks are words of 32 bits.
-fn show_pair_address_to_proof(pair: [u32; 2]) -> [u32; 2]
-    ensures same { pair_address_of_array result ≡ pair_address_of_array pair }
-    ensures words { Are32BitPairAddresses (pair_address_of_array pair) }
-{
-    [pair[0], pair[1]]
-}
 
 // Returns the delta that a pair gets, so that the global state becomes `wanted`.
 fn delta_that_reaches_gstate<D: BlockDevice>(
@@ -48,20 +40,6 @@ fn delta_that_reaches_gstate<D: BlockDevice>(
     gstate_xor_delta(&change, &thread.delta(index))
 }
 
-// Returns a global state as it can be stored.
-fn show_gstate_address_to_proof(state: MoveState) -> MoveState
-    ensures same { move_view result ≡ move_view state }
-    ensures words { Are32BitPairAddresses (move_view result).pair }
-{
-    let pair = show_pair_address_to_proof(state.pair);
-    MoveState {
-        sync: state.sync,
-        kind: state.kind,
-        id: state.id,
-        pair,
-    }
-}
-
 // Returns whether a pair's tail is a hard one.
 fn is_tail_of_pair_hard<D: BlockDevice>(thread: &Thread<D>, index: usize) -> bool
     requires works { thread.now.failed ≡ false }
@@ -69,27 +47,6 @@ fn is_tail_of_pair_hard<D: BlockDevice>(thread: &Thread<D>, index: usize) -> boo
     ensures { result ≡ has_hard_tail_at thread.now.kept index }
 {
     thread.next(index).is_some()
-}
-
-// Returns the address of the pair that a tail names.
-fn address_named_by_tail(tail: Option<Tail>) -> Option<[u32; 2]>
-    ensures same { option_map pair_address_of_array result ≡ pair_named_by_optional_tail (option_map tail_view tail) }
-    ensures words { Is32BitPairAddressIfSome (option_map pair_address_of_array result) }
-{
-    match tail {
-        None => None,
-        Some(tail) => Some(show_pair_address_to_proof(tail.pair)),
-    }
-}
-
-// Returns whether the tails of both pairs are hard ones.
-fn have_both_hard_tails<D: BlockDevice>(thread: &Thread<D>, index: usize, behind: usize) -> bool
-    requires works { thread.now.failed ≡ false }
-    requires first { index < length thread.now.kept.pairs }
-    requires second { behind < length thread.now.kept.pairs }
-    ensures { result ≡ (has_hard_tail_at thread.now.kept index && has_hard_tail_at thread.now.kept behind) }
-{
-    is_tail_of_pair_hard(thread, index) && is_tail_of_pair_hard(thread, behind)
 }
 
 // Changes a pair's delta, so that the global state becomes `wanted`.
@@ -103,43 +60,14 @@ fn set_gstate_in_pair<D: BlockDevice>(
     requires can { CanSetGstateInPair thread.old.kept index (move_view wanted.now) }
     ensures is_set { OnOk result (IsPairChanged thread.old.kept index (gstate_setting_changes thread.old.kept index (move_view wanted.now)) thread.new.kept) }
     ensures errors { ReportsErrorsOfCommitTakingNoBlock thread.old thread.new result }
-    ensures words { Are32BitPairAddresses (delta_reaching_gstate thread.old.kept index (move_view wanted.now)).pair }
+    ensures made { complete_content_after_changes thread.old.kept index (gstate_setting_changes thread.old.kept index (move_view wanted.now)) ≡ Some (content_reaching_gstate thread.old.kept index (move_view wanted.now)) }
     ensures device { ThreadChangesOnlyTheseBlocks (blocks_of_pair_address (thread_pair_at_index thread.old.kept index).at) thread.old.kept thread.new.kept }
     ensures stops { PowerLossLeavesSuchBlocksAfterCleanErases thread.old.kept.history thread.new.kept.history (PowerLossLeavesPairOldOrChanged thread.old.kept index (gstate_setting_changes thread.old.kept index (move_view wanted.now))) }
 {
-    let state = show_gstate_address_to_proof(delta_that_reaches_gstate(thread, index, wanted));
+    show_device_facts_to_proof(thread);
+    let state = delta_that_reaches_gstate(thread, index, wanted);
     // The pair has the slots that it had, so the commit is never refused.
     thread.commit_pair_changes(alloc, index, &[Change::Move { state }])?;
-    Ok(())
-}
-
-// Drops the pair after the one at the index, so that the global state becomes `wanted`. The pair at
-// the index takes over its delta and its tail, which is hard only where both tails are.
-fn drop_pair_behind_index<D: BlockDevice>(
-    alloc: Global,
-    thread: &mut Thread<D>,
-    index: usize,
-    behind: usize,
-    wanted: &MoveState,
-) -> Result<(), Error>
-    requires works { thread.old.failed ≡ false }
-    requires can { CanTakeOverNextPair thread.old.kept index behind (move_view wanted.now) }
-    ensures is_dropped { OnOk result (IsPairAfterIndexDropped thread.old.kept index (next_pair_takeover_changes thread.old.kept index behind (move_view wanted.now)) thread.new.kept) }
-    ensures errors { ReportsErrorsOfCommitTakingNoBlock thread.old thread.new result }
-    ensures words { Are32BitPairAddresses (delta_after_taking_over_next_pair thread.old.kept index behind (move_view wanted.now)).pair × Is32BitPairAddressIfSome (pair_named_by_optional_tail (thread_pair_at_index thread.old.kept behind).content.tail) }
-    ensures device { ThreadChangesOnlyTheseBlocks (blocks_of_pair_address (thread_pair_at_index thread.old.kept index).at) thread.old.kept thread.new.kept }
-    ensures stops { PowerLossLeavesSuchBlocksAfterCleanErases thread.old.kept.history thread.new.kept.history (PowerLossLeavesPairOldOrChanged thread.old.kept index (next_pair_takeover_changes thread.old.kept index behind (move_view wanted.now))) }
-{
-    let delta = delta_that_reaches_gstate(thread, index, wanted);
-    let state = show_gstate_address_to_proof(gstate_xor_delta(&delta, &thread.delta(behind)));
-    let hard = have_both_hard_tails(thread, index, behind);
-    let pair = address_named_by_tail(thread.tail_of_pair(behind));
-    // The pair has the slots that it had, so the commit is never refused.
-    thread.drop_next(
-        alloc,
-        index,
-        &[Change::Tail { hard, pair }, Change::Move { state }],
-    )?;
     Ok(())
 }
 
@@ -207,7 +135,7 @@ pub fn drop_unreached_pairs<D: BlockDevice>(
             thread,
             dropped + 1 == unreached.len(),
         );
-        drop_pair_behind_index(alloc, thread, behind - 1, behind, &wanted)?;
+        drop_pair_at(alloc, thread, behind, &wanted)?;
     }
     clear_sync_bit(alloc, thread)?;
     Ok(())
@@ -226,18 +154,6 @@ fn pair_number_of_moved_slot<D: BlockDevice>(thread: &Thread<D>, state: &MoveSta
     pair_number_at_address(thread, state.pair)
 }
 
-// Returns the global state without a move.
-fn move_state_with_sync_only(state: &MoveState) -> MoveState
-    ensures { move_view result ≡ gstate_without_move (move_view state.now) }
-{
-    MoveState {
-        sync: state.sync,
-        kind: 0,
-        id: 0,
-        pair: [0, 0],
-    }
-}
-
 // Returns whether a pair has one slot, and a hard tail names the pair.
 fn is_one_slot_after_hard_tail<D: BlockDevice>(thread: &Thread<D>, index: usize) -> bool
     requires works { thread.now.failed ≡ false }
@@ -245,32 +161,6 @@ fn is_one_slot_after_hard_tail<D: BlockDevice>(thread: &Thread<D>, index: usize)
     ensures { result ≡ has_one_slot_after_hard_tail thread.now.kept index }
 {
     index > 0 && thread.slot_count(index) == 1 && is_tail_of_pair_hard(thread, index - 1)
-}
-
-// Removes the slot at the id from a pair, so that the global state becomes `wanted`.
-fn remove_moved_slot_of_pair<D: BlockDevice>(
-    alloc: Global,
-    thread: &mut Thread<D>,
-    index: usize,
-    id: u16,
-    wanted: &MoveState,
-) -> Result<(), Error>
-    requires works { thread.old.failed ≡ false }
-    requires can { CanRemoveMovedSlot thread.old.kept index id (move_view wanted.now) }
-    ensures is_taken { OnOk result (IsPairChanged thread.old.kept index (remove_moved_slot_changes thread.old.kept index id (move_view wanted.now)) thread.new.kept) }
-    ensures errors { ReportsErrorsOfCommitTakingNoBlock thread.old thread.new result }
-    ensures words { Are32BitPairAddresses (delta_reaching_gstate thread.old.kept index (move_view wanted.now)).pair }
-    ensures device { ThreadChangesOnlyTheseBlocks (blocks_of_pair_address (thread_pair_at_index thread.old.kept index).at) thread.old.kept thread.new.kept }
-    ensures stops { PowerLossLeavesSuchBlocksAfterCleanErases thread.old.kept.history thread.new.kept.history (PowerLossLeavesPairOldOrChanged thread.old.kept index (remove_moved_slot_changes thread.old.kept index id (move_view wanted.now))) }
-{
-    let state = show_gstate_address_to_proof(delta_that_reaches_gstate(thread, index, wanted));
-    // The pair has a slot less than before, so the commit is never refused.
-    thread.commit_pair_changes(
-        alloc,
-        index,
-        &[Change::Delete { id }, Change::Move { state }],
-    )?;
-    Ok(())
 }
 
 /// Ends a set move in one commit: the slot that the move names is removed (DESIGN.md of littlefs,
@@ -293,11 +183,8 @@ pub fn end_move<D: BlockDevice>(alloc: Global, thread: &mut Thread<D>) -> Result
     let Some(index) = pair_number_of_moved_slot(thread, &state) else {
         return Ok(());
     };
-    let wanted = move_state_with_sync_only(&state);
-    if is_one_slot_after_hard_tail(thread, index) {
-        drop_pair_behind_index(alloc, thread, index - 1, index, &wanted)?;
-    } else {
-        remove_moved_slot_of_pair(alloc, thread, index, state.id, &wanted)?;
-    }
+    let goes = is_one_slot_after_hard_tail(thread, index);
+    show_device_facts_to_proof(thread);
+    moves::end_move(alloc, thread, index, state.id, goes)?;
     Ok(())
 }

@@ -6,7 +6,8 @@ use Rattle.lfs_thread.specs.Steps.{ThreadChangesOnlyTheseBlocks, thread_pair_at_
 use Rattle.lfs_operations.specs.Dropping.{CanDropPairAt, IsNextPairDropped, IsLeftByStoppedPairDrop}
 use Rattle.lfs_operations.proofs.AlteredDrops.{beside_alters}
 use Rattle.lfs_operations.proofs.Removed.{reports_again}
-use Rattle.lfs_operations.proofs.RmdirThread.{can_drop_gone, directory_removed}
+use Rattle.lfs_operations.proofs.LastDrop.{can_drop_last}
+use Rattle.lfs_operations.proofs.RmdirThread.{directory_removed, may_go}
 use Rattle.lfs_operations.proofs.UnlinkedSteps.{both_survive, first_survives, steps_from, steps_then, writes_first, writes_two, written_beside}
 use Rattle.lfs_operations.proofs.directory_removals.remove_directory_keeping_entry_pair.Goals as goal
 use Rattle.lfs_model.specs.Thread.{blocks_of_pair_address, blocks_of_two_pair_addresses}
@@ -14,7 +15,7 @@ use Rattle.lfs_model.specs.Thread.{blocks_of_pair_address, blocks_of_two_pair_ad
 pub drop_pair_at-requires-clause-can : goal.drop_pair_at-requires-clause-can
 drop_pair_at-requires-clause-can g c =
     subst (CanDropPairAt c.unlink_directory_entry.new.thread.kept c.args.gone) (sym c.none.ensures)
-    (can_drop_gone c.args.thread.now.kept c.args.pair c.args.id c.args.first c.args.gone c.requires.can c.requires.stays c.unlink_directory_entry.new.thread.kept c.in_ok-unlink_directory_entry.ensures.is_unlinked)
+    (can_drop_last (may_go c.args.thread.now.kept c.args.pair c.args.id c.args.first c.args.gone c.requires.can c.requires.stays c.unlink_directory_entry.new.thread.kept c.in_ok-unlink_directory_entry.ensures.is_unlinked))
 
 pub returns-in_err-unlink_directory_entry-clause-errors : goal.returns-in_err-unlink_directory_entry-clause-errors
 returns-in_err-unlink_directory_entry-clause-errors g c =

@@ -10,7 +10,8 @@ use Rattle.lfs_operations.specs.Unlinking.{pair_number_after_drop}
 use Rattle.lfs_operations.proofs.AlteredDrops.{whole_alters}
 use Rattle.lfs_operations.proofs.Removed.{reports_again}
 use Rattle.lfs_operations.proofs.RemovedWhole.{stands_whole}
-use Rattle.lfs_operations.proofs.UnlinkedWhole.{can_drop_entry, can_drop_then, whole_removed}
+use Rattle.lfs_operations.proofs.LastDrop.{can_drop_last}
+use Rattle.lfs_operations.proofs.UnlinkedWhole.{can_drop_entry, may_go, whole_removed}
 use Rattle.lfs_operations.proofs.UnlinkedSteps.{both_survive_whole, first_survives_whole, steps_from, steps_then, writes_first, writes_whole, written_whole}
 use Rattle.lfs_operations.proofs.directory_removals.remove_directory_with_entry_pair.Goals as goal
 use Rattle.lfs_model.specs.Thread.{blocks_of_pair_address, blocks_of_two_pair_addresses}
@@ -26,8 +27,8 @@ pub drop_pair_at-requires-2-clause-can : goal.drop_pair_at-requires-2-clause-can
 drop_pair_at-requires-2-clause-can g c =
     subst (CanDropPairAt c.drop_pair_at.new.thread.kept c.number_of_pair_after_drop.result) (sym c.none.ensures)
     (subst (λ (i : ℕ). CanDropPairAt c.drop_pair_at.new.thread.kept i zero_gstate) (sym c.number_of_pair_after_drop.ensures)
-    (can_drop_then c.args.thread.now.kept c.args.pair c.args.id c.args.first c.args.gone c.requires.can (stands_whole c.args.thread.now.kept c.args.pair c.args.id c.args.first c.requires.can.can c.requires.can.begins c.requires.goes) c.drop_pair_at.new.thread.kept
-    (subst (λ (s : Gstate). IsNextPairDropped c.args.thread.now.kept (c.args.pair - 1) s c.drop_pair_at.new.thread.kept) c.delta_of_sync_bit.ensures c.in_ok-drop_pair_at.ensures.is_dropped)))
+    (can_drop_last (may_go c.args.thread.now.kept c.args.pair c.args.id c.args.first c.args.gone c.requires.can (stands_whole c.args.thread.now.kept c.args.pair c.args.id c.args.first c.requires.can.can c.requires.can.begins c.requires.goes) c.drop_pair_at.new.thread.kept
+    (subst (λ (s : Gstate). IsNextPairDropped c.args.thread.now.kept (c.args.pair - 1) s c.drop_pair_at.new.thread.kept) c.delta_of_sync_bit.ensures c.in_ok-drop_pair_at.ensures.is_dropped))))
 
 pub returns-in_err-drop_pair_at-clause-errors : goal.returns-in_err-drop_pair_at-clause-errors
 returns-in_err-drop_pair_at-clause-errors g c =

@@ -1,9 +1,8 @@
-use Rattle.std.proofs.Common.{◌≡◌, ◌+◌, ◌-◌, ap, sym, subst, ◌∙◌, length, arith}
-use Rattle.lfs_model.specs.LoggedContent.{Are32BitPairAddresses}
+use Rattle.std.proofs.Common.{◌≡◌, ◌+◌, ◌-◌, ap, sym, subst, ◌∙◌, length, arith, Some}
 use Rattle.lfs_model.specs.Slots.{Gstate}
 use Rattle.lfs_thread.specs.Device.{PowerLossLeavesSuchBlocksAfterCleanErases}
-use Rattle.lfs_thread.specs.Steps.{IsPairChanged, PowerLossLeavesPairOldOrChanged}
-use Rattle.lfs_operations.specs.Deltas.{gstate_setting_changes, delta_reaching_gstate}
+use Rattle.lfs_thread.specs.Steps.{IsPairChanged, PowerLossLeavesPairOldOrChanged, complete_content_after_changes}
+use Rattle.lfs_operations.specs.Deltas.{gstate_setting_changes, content_reaching_gstate}
 use Rattle.lfs_operations.proofs.RecoverEnd.{clear_survives, cleared, cleared_already, enough}
 use Rattle.lfs_model.specs.Thread.{blocks_of_pairs}
 use Rattle.lfs_operations.proofs.RecoverWrites.{two_fewer, writes_fewer, writes_none}
@@ -15,7 +14,7 @@ returns-in_err-set_gstate_in_pair-clause-survives g c =
     let last = c.len-last.result - 1 in
     let is : last + 1 ≡ length t.pairs = let e = enough t c.requires.can in let l = c.len-last.ensures in omega arith in
     clear_survives t c.requires.can last is c.set_gstate_in_pair.new.thread.kept.history
-    (subst (λ (x : Gstate). Are32BitPairAddresses (delta_reaching_gstate t last x).pair) c.none.ensures c.set_gstate_in_pair.ensures.words)
+    (subst (λ (x : Gstate). complete_content_after_changes t last (gstate_setting_changes t last x) ≡ Some (content_reaching_gstate t last x)) c.none.ensures c.set_gstate_in_pair.ensures.made)
     (subst (λ (x : Gstate). PowerLossLeavesSuchBlocksAfterCleanErases t.history c.set_gstate_in_pair.new.thread.kept.history (PowerLossLeavesPairOldOrChanged t last (gstate_setting_changes t last x))) c.none.ensures c.set_gstate_in_pair.ensures.stops)
 
 pub returns-in_ok-set_gstate_in_pair-clause-is_cleared : goal.returns-in_ok-set_gstate_in_pair-clause-is_cleared
@@ -24,7 +23,7 @@ returns-in_ok-set_gstate_in_pair-clause-is_cleared g c =
     let last = c.len-last.result - 1 in
     let is : last + 1 ≡ length t.pairs = let e = enough t c.requires.can in let l = c.len-last.ensures in omega arith in
     cleared t c.requires.can last is c.set_gstate_in_pair.new.thread.kept
-    (subst (λ (x : Gstate). Are32BitPairAddresses (delta_reaching_gstate t last x).pair) c.none.ensures c.set_gstate_in_pair.ensures.words)
+    (subst (λ (x : Gstate). complete_content_after_changes t last (gstate_setting_changes t last x) ≡ Some (content_reaching_gstate t last x)) c.none.ensures c.set_gstate_in_pair.ensures.made)
     (subst (λ (x : Gstate). IsPairChanged t last (gstate_setting_changes t last x) c.set_gstate_in_pair.new.thread.kept) c.none.ensures c.in_ok-set_gstate_in_pair.ensures.is_set)
 
 pub returns-in_ok-set_gstate_in_pair-clause-survives : goal.returns-in_ok-set_gstate_in_pair-clause-survives
@@ -33,7 +32,7 @@ returns-in_ok-set_gstate_in_pair-clause-survives g c =
     let last = c.len-last.result - 1 in
     let is : last + 1 ≡ length t.pairs = let e = enough t c.requires.can in let l = c.len-last.ensures in omega arith in
     clear_survives t c.requires.can last is c.set_gstate_in_pair.new.thread.kept.history
-    (subst (λ (x : Gstate). Are32BitPairAddresses (delta_reaching_gstate t last x).pair) c.none.ensures c.set_gstate_in_pair.ensures.words)
+    (subst (λ (x : Gstate). complete_content_after_changes t last (gstate_setting_changes t last x) ≡ Some (content_reaching_gstate t last x)) c.none.ensures c.set_gstate_in_pair.ensures.made)
     (subst (λ (x : Gstate). PowerLossLeavesSuchBlocksAfterCleanErases t.history c.set_gstate_in_pair.new.thread.kept.history (PowerLossLeavesPairOldOrChanged t last (gstate_setting_changes t last x))) c.none.ensures c.set_gstate_in_pair.ensures.stops)
 
 pub returns-else-state-clause-is_cleared : goal.returns-else-state-clause-is_cleared

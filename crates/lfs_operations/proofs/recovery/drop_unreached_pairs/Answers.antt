@@ -25,13 +25,8 @@ overflow_sub-behind g c =
     (indexes c.args.thread.now.kept c.loop-dropped.thread.kept c.loop-dropped.dropped _ _
     (next_at c.args.thread.now.kept c.loop-dropped.thread.kept c.args.unreached.now c.loop-dropped.dropped c.loop-dropped-test.true c.loop-dropped.invariant.way)).enough
 
-pub overflow_sub-behind-in-loop-dropped : goal.overflow_sub-behind-in-loop-dropped
-overflow_sub-behind-in-loop-dropped g c =
-    (indexes c.args.thread.now.kept c.loop-dropped.thread.kept c.loop-dropped.dropped _ _
-    (next_at c.args.thread.now.kept c.loop-dropped.thread.kept c.args.unreached.now c.loop-dropped.dropped c.loop-dropped-test.true c.loop-dropped.invariant.way)).some
-
-pub drop_pair_behind_index-requires-clause-can : goal.drop_pair_behind_index-requires-clause-can
-drop_pair_behind_index-requires-clause-can g c =
+pub drop_pair_at-requires-clause-can : goal.drop_pair_at-requires-clause-can
+drop_pair_at-requires-clause-can g c =
     let old = c.args.thread.now.kept in
     let now = c.loop-dropped.thread.kept in
     let xs = c.args.unreached.now in
@@ -40,15 +35,15 @@ drop_pair_behind_index-requires-clause-can g c =
     let i = indexes old now d (slice_index_or xs d 0) (drop (suc d) xs) n in
     can_take old now d (slice_index_or xs d 0) (drop (suc d) xs) n (move_view c.gstate_zero_after_dropping_last_unreached_pair-wanted.result)
     (wanted now xs d (move_view c.gstate_zero_after_dropping_last_unreached_pair-wanted.result) c.loop-dropped-test.true c.gstate_zero_after_dropping_last_unreached_pair-wanted.ensures)
-    (slice_index_or xs d 0 - d - 1) (slice_index_or xs d 0 - d) i.next i.sum
+    (slice_index_or xs d 0 - d) i.sum
 
-pub returns-in_err-drop_pair_behind_index-clause-errors : goal.returns-in_err-drop_pair_behind_index-clause-errors
-returns-in_err-drop_pair_behind_index-clause-errors g c =
+pub returns-in_err-drop_pair_at-clause-errors : goal.returns-in_err-drop_pair_at-clause-errors
+returns-in_err-drop_pair_at-clause-errors g c =
     let p = err_from_is_err_and c.from_residual.result c.from_residual.ensures.1 in
-    reports_steps c.args.thread.now c.loop-dropped.thread c.drop_pair_behind_index.new.thread p.0 c.drop_pair_behind_index.result c.from_residual.result c.loop-dropped.invariant.no_fault (c.in_err-drop_pair_behind_index.was ∙ ap Err (sym p.2)) p.1 c.drop_pair_behind_index.ensures.errors
+    reports_steps c.args.thread.now c.loop-dropped.thread c.drop_pair_at.new.thread p.0 c.drop_pair_at.result c.from_residual.result c.loop-dropped.invariant.no_fault (c.in_err-drop_pair_at.was ∙ ap Err (sym p.2)) p.1 c.drop_pair_at.ensures.errors
 
-pub returns-in_err-drop_pair_behind_index-clause-device : goal.returns-in_err-drop_pair_behind_index-clause-device
-returns-in_err-drop_pair_behind_index-clause-device g c =
+pub returns-in_err-drop_pair_at-clause-device : goal.returns-in_err-drop_pair_at-clause-device
+returns-in_err-drop_pair_at-clause-device g c =
     let old = c.args.thread.now.kept in
     let now = c.loop-dropped.thread.kept in
     let xs = c.args.unreached.now in
@@ -57,10 +52,10 @@ returns-in_err-drop_pair_behind_index-clause-device g c =
     let i = indexes old now d (slice_index_or xs d 0) (drop (suc d) xs) n in
     writes_on old now d (slice_index_or xs d 0) (drop (suc d) xs) n (move_view c.gstate_zero_after_dropping_last_unreached_pair-wanted.result)
     (wanted now xs d (move_view c.gstate_zero_after_dropping_last_unreached_pair-wanted.result) c.loop-dropped-test.true c.gstate_zero_after_dropping_last_unreached_pair-wanted.ensures)
-    (slice_index_or xs d 0 - d - 1) (slice_index_or xs d 0 - d) i.next i.sum c.drop_pair_behind_index.new.thread.kept (way_at old now xs d c.loop-dropped-test.true c.loop-dropped.invariant.way) c.drop_pair_behind_index.ensures.device
+    (slice_index_or xs d 0 - d) i.sum c.drop_pair_at.new.thread.kept (way_at old now xs d c.loop-dropped-test.true c.loop-dropped.invariant.way) c.drop_pair_at.ensures.device
 
-pub returns-in_err-drop_pair_behind_index-clause-survives : goal.returns-in_err-drop_pair_behind_index-clause-survives
-returns-in_err-drop_pair_behind_index-clause-survives g c =
+pub returns-in_err-drop_pair_at-clause-survives : goal.returns-in_err-drop_pair_at-clause-survives
+returns-in_err-drop_pair_at-clause-survives g c =
     let old = c.args.thread.now.kept in
     let now = c.loop-dropped.thread.kept in
     let xs = c.args.unreached.now in
@@ -69,8 +64,8 @@ returns-in_err-drop_pair_behind_index-clause-survives g c =
     let i = indexes old now d (slice_index_or xs d 0) (drop (suc d) xs) n in
     survives_on old now d (slice_index_or xs d 0) (drop (suc d) xs) n (move_view c.gstate_zero_after_dropping_last_unreached_pair-wanted.result)
     (wanted now xs d (move_view c.gstate_zero_after_dropping_last_unreached_pair-wanted.result) c.loop-dropped-test.true c.gstate_zero_after_dropping_last_unreached_pair-wanted.ensures)
-    (slice_index_or xs d 0 - d - 1) (slice_index_or xs d 0 - d) i.next i.sum c.drop_pair_behind_index.new.thread.kept (way_at old now xs d c.loop-dropped-test.true c.loop-dropped.invariant.way)
-    c.drop_pair_behind_index.ensures.words.0 c.drop_pair_behind_index.ensures.words.1 (stays_by _ now c.drop_pair_behind_index.new.thread.kept c.drop_pair_behind_index.ensures.device) c.drop_pair_behind_index.ensures.stops
+    (slice_index_or xs d 0 - d) i.sum c.drop_pair_at.new.thread.kept (way_at old now xs d c.loop-dropped-test.true c.loop-dropped.invariant.way)
+    (stays_by _ now c.drop_pair_at.new.thread.kept c.drop_pair_at.ensures.device) c.drop_pair_at.ensures.stops
 
 pub loop-dropped-preserved : goal.loop-dropped-preserved
 loop-dropped-preserved g c =
@@ -85,14 +80,14 @@ loop-dropped-preserved g c =
     record {
       end = refl;
       within = omega arith;
-      works = c.in_ok-drop_pair_behind_index.ensures.errors.failed;
-      no_fault = c.in_ok-drop_pair_behind_index.ensures.errors.reported.no_fault (λ e. absurd (let k : _ = e in cc)) ∙ c.loop-dropped.invariant.no_fault;
+      works = c.in_ok-drop_pair_at.ensures.errors.failed;
+      no_fault = c.in_ok-drop_pair_at.ensures.errors.reported.no_fault (λ e. absurd (let k : _ = e in cc)) ∙ c.loop-dropped.invariant.no_fault;
       still = λ none. absurd (omega arith);
-      way = subst (λ k. IsUnderWay old c.drop_pair_behind_index.new.thread.kept k (drop k xs)) one
+      way = subst (λ k. IsUnderWay old c.drop_pair_at.new.thread.kept k (drop k xs)) one
           (moves_on old now d (slice_index_or xs d 0) (drop (suc d) xs) n (move_view c.gstate_zero_after_dropping_last_unreached_pair-wanted.result)
           (wanted now xs d (move_view c.gstate_zero_after_dropping_last_unreached_pair-wanted.result) c.loop-dropped-test.true c.gstate_zero_after_dropping_last_unreached_pair-wanted.ensures)
-          (slice_index_or xs d 0 - d - 1) (slice_index_or xs d 0 - d) i.next i.sum c.drop_pair_behind_index.new.thread.kept (way_at old now xs d c.loop-dropped-test.true c.loop-dropped.invariant.way)
-          c.drop_pair_behind_index.ensures.words.0 c.drop_pair_behind_index.ensures.words.1 c.in_ok-drop_pair_behind_index.ensures.is_dropped c.drop_pair_behind_index.ensures.device c.drop_pair_behind_index.ensures.stops);
+          (slice_index_or xs d 0 - d) i.sum c.drop_pair_at.new.thread.kept (way_at old now xs d c.loop-dropped-test.true c.loop-dropped.invariant.way)
+          c.in_ok-drop_pair_at.ensures.is_dropped c.drop_pair_at.ensures.device c.drop_pair_at.ensures.stops);
     }
 
 pub clear_sync_bit-requires-clause-can : goal.clear_sync_bit-requires-clause-can
@@ -134,8 +129,8 @@ returns-clause-survives g c =
     (subst (IsUnderWay c.args.thread.now.kept c.loop-dropped.thread.kept c.loop-dropped.dropped) (drop_all c.loop-dropped.dropped c.args.unreached.now (omega (arith, past))) c.loop-dropped.invariant.way)
     c.clear_sync_bit.new.thread.kept (stays_by _ c.loop-dropped.thread.kept c.clear_sync_bit.new.thread.kept c.clear_sync_bit.ensures.device) c.clear_sync_bit.ensures.survives
 
-pub returns-in_err-drop_pair_behind_index-clause-nothing : goal.returns-in_err-drop_pair_behind_index-clause-nothing
-returns-in_err-drop_pair_behind_index-clause-nothing g c recovered =
+pub returns-in_err-drop_pair_at-clause-nothing : goal.returns-in_err-drop_pair_at-clause-nothing
+returns-in_err-drop_pair_at-clause-nothing g c recovered =
     let none = ap length (none_reported c.args.thread.now.kept.pairs c.args.unreached.now recovered c.requires.can.reported) in
     let low = c.loop-dropped-test.true in
     absurd (omega arith)

@@ -1,24 +1,21 @@
 use Rattle.std.proofs.Common.{◌≡◌, ap, sym, subst, ◌∙◌, Ok, Err, ◌∷◌, []}
 use Rattle.std.proofs.lemmas.Result.{err_from_is_err_and}
 use Rattle.lfs_model.specs.Changes.{PutMove}
-use Rattle.lfs_model.specs.LoggedContent.{Are32BitPairAddresses}
 use Rattle.lfs_model.specs.Slots.{Gstate}
 use Rattle.lfs_tag.specs.FieldsView.{move_view}
 use Rattle.lfs_pair.specs.declared.commits.Outcome.{Outcome}
 use Rattle.lfs_pair.specs.declared.commits.Outcome.TheVariants as outcome
 use Rattle.lfs_thread.specs.Steps.{CanChangePair, IsPairChanged, IsCommitRefused}
-use Rattle.lfs_operations.specs.Deltas.{gstate_setting_changes, delta_reaching_gstate}
-use Rattle.lfs_operations.proofs.RecoverDeltas.{can_set, set_not_refused}
+use Rattle.lfs_operations.specs.Deltas.{gstate_setting_changes}
+use Rattle.lfs_operations.proofs.RecoverDeltas.{can_set, set_made, set_not_refused}
 use Rattle.lfs_operations.proofs.Removed.{reports_again}
 use Rattle.lfs_operations.proofs.recovery.set_gstate_in_pair.Goals as goal
 
 pub commit_pair_changes-requires-clause-can : goal.commit_pair_changes-requires-clause-can
 commit_pair_changes-requires-clause-can g c =
     let t = c.args.thread.now.kept in
-    let w = move_view c.args.wanted.now in
-    let e : move_view c.show_gstate_address_to_proof-state.result ≡ delta_reaching_gstate t c.args.index w = c.show_gstate_address_to_proof-state.ensures.same ∙ c.delta_that_reaches_gstate.ensures in
-    subst (λ (x : Gstate). CanChangePair t c.args.index (PutMove x ∷ [])) (sym e)
-    (can_set t c.args.index w c.requires.can (subst (λ (x : Gstate). Are32BitPairAddresses x.pair) e c.show_gstate_address_to_proof-state.ensures.words))
+    subst (λ (x : Gstate). CanChangePair t c.args.index (PutMove x ∷ [])) (sym c.delta_that_reaches_gstate-state.ensures)
+    (can_set t c.args.index (move_view c.args.wanted.now) c.requires.can c.show_device_facts_to_proof.ensures.bytes)
 
 pub returns-in_err-commit_pair_changes-clause-errors : goal.returns-in_err-commit_pair_changes-clause-errors
 returns-in_err-commit_pair_changes-clause-errors g c =
@@ -29,13 +26,12 @@ pub returns-clause-is_set : goal.returns-clause-is_set
 returns-clause-is_set g c = by c.in_ok-commit_pair_changes.field-0 c.in_ok-commit_pair_changes.was
   where
     by : (o : Outcome) → c.commit_pair_changes.result ≡ Ok o → IsPairChanged c.args.thread.now.kept c.args.index (gstate_setting_changes c.args.thread.now.kept c.args.index (move_view c.args.wanted.now)) c.commit_pair_changes.new.self.kept
-    by outcome.Done is = subst (λ (x : Gstate). IsPairChanged c.args.thread.now.kept c.args.index (PutMove x ∷ []) c.commit_pair_changes.new.self.kept) (c.show_gstate_address_to_proof-state.ensures.same ∙ c.delta_that_reaches_gstate.ensures) (c.commit_pair_changes.ensures.done is)
-    by outcome.Full is = absurd (set_not_refused c.args.thread.now.kept c.args.index (move_view c.args.wanted.now) c.requires.can
-        (subst (λ (x : Gstate). Are32BitPairAddresses x.pair) (c.show_gstate_address_to_proof-state.ensures.same ∙ c.delta_that_reaches_gstate.ensures) c.show_gstate_address_to_proof-state.ensures.words) c.commit_pair_changes.new.self.kept
-        (subst (λ (x : Gstate). IsCommitRefused c.args.thread.now.kept c.args.index (PutMove x ∷ []) c.commit_pair_changes.new.self.kept) (c.show_gstate_address_to_proof-state.ensures.same ∙ c.delta_that_reaches_gstate.ensures) (c.commit_pair_changes.ensures.full is)))
+    by outcome.Done is = subst (λ (x : Gstate). IsPairChanged c.args.thread.now.kept c.args.index (PutMove x ∷ []) c.commit_pair_changes.new.self.kept) c.delta_that_reaches_gstate-state.ensures (c.commit_pair_changes.ensures.done is)
+    by outcome.Full is = absurd (set_not_refused c.args.thread.now.kept c.args.index (move_view c.args.wanted.now) c.requires.can c.show_device_facts_to_proof.ensures.bytes c.commit_pair_changes.new.self.kept
+        (subst (λ (x : Gstate). IsCommitRefused c.args.thread.now.kept c.args.index (PutMove x ∷ []) c.commit_pair_changes.new.self.kept) c.delta_that_reaches_gstate-state.ensures (c.commit_pair_changes.ensures.full is)))
 
-pub returns-in_err-commit_pair_changes-clause-words : goal.returns-in_err-commit_pair_changes-clause-words
-returns-in_err-commit_pair_changes-clause-words g c = subst (λ (x : Gstate). Are32BitPairAddresses x.pair) (c.show_gstate_address_to_proof-state.ensures.same ∙ c.delta_that_reaches_gstate.ensures) c.show_gstate_address_to_proof-state.ensures.words
+pub returns-in_err-commit_pair_changes-clause-made : goal.returns-in_err-commit_pair_changes-clause-made
+returns-in_err-commit_pair_changes-clause-made g c = set_made c.args.thread.now.kept c.args.index (move_view c.args.wanted.now) c.requires.can c.show_device_facts_to_proof.ensures.bytes
 
-pub returns-clause-words : goal.returns-clause-words
-returns-clause-words g c = subst (λ (x : Gstate). Are32BitPairAddresses x.pair) (c.show_gstate_address_to_proof-state.ensures.same ∙ c.delta_that_reaches_gstate.ensures) c.show_gstate_address_to_proof-state.ensures.words
+pub returns-clause-made : goal.returns-clause-made
+returns-clause-made g c = set_made c.args.thread.now.kept c.args.index (move_view c.args.wanted.now) c.requires.can c.show_device_facts_to_proof.ensures.bytes

@@ -1,4 +1,4 @@
-use Rattle.std.proofs.Common.{ap, sym, subst, ◌∙◌, ◌∷◌, [], ◌++◌, ◌-◌, Err}
+use Rattle.std.proofs.Common.{ap, sym, subst, ◌∙◌, ◌-◌, Err}
 use Rattle.std.proofs.lemmas.Result.{err_from_is_err_and}
 use Rattle.lfs_model.specs.Slots.{Gstate}
 use Rattle.lfs_model.specs.Shown.{tree_on_disk}
@@ -8,13 +8,13 @@ use Rattle.lfs_operations.specs.Dropping.{CanDropPairAt, IsNextPairDropped, IsLe
 use Rattle.lfs_operations.specs.Renaming.{tree_with_renamed_entry}
 use Rattle.lfs_operations.specs.RenamingOver.{ReportsErrorsOfReadThenCommits, replace_directory_in_pair_changes}
 use Rattle.lfs_operations.proofs.AlteredOnto.{altered_within}
-use Rattle.lfs_operations.proofs.OntoGone.{can_drop_replaced}
 use Rattle.lfs_operations.proofs.OntoReporting.{last_survives, over_from, over_then, writes_over}
 use Rattle.lfs_operations.proofs.OntoWithin.{left_within, renamed_onto_directory, replacing}
 use Rattle.lfs_operations.proofs.UnlinkedSteps.{writes_first}
 use Rattle.lfs_operations.proofs.Removed.{reports_again}
 use Rattle.lfs_operations.proofs.replacements.rename_onto_directory.Goals as goal
 use Rattle.lfs_model.specs.Thread.{blocks_of_pair_address}
+use Rattle.lfs_operations.proofs.LastDrop.{can_drop_last}
 
 pub returns-in_err-rename_over_directory_in_pair-clause-errors : goal.returns-in_err-rename_over_directory_in_pair-clause-errors
 returns-in_err-rename_over_directory_in_pair-clause-errors g c =
@@ -33,7 +33,7 @@ drop_pair_at-requires-clause-can g c =
     let rename = c.requires.can in
     let t = c.args.thread.now.kept in
     subst (CanDropPairAt c.rename_over_directory_in_pair.new.thread.kept c.args.gone) (sym c.none.ensures)
-    (can_drop_replaced t c.rename_over_directory_in_pair.new.thread.kept (rename.over.can.path ++ rename.over.can.name ∷ []) (rename.over.can.path ++ c.args.name.now ∷ []) rename.over.to (thread_pair_at_index t c.args.gone) c.args.gone
+    (can_drop_last
     (replacing t c.args.pair c.args.id c.args.place c.args.name.now c.args.gone rename c.rename_over_directory_in_pair.new.thread.kept (c.in_ok-rename_over_directory_in_pair.ensures.renamed rename.over).changed))
 
 pub returns-in_err-drop_pair_at-clause-errors : goal.returns-in_err-drop_pair_at-clause-errors
@@ -84,10 +84,8 @@ returns-clause-alters g c =
     let rename = c.requires.can in
     let t = c.args.thread.now.kept in
     let m = c.rename_over_directory_in_pair.new.thread.kept in
-    let from = rename.over.can.path ++ rename.over.can.name ∷ [] in
-    let to = rename.over.can.path ++ c.args.name.now ∷ [] in
     let changed = (c.in_ok-rename_over_directory_in_pair.ensures.renamed rename.over).changed in
     let k = replacing t c.args.pair c.args.id c.args.place c.args.name.now c.args.gone rename m changed in
-    altered_within t m from to rename.over.to c.args.gone c.args.gone (can_drop_replaced t m from to rename.over.to (thread_pair_at_index t c.args.gone) c.args.gone k).above rename.below k c.drop_pair_at.new.thread.kept
+    altered_within t m c.args.gone c.args.gone (can_drop_last k).above rename.below k c.drop_pair_at.new.thread.kept
     (subst (λ (s : Gstate). IsNextPairDropped m (c.args.gone - 1) s c.drop_pair_at.new.thread.kept) c.none.ensures c.in_ok-drop_pair_at.ensures.is_dropped) c.args.pair
     (writes_over t m c.drop_pair_at.new.thread.kept c.args.pair c.args.gone (replace_directory_in_pair_changes t c.args.pair c.args.id c.args.place c.args.name.now) changed c.rename_over_directory_in_pair.ensures.device c.drop_pair_at.ensures.device)

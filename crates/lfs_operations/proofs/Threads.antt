@@ -1,12 +1,12 @@
--- The pair of a number in a thread, by a site: where it stands, and which blocks change with it.
-use Rattle.std.proofs.Common.{ℕ, suc, ◌≡◌, ◌+◌, ◌<◌, ◌≤◌, Bool, true, false, cond, eqb-true, nat_eq, List, [], ◌∷◌, ◌++◌, length, Some, refl, sym, ap, ap₂, subst, ◌∙◌, arith, append_assoc, length-append, get_or, set, insert}
+-- Pairs of a thread, by their numbers; and the pair of a number by its site: where it stands, and which blocks change with it.
+use Rattle.std.proofs.Common.{ℕ, suc, ◌≡◌, ◌+◌, ◌<◌, ◌≤◌, Bool, true, false, cond, eqb-true, nat_eq, List, [], ◌∷◌, ◌++◌, length, Some, refl, sym, ap, ap₂, subst, ◌∙◌, arith, append_assoc, length-append, get_or, set, insert, slice_get, take}
 use Rattle.std.specs.List.{IsDistinct}
 use Rattle.lfs_model.specs.BlockSets.{AreExactlyTheUsedBlocks, IsBlockFree}
 use Rattle.lfs_model.specs.BlockSets.BlockState.{Free}
 use Rattle.lfs_model.specs.Content.{content_of_pair_at, current_block_of_pair_at}
 use Rattle.lfs_model.specs.Disk.{Disk, block_bytes_on_disk, block_count, SameGeometry}
-use Rattle.lfs_model.specs.Slots.{PairContent}
-use Rattle.lfs_model.specs.Thread.{Pair, blocks_of_pairs}
+use Rattle.lfs_model.specs.Slots.{PairContent, gstate_xor, zero_gstate}
+use Rattle.lfs_model.specs.Thread.{Pair, blocks_of_pairs, gstate_of_pairs}
 use Rattle.lfs_model.specs.View.{BeginsWithLogEntry, superblock_name_log_entry}
 use Rattle.lfs_model.specs.Shown.{used_blocks}
 use Rattle.lfs_model.proofs.Counts.{Each, occurrence_count_of_number, once_from_distinct, distinct_from_once}
@@ -18,22 +18,36 @@ use Rattle.lfs_thread.specs.Kept.{KeptThread}
 use Rattle.lfs_thread.specs.Steps.{thread_pair_at_index, empty_pair_at_anchor, thread_pairs_with_content_replaced_at_index, pairs_with_one_replaced_by_two, HasSameGeometry, HasPairOldContentOnDisk, IsPairWrittenOnDisk, SlotsBeginWithSuperblock}
 use Rattle.lfs_operations.specs.Changing.{AreTwoFreeBlocks}
 use Rattle.lfs_operations.proofs.Placing.{IsPlaced, all_apart}
-use Rattle.lfs_operations.proofs.Splicing.{not_used}
 use Rattle.lfs_operations.proofs.Taking.{within}
+use Rattle.lfs_operations.proofs.Owning.{not_used}
+use Rattle.lfs_model.proofs.Global.{gstate_comm, gstate_cons, gstate_right, sync_bit_delta}
+use Rattle.lfs_model.proofs.Rests.{site_gstate_moved}
 
-set_at : (xs : List Pair) (p : Pair) (zs : List Pair) (q : Pair) → set (xs ++ p ∷ zs) (length xs) q ≡ xs ++ q ∷ zs
-set_at [] p zs q = refl
-set_at (x ∷ xs) p zs q = ap (λ z. x ∷ z) (set_at xs p zs q)
+-- ---- lists
 
-get_at : (xs : List Pair) (p : Pair) (zs : List Pair) (d : Pair) → get_or (xs ++ p ∷ zs) (length xs) d ≡ p
+pub get_at : (xs : List Pair) (p : Pair) (zs : List Pair) (d : Pair) → get_or (xs ++ p ∷ zs) (length xs) d ≡ p
 get_at [] p zs d = refl
 get_at (x ∷ xs) p zs d = get_at xs p zs d
 
-insert_at : (xs : List Pair) (q : Pair) (zs : List Pair) (f : Pair) → insert (xs ++ q ∷ zs) (length xs + 1) f ≡ xs ++ q ∷ f ∷ zs
+pub get_behind : (xs : List Pair) (p : Pair) (ys : List Pair) → slice_get (xs ++ p ∷ ys) (length xs) ≡ Some p
+get_behind [] p ys = refl
+get_behind (x ∷ xs) p ys = get_behind xs p ys
+
+pub set_at : (xs : List Pair) (p : Pair) (zs : List Pair) (q : Pair) → set (xs ++ p ∷ zs) (length xs) q ≡ xs ++ q ∷ zs
+set_at [] p zs q = refl
+set_at (x ∷ xs) p zs q = ap (λ z. x ∷ z) (set_at xs p zs q)
+
+pub insert_at : (xs : List Pair) (q : Pair) (zs : List Pair) (f : Pair) → insert (xs ++ q ∷ zs) (length xs + 1) f ≡ xs ++ q ∷ f ∷ zs
 insert_at [] q zs f = refl
 insert_at (x ∷ xs) q zs f =
     let e : suc (length xs) + 1 ≡ suc (length xs + 1) = omega arith in
     ap (λ (n : ℕ). insert (x ∷ (xs ++ q ∷ zs)) n f) e ∙ ap (λ z. x ∷ z) (insert_at xs q zs f)
+
+pub take_front : (xs ys : List Pair) (n : ℕ) → n ≡ length xs → take n (xs ++ ys) ≡ xs
+take_front [] ys n e = ap (λ k. take k ys) e
+take_front (x ∷ xs) ys n e = ap (λ k. take k (x ∷ (xs ++ ys))) e ∙ ap (λ z. x ∷ z) (take_front xs ys (length xs) refl)
+
+-- ---- at a site
 
 module _ (t : KeptThread) (index : ℕ) (w : Site) (p : Pair) (there : t.pairs ≡ thread_at w (p ∷ [])) (place : index ≡ length w.chain + length (w.before ++ w.left)) where
   abbrev ahead : List Pair
@@ -117,3 +131,11 @@ module _ (t : KeptThread) (index : ℕ) (w : Site) (p : Pair) (there : t.pairs �
 
   pub fresh_range : length t.map ≡ block_count t.disk → (fresh : ℕ × ℕ) → AreTwoFreeBlocks t.map fresh → Each (λ b. b < block_count t.disk) (fresh.0 ∷ fresh.1 ∷ [])
   fresh_range size fresh two = let f = within t.map fresh.0 Free two.first in let g = within t.map fresh.1 Free two.second in (omega arith, (omega arith, tt))
+
+-- ---- the sync bit is set with the pair
+
+pub sync_turned : (w : Site) (p q : Pair) → q.content.move ≡ gstate_xor p.content.move sync_bit_delta → gstate_of_pairs (thread_at w (p ∷ [])) ≡ zero_gstate → gstate_of_pairs (thread_at w (q ∷ [])) ≡ sync_bit_delta
+sync_turned w p q move settled =
+    site_gstate_moved sync_bit_delta w (p ∷ []) (q ∷ [])
+    (gstate_cons q [] ∙ gstate_right q.content.move ∙ move ∙ gstate_comm p.content.move sync_bit_delta ∙ ap (gstate_xor sync_bit_delta) (sym (gstate_cons p [] ∙ gstate_right p.content.move)))
+    ∙ ap (gstate_xor sync_bit_delta) settled ∙ gstate_right sync_bit_delta

@@ -1,0 +1,160 @@
+-- An entry that goes to a place in another pair, by a move that is set first.
+use Rattle.std.proofs.Common.{◌≢◌, nat_eq, Bool, ℕ, ◌≡◌, ◌+◌, ◌-◌, ◌<◌, ◌⊎◌, inl, inr, true, false, List, [], ◌∷◌, ◌++◌, length, Some, refl, sym, ap, subst, ◌∙◌, arith, append-nil, Option}
+use Rattle.std.specs.List.{IsDistinct}
+use Rattle.lfs_model.specs.Changes.{PairContentChange}
+use Rattle.lfs_model.specs.Disk.{Disk}
+use Rattle.lfs_model.specs.InDirectory.{IsPairAtAddress}
+use Rattle.lfs_model.specs.Names.{Name, is_valid_name}
+use Rattle.lfs_model.specs.Slots.{Slot, gstate_xor, same_pair}
+use Rattle.lfs_model.specs.Thread.{Pair, blocks_of_pairs, gstate_of_pairs, starts_with_superblock, pair_count_before_root}
+use Rattle.lfs_model.specs.Tree.{Path}
+use Rattle.lfs_model.specs.TreeEdits.{tree_after_rename}
+use Rattle.lfs_model.specs.Profile.{IsEntryWithinWritableLimits, IsWritableImage}
+use Rattle.lfs_model.specs.View.{IsAcceptedImage, IsFileOrDirectoryEntry}
+use Rattle.lfs_model.specs.SlotEdits.{slot_of_path}
+use Rattle.lfs_model.proofs.Changes.{IsImageAfterTreeChange}
+use Rattle.lfs_model.proofs.Committed.{no_move_from}
+use Rattle.lfs_model.proofs.Counts.{Each, each_right}
+use Rattle.lfs_model.proofs.Paths.{last_is}
+use Rattle.lfs_model.proofs.Searches.{is_site, number_is, same, site, slot_of_stands, thread_is}
+use Rattle.lfs_model.proofs.Sites.{Site, begin_of, thread_at, IsSite}
+use Rattle.lfs_model.proofs.Writable.{ends_in_hard_tail}
+use Rattle.lfs_thread.specs.Kept.{KeptThread}
+use Rattle.lfs_thread.specs.Steps.{SlotsBeginWithSuperblock, complete_content_after_changes, thread_pair_at_index}
+use Rattle.lfs_operations.specs.Editing.{CanEditEntryOfPair}
+use Rattle.lfs_operations.specs.MoveEnds.{gstate_naming_moved_slot}
+use Rattle.lfs_operations.specs.Ready.{IsRawPairContentWellFormed}
+use Rattle.lfs_operations.specs.Removing.{is_pair_dropped_with_slot}
+use Rattle.lfs_operations.proofs.Held.{IsEntryIfOther, each_pair, here, other_entries}
+use Rattle.lfs_operations.proofs.MovSet.{HasTurned, IsSetting, chain_same, walk_by}
+use Rattle.lfs_operations.proofs.MovStep.{IsFirst}
+use Rattle.lfs_operations.proofs.MovTurned.{content_with}
+use Rattle.lfs_operations.proofs.Removed.{alone, flag_ends, stays_there}
+use Rattle.lfs_operations.proofs.RemovedWhole.{flag_whole, stands_whole}
+use Rattle.lfs_model.proofs.RenamedAcross.{IsNoDirectory, target_slots}
+
+-- The entry may have the name at the place in the pair p at the site w, where the target stands, if there is one.
+pub record IsPlaceInOtherPair (t : KeptThread) (old_pair old_id new_pair : ℕ) (can : CanEditEntryOfPair t old_pair old_id) (w : Site) (p : Pair) (l : List Slot) (target : Option Slot) (r : List Slot) (name : Name) : Type 0 where
+  pub there : t.pairs ≡ thread_at w (p ∷ [])
+  pub number : new_pair ≡ length w.chain + length (w.before ++ w.left)
+  pub site : IsSite w (p ∷ [])
+  pub apart : old_pair ≢ new_pair
+  pub was : p.content.slots ≡ l ++ (target_slots target ++ r)
+  pub front : l ≡ [] → starts_with_superblock (target_slots target ++ r) ≡ false
+  pub named : is_valid_name name ≡ true
+  pub fits : IsEntryWithinWritableLimits t.disk.profile t.disk.block_size t.disk.page (record can.stands.stands.slot { name = name })
+
+module _ (t : KeptThread) (old_pair old_id first new_pair : ℕ) (can : CanEditEntryOfPair t old_pair old_id) (begins_old : can.first ≡ first)
+    (w : Site) (p : Pair) (l : List Slot) (target : Option Slot) (r : List Slot) (name : Name) (k : IsPlaceInOtherPair t old_pair old_id new_pair can w p l target r name) where
+  abbrev goes : Bool
+  goes = is_pair_dropped_with_slot t old_pair first
+
+  abbrev q : Pair
+  q = can.stands.pair
+
+  abbrev lo : List Slot
+  lo = can.stands.stands.left
+
+  abbrev ro : List Slot
+  ro = can.stands.stands.right
+
+  abbrev s : Slot
+  s = can.stands.stands.slot
+
+  abbrev v : Slot
+  v = record s { name = name }
+
+  abbrev wo : Site
+  wo = site t.disk t.pairs can.path can.at can.ready.accepted can.leads can.first old_pair q can.stands.rest can.stands.place can.begins
+
+  there_old : t.pairs ≡ thread_at wo (q ∷ [])
+  there_old = thread_is t.disk t.pairs can.path can.at can.ready.accepted can.leads can.first old_pair q can.stands.rest can.stands.place can.begins
+
+  entry : IsFileOrDirectoryEntry s
+  entry =
+      let here = each_pair t can.ready can.first old_pair q can.stands.rest can.stands.place (λ x. Each IsEntryIfOther x.content.slots) (other_entries t.disk t.pairs can.ready.accepted) in
+      (each_right IsEntryIfOther lo (s ∷ ro) (subst (Each IsEntryIfOther) can.stands.stands.held here)).0 can.stands.stands.entry
+
+  old_number : old_pair ≡ length wo.chain + length (wo.before ++ wo.left)
+  old_number = number_is t.disk t.pairs can.path can.at can.ready.accepted can.leads can.first old_pair q can.stands.rest can.stands.place can.begins
+
+  pub setting : IsSetting t.disk wo q lo s ro w p l (target_slots target) v r
+  setting =
+      let old_site = is_site t.disk t.pairs can.path can.at can.ready.accepted can.leads can.first old_pair q can.stands.rest can.stands.place can.begins in
+      record {
+        accepted = subst (IsAcceptedImage t.disk) k.there can.ready.accepted;
+        writable = subst (IsWritableImage t.disk) k.there can.ready.writable;
+        settled = ap gstate_of_pairs (sym k.there) ∙ can.ready.settled;
+        site = k.site;
+        there = sym there_old ∙ k.there;
+        old_site = old_site;
+        held = can.stands.stands.held;
+        other = can.stands.stands.entry;
+        apart = λ e.
+            let chains = sym old_site.chain ∙ ap pair_count_before_root (sym there_old ∙ k.there) ∙ k.site.chain in
+            let m = old_number in
+            let n = k.number in
+            k.apart (omega arith);
+        was = k.was;
+        front = k.front;
+        entry = record { name = k.named; struct = entry.struct };
+        struct = refl;
+        fit = ((λ e. absurd (let z = sym can.stands.stands.entry ∙ e in cc)), (λ e. k.fits));
+      }
+
+  first_kept : (l olds : List Slot) → (l ≡ [] → starts_with_superblock (olds ++ r) ≡ false) → SlotsBeginWithSuperblock (l ++ (olds ++ r)) → SlotsBeginWithSuperblock (l ++ v ∷ r)
+  first_kept [] olds f e = absurd (let z = sym (f refl) ∙ e.0 in cc)
+  first_kept (x ∷ l) olds f e = e
+
+  pub same_begin : same_pair (begin_of wo (q ∷ [])) can.at ≡ true
+  same_begin = same t.disk t.pairs can.path can.at can.ready.accepted can.leads can.first old_pair q can.stands.rest can.stands.place can.begins
+
+  led_first : old_pair ≡ can.first → ends_in_hard_tail false (wo.before ++ wo.left) ≡ false
+  led_first e =
+      let none_before = alone wo.chain wo.before wo.left (wo.right ++ wo.after) q can.at can.first (subst (λ z. IsDistinct nat_eq (blocks_of_pairs z)) there_old can.ready.accepted.thread.distinct) same_begin
+      (subst (λ z. IsPairAtAddress z can.at can.first) there_old can.begins) (sym e ∙ old_number) in
+      ap (λ z. ends_in_hard_tail false (wo.before ++ z)) none_before ∙ ap (ends_in_hard_tail false) (append-nil wo.before) ∙ flag_ends wo.before setting.old_site.ends
+
+  stays : goes ≡ false → ends_in_hard_tail false (wo.before ++ wo.left) ≡ true → 1 < length q.content.slots
+  stays remains hard = go (stays_there t old_pair old_id first can begins_old remains)
+    where
+      go : (old_pair ≡ can.first) ⊎ (1 < length (thread_pair_at_index t old_pair).content.slots) → 1 < length q.content.slots
+      go (inl e) = absurd (let z = sym hard ∙ led_first e in cc)
+      go (inr many) = subst (λ (z : Pair). 1 < length z.content.slots) (here t can.ready can.first old_pair q can.stands.rest can.stands.place) many
+
+  goes_alone : goes ≡ true → (ends_in_hard_tail false (wo.before ++ wo.left) ≡ true) × (length q.content.slots ≡ 1)
+  goes_alone whole =
+      let k = stands_whole t old_pair old_id first can begins_old whole in
+      (flag_whole t old_pair old_id first can begins_old whole, ap length k.held)
+
+  pub first_of : (sync : Bool) (changes : List PairContentChange) (path : Path)
+      → complete_content_after_changes t new_pair changes ≡ Some (content_with p (l ++ v ∷ r) (gstate_xor (gstate_naming_moved_slot sync q.at (length lo)) p.content.move))
+      → ((disk : Disk) (x : Pair) (more : List Pair) → HasTurned t.disk w p (l ++ v ∷ r) (gstate_xor (gstate_naming_moved_slot sync q.at (length lo)) p.content.move) disk x more
+      → IsImageAfterTreeChange t.disk (thread_at w (p ∷ [])) disk (thread_at w (x ∷ more)) (tree_after_rename (can.path ++ can.name ∷ []) (path ++ name ∷ [])) (walk_by (can.path ++ can.name ∷ []) (path ++ name ∷ [])))
+      → slot_of_path t.pairs (path ++ name ∷ []) ≡ target → (sync ≡ false → IsNoDirectory target)
+      → IsFirst t sync old_pair goes new_pair changes wo q lo s ro w p l target v r (can.path ++ can.name ∷ []) (path ++ name ∷ []) name
+  first_of sync changes path made follows to_slot file = record {
+    ready = can.ready;
+    turn = record {
+      accepted = can.ready.accepted;
+      there = k.there;
+      place = k.number;
+      site = k.site;
+      made = made;
+      first = λ h. first_kept l (target_slots target) k.front (subst SlotsBeginWithSuperblock k.was (h.kind, h.name));
+    };
+    setting = setting;
+    chain = chain_same t.disk wo q lo s ro w p l (target_slots target) v r setting;
+    old_place = old_number;
+    old_is = ap (λ (z : Pair). z.at) (here t can.ready can.first old_pair q can.stands.rest can.stands.place);
+    logged = subst (λ (z : Pair). IsRawPairContentWellFormed t.disk z.at) (here t can.ready can.first old_pair q can.stands.rest can.stands.place) can.logged;
+    same_slot = refl;
+    follows = follows;
+    stays = stays;
+    alone = goes_alone;
+    from_slot = subst (λ z. slot_of_path z (can.path ++ can.name ∷ []) ≡ Some s) k.there
+        (slot_of_stands t.disk t.pairs can.path can.at can.ready.accepted can.leads can.first old_pair old_id can.name (no_move_from t.pairs can.ready.settled) can.stands can.begins);
+    to_slot = subst (λ z. slot_of_path z (path ++ name ∷ []) ≡ target) k.there to_slot;
+    to_name = last_is path name;
+    file = file;
+  }

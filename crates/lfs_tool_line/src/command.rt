@@ -16,6 +16,11 @@ use std::convert::AsStr;
 // that it was proved with.
 const VERSION: &str = "1.0.0 (littlefs on-disk version 2.0, rattle-kit-13f logic dac8208d650f15bf)";
 
+// The first lines of the help.
+const ABOUT: &str = "\
+Creates, unpacks, lists or checks an image of a littlefs file system.
+With --explain, or MKLITTLEFS_EXPLAIN=1 in the environment, it says why it fails.";
+
 // The text below the options in the help.
 const EXAMPLES: &str = "\
 Examples:
@@ -218,7 +223,7 @@ fn clap_command_before_arguments_are_added<'a>(alloc: Global) -> Command<'a>
 {
     Command::new(alloc, "mklittlefs")
         .version(VERSION)
-        .about("Creates, unpacks, lists or checks an image of a littlefs file system.")
+        .about(ABOUT)
         .override_usage(
             "mklittlefs (-c DIR | -u DIR | -l | --check) [-b N] [-p N] [-s N] [--order ORDER] [--name-max N] [--file-max N] [--attr-max N] [--inline-max N] [--board NAME] [--also-2.1] [--explain] IMAGE",
         )

@@ -16,6 +16,8 @@ const READ_AHEAD: usize = 65_536;
 pub(crate) struct Host<'a> {
     pub(crate) rt: &'a HostRuntime,
     pub(crate) log: &'a FaultLog,
+    /// Whether the environment wants each error with its cause.
+    pub(crate) explains: bool,
 }
 
 impl<'a> Host<'a> {

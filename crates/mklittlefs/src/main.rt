@@ -5,6 +5,7 @@
 mod blocks;
 mod explain;
 mod files;
+mod limit_watch;
 mod progress;
 #[cfg(test)]
 mod progress_tests;
@@ -25,9 +26,21 @@ fn read_command_line_words(rt: &HostRuntime) -> io::Result<Vec<String>> {
     Ok(words)
 }
 
+// Whether the environment wants each error with its cause.
+fn is_explanation_wanted(rt: &HostRuntime) -> bool {
+    match env::var(rt, "MKLITTLEFS_EXPLAIN") {
+        Ok(value) => value.as_str() == "1",
+        Err(_) => false,
+    }
+}
+
 fn main(rt: HostRuntime) -> ExitCode {
     let log = FaultLog::new();
-    let host = Host { rt: &rt, log: &log };
+    let host = Host {
+        rt: &rt,
+        log: &log,
+        explains: is_explanation_wanted(&rt),
+    };
     let mut out = WatchedStream::new(rt.stdout());
     let mut err = WatchedStream::new(rt.stderr());
     let words = read_command_line_words(&rt);

@@ -105,7 +105,7 @@ fn run_line_and_return_exit_status<O: ToolOutput, E: ToolOutput>(
         Ok(false) => 1,
         Err(error) => {
             let status = report(&Fault::Tool(error), out, err);
-            if line.explain {
+            if line.explain || host.explains {
                 write_explanation(host, line, error, out, err);
             }
             status

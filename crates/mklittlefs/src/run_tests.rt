@@ -15,7 +15,7 @@ const LEN: usize = 14;
 
 // The words of runs behind one another, the status, and what the last one writes to `out` and to `err`; the others write
 // nothing. How long the image is then. A folder `runs/files` has two files.
-const ROWS: [(&[&[&str]], u8, &str, &str, usize); 9] = [
+const ROWS: [(&[&[&str]], u8, &str, &str, usize); 10] = [
     (
         &[
             &["-c", "runs/files", "-s", "16384", "runs/image"],
@@ -75,6 +75,20 @@ const ROWS: [(&[&[&str]], u8, &str, &str, usize); 9] = [
         LEN,
     ),
     (
+        &[&[
+            "-c",
+            "runs/files",
+            "--file-max",
+            "4",
+            "--explain",
+            "runs/image",
+        ]],
+        1,
+        "",
+        "error: TooBig (27)\nruns/files/a: a file of 5 bytes, and 4 are the most\n",
+        LEN,
+    ),
+    (
         &[&["-c", "runs/none", "--explain", "runs/image"]],
         3,
         "",
@@ -125,7 +139,11 @@ fn ends_so(
     let log = FaultLog::new();
     let mut written = WatchedStream::new(Vec::new(rt.alloc()));
     let mut told = WatchedStream::new(Vec::new(rt.alloc()));
-    let host = Host { rt, log: &log };
+    let host = Host {
+        rt,
+        log: &log,
+        explains: false,
+    };
     let ended = run_words_and_return_exit_status(host, words, &mut written, &mut told);
     ended == status
         && written.inner().as_slice() == out.as_bytes()

@@ -1,7 +1,7 @@
 -- The values of a line of words.
-use Rattle.std.specs.Prelude.{◌≡◌, ◌∷◌, if◌then◌else◌, ℕ, [], Bool, List, Option, Some, None, true, codes, is_some, unwrap_or, count_by}
+use Rattle.std.specs.Prelude.{◌≡◌, ◌≤◌, ◌+◌, ◌∷◌, if◌then◌else◌, ℕ, [], Bool, List, Option, Some, None, true, codes, is_some, unwrap_or, count_by}
 use Rattle.std.specs.Str.{bytes_eq}
-use Rattle.clap.specs.Words.{Kinds, Row, Text, fault_of, first_of, matches_of}
+use Rattle.clap.specs.Words.{Kinds, Row, Text, all_of, fault_of, first_of, matches_of}
 use Rattle.clap.specs.Kinds.{or_else}
 use Rattle.clap.specs.Words.{HasKind, first_value}
 use Rattle.clap.specs.declared.parser.matches.Found.{Found}
@@ -23,6 +23,8 @@ use Rattle.lfs_tool_line.specs.declared.line.LineError.TheVariants as error
 use Rattle.lfs_tool_line.specs.declared.line.LineError.TheVariants.{Modes, NotUtf8, Order, Parser}
 use Rattle.lfs_tool_line.specs.declared.line.Mode.{Mode}
 use Rattle.lfs_tool_line.specs.declared.line.Mode.TheVariants as mode
+use Rattle.lfs_tool_line.specs.declared.modes.GivenModes.{GivenModes}
+use Rattle.lfs_tool_line.specs.declared.modes.GivenModes.TheVariants as given
 
 -- the matches that clap's definition of a simple command gives for the words
 unfoldable pub rows : List Text → List Row
@@ -44,13 +46,32 @@ is_check_requested rows = flag_value_in_rows (codes "check") rows
 abbrev pub is_error_explanation_requested : List Row → Bool
 is_error_explanation_requested rows = flag_value_in_rows (codes "explain") rows
 
-abbrev pub given_mode_flags : List Row → List Bool
-given_mode_flags rows = is_some (first_of (codes "create") rows)
+-- whether each of -c, -u, -l and --check is given
+abbrev pub folder_mode_flags : List Row → List Bool
+folder_mode_flags rows = is_some (first_of (codes "create") rows)
     ∷ is_some (first_of (codes "unpack") rows) ∷ is_list_requested rows ∷ is_check_requested rows ∷ []
 
--- how many of -c, -u, -l and --check are given
+-- the two texts of a list of two
+abbrev pub pair_of_two : Option (List Text) → Option (Text × Text)
+pair_of_two (Some (first ∷ second ∷ [])) = Some (first, second)
+pair_of_two _ = None
+
+-- the two texts of an option
+abbrev pub given_pair : Text → List Row → Option (Text × Text)
+given_pair id rows = pair_of_two (all_of id rows)
+
+-- whether each of --cat, --put, --remove and --mkdir is given
+abbrev pub path_mode_flags : List Row → List Bool
+path_mode_flags rows = is_some (first_of (codes "cat") rows)
+    ∷ is_some (given_pair (codes "put") rows) ∷ is_some (first_of (codes "remove") rows) ∷ is_some (first_of (codes "mkdir") rows) ∷ []
+
+-- how many of these are given
+abbrev pub given_count : List Bool → ℕ
+given_count flags = count_by (λ b. b) flags
+
+-- how many modes are given
 abbrev pub given_mode_count : List Row → ℕ
-given_mode_count rows = count_by (λ b. b) (given_mode_flags rows)
+given_mode_count rows = given_count (folder_mode_flags rows) + given_count (path_mode_flags rows)
 
 abbrev pub HasOneMode : List Row → Type 0
 HasOneMode rows = given_mode_count rows ≡ 1
@@ -61,6 +82,16 @@ IsModeOfParsedArguments rows (mode.Create dir) = first_of (codes "create") rows 
 IsModeOfParsedArguments rows (mode.Unpack dir) = first_of (codes "unpack") rows ≡ Some dir.now
 IsModeOfParsedArguments rows mode.List = is_list_requested rows ≡ true
 IsModeOfParsedArguments rows mode.Check = is_check_requested rows ≡ true
+IsModeOfParsedArguments rows (mode.Cat path) = first_of (codes "cat") rows ≡ Some path.now
+IsModeOfParsedArguments rows (mode.Put file path) = given_pair (codes "put") rows ≡ Some (file.now, path.now)
+IsModeOfParsedArguments rows (mode.Remove path) = first_of (codes "remove") rows ≡ Some path.now
+IsModeOfParsedArguments rows (mode.Mkdir path) = first_of (codes "mkdir") rows ≡ Some path.now
+
+-- what is given of the modes with these flags
+abbrev pub AreGivenModes : List Bool → List Row → GivenModes → Type 0
+AreGivenModes flags rows given.None = given_count flags ≡ 0
+AreGivenModes flags rows (given.One mode) = (given_count flags ≡ 1) × IsModeOfParsedArguments rows mode
+AreGivenModes flags rows given.Several = 2 ≤ given_count flags
 
 -- the order of names that a text names
 abbrev pub name_order_of_text : Text → Option NameOrder

@@ -1,11 +1,12 @@
-ghost use Rattle.std.specs.Prelude.{◌≡◌, List, IfErr, IfOk, MatchOption, Some, map};
+ghost use Rattle.std.specs.Prelude.{◌≡◌, List, IfErr, IfOk, Some, map};
 ghost use Rattle.clap.specs.Words.{Text, found_of, rows_of};
 ghost use Rattle.lfs_tool_line.specs.Choices.{AreChoicesOfParsedArguments};
-ghost use Rattle.lfs_tool_line.specs.Matches.{HasOneMode, HasGivenImage, IsLineErrorOfWords, IsCommandLineOfParsedArguments, IsModeOfParsedArguments, ParserAcceptsWords, broken_limit, given_board, given_name_order, name_order_of_text, rows};
+ghost use Rattle.lfs_tool_line.specs.Matches.{HasGivenImage, IsLineErrorOfWords, IsCommandLineOfParsedArguments, ParserAcceptsWords, broken_limit, given_board, given_name_order, name_order_of_text, rows};
 
 use crate::board::Board;
 use crate::command::parse_command_line_words;
 use crate::limits::{Limit, first_broken_limit, given_or_other_profile};
+use crate::modes::mode_of_matches;
 use crate::values::{argument_text, flag_value_in_matches, given_or_other_number};
 use clap::ArgMatches;
 use lfs_model::{NameOrder, Profile};
@@ -24,6 +25,14 @@ pub enum Mode<'a> {
     List,
     /// Check the image.
     Check,
+    /// Write the bytes of the file at this path in the image.
+    Cat(&'a str),
+    /// Put the bytes of this file at this path in the image.
+    Put(&'a str, &'a str),
+    /// Remove what is at this path in the image.
+    Remove(&'a str),
+    /// Make a directory at this path in the image.
+    Mkdir(&'a str),
 }
 
 /// The request of a command line. Its numbers are as they were given: no size is checked here.
@@ -61,7 +70,7 @@ pub enum LineError {
     /// isn't granted.
     #[error(transparent)]
     Parser(clap::Error),
-    /// None of `-c`, `-u`, `-l` and `--check` is given, or more than one is.
+    /// None of the modes is given, or more than one is.
     #[error("error: give exactly one of -c, -u, -l")]
     Modes,
     /// The order of names is neither `longer-first` nor `shorter-first`.
@@ -76,24 +85,6 @@ pub enum LineError {
     /// A word isn't UTF-8. `read_line` doesn't return this, since its words are text.
     #[error("error: the command line is not UTF-8")]
     NotUtf8,
-}
-
-// Returns the mode, where exactly one is given.
-fn mode_of_matches<'a>(matches: &ArgMatches<'a>) -> Option<Mode<'a>>
-    ensures { MatchOption result (¬ HasOneMode (rows_of (found_of matches.now)))
-        (λ mode. HasOneMode (rows_of (found_of matches.now)) × IsModeOfParsedArguments (rows_of (found_of matches.now)) mode) }
-{
-    let create = argument_text(matches, "create");
-    let unpack = argument_text(matches, "unpack");
-    let list = flag_value_in_matches(matches, "list");
-    let check = flag_value_in_matches(matches, "check");
-    match (create, unpack, list, check) {
-        (Some(dir), None, false, false) => Some(Mode::Create(dir)),
-        (None, Some(dir), false, false) => Some(Mode::Unpack(dir)),
-        (None, None, true, false) => Some(Mode::List),
-        (None, None, false, true) => Some(Mode::Check),
-        _ => None,
-    }
 }
 
 // Returns the order that a text names.
@@ -174,7 +165,7 @@ fn command_line_of_matches<'a>(
 }
 
 /// Reads the words of a command line, the program's name first:
-/// `mklittlefs (-c DIR | -u DIR | -l | --check) [-b N] [-p N] [-s N] [--order ORDER] [--name-max N] [--file-max N]
+/// `mklittlefs (-c DIR | -u DIR | -l | --check | --cat PATH | --put FILE PATH | --remove PATH | --mkdir PATH) [-b N] [-p N] [-s N] [--order ORDER] [--name-max N] [--file-max N]
 /// [--attr-max N] [--inline-max N] [--board NAME] [--also-2.1] [--explain] IMAGE`. The long names are `--create`,
 /// `--unpack`, `--list`, `--block`, `--page` and `--size`.
 ///
@@ -187,8 +178,7 @@ fn command_line_of_matches<'a>(
 ///
 /// # Errors
 /// `LineError::Parser` where the parser refuses the words or a number is none, where they ask for help or for the
-/// version, or where memory isn't granted. `LineError::Modes` where it takes them and not exactly one of `-c`, `-u`, `-l` and
-/// `--check` is given. `LineError::Order` where ORDER is neither, and `LineError::Board` where NAME is none of the four.
+/// version, or where memory isn't granted. `LineError::Modes` where it takes them and not exactly one mode is given. `LineError::Order` where ORDER is neither, and `LineError::Board` where NAME is none of the four.
 /// `LineError::Limit` where a limit that is given is 0 or too large.
 pub fn read_line<'a, S: AsStr>(alloc: Global, words: &'a [S]) -> Result<Line<'a>, LineError>
     ensures ok { IfOk result (λ line. ParserAcceptsWords (map S.text words.entry.now)

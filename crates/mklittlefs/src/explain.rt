@@ -3,6 +3,7 @@
 use crate::blocks::{EnoughBlocks, enough_blocks_for_entries};
 use crate::files::{Host, OldImage, is_standard_stream, open_image};
 use crate::limit_watch::{LimitWatch, PassedLimit};
+use crate::path_words::push_path_line;
 use crate::run::{folder_of_line, geometry_of_line, layout_of_line};
 use lfs_device::Error;
 use lfs_tool::{
@@ -61,7 +62,19 @@ fn size_of_image(host: Host<'_>, line: &Line<'_>) -> Result<usize, ToolError> {
     Ok(size.min(most))
 }
 
-// The rule that the sizes break.
+// What is wrong with the path in the image of the line's mode.
+fn path_in_image_line(host: Host<'_>, line: &Line<'_>, error: Error) -> Result<Vec<u8>, ToolError> {
+    let mut text = Vec::new(host.alloc());
+    match line.mode {
+        Mode::Cat(path) | Mode::Put(_, path) | Mode::Remove(path) | Mode::Mkdir(path) => {
+            push_path_line(&mut text, path, error)?;
+        }
+        Mode::Create(_) | Mode::Unpack(_) | Mode::List | Mode::Check => {}
+    }
+    Ok(text)
+}
+
+// The rule that the sizes break, or what is wrong with the path in the image.
 fn size_rule_line(host: Host<'_>, line: &Line<'_>) -> Result<Vec<u8>, ToolError> {
     let sizes = Sizes {
         size: size_of_image(host, line)?,
@@ -69,8 +82,9 @@ fn size_rule_line(host: Host<'_>, line: &Line<'_>) -> Result<Vec<u8>, ToolError>
         page: line.page,
     };
     let mut text = Vec::new(host.alloc());
-    if let Some(rule) = sizes.broken_rule() {
-        sizes.push_broken_rule_line(&mut text, rule)?;
+    match sizes.broken_rule() {
+        Some(rule) => sizes.push_broken_rule_line(&mut text, rule)?,
+        None => return path_in_image_line(host, line, Error::Invalid),
     }
     Ok(text)
 }
@@ -200,7 +214,7 @@ fn explanation_lines(
         ToolError::Fs(Error::Corrupt) => check_lines(host, line),
         ToolError::Fs(error) => match line.mode {
             Mode::Create(folder) => new_image_lines(host, line, folder, error),
-            _ => Ok(Vec::new(host.alloc())),
+            _ => path_in_image_line(host, line, error),
         },
     }
 }

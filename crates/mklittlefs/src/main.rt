@@ -3,15 +3,19 @@
 #![tactic(auto)]
 
 mod blocks;
+mod cat;
+mod change;
 mod explain;
 mod files;
 mod limit_watch;
+mod path_words;
 mod progress;
 #[cfg(test)]
 mod progress_tests;
 mod run;
 #[cfg(test)]
 mod run_tests;
+mod session;
 
 use crate::files::Host;
 use crate::run::run_words_and_return_exit_status;

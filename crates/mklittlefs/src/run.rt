@@ -1,5 +1,7 @@
 // What a command line requests.
 
+use crate::cat::cat_file;
+use crate::change::change_image;
 use crate::explain::write_explanation;
 use crate::files::{Host, NotedWriter, open_image};
 use crate::progress::progress_at_terminal;
@@ -89,6 +91,8 @@ fn run_mode<W: ToolOutput>(
         }
         Mode::Create(folder) => create_image(host, line, folder)?,
         Mode::Unpack(folder) => unpack_image(host, line, folder)?,
+        Mode::Cat(path) => cat_file(host, line, path, out)?,
+        Mode::Put(..) | Mode::Remove(_) | Mode::Mkdir(_) => change_image(host, line)?,
     }
     Ok(true)
 }

@@ -15,7 +15,7 @@ const LEN: usize = 14;
 
 // The words of runs behind one another, the status, and what the last one writes to `out` and to `err`; the others write
 // nothing. How long the image is then. A folder `runs/files` has two files.
-const ROWS: [(&[&[&str]], u8, &str, &str, usize); 10] = [
+const ROWS: [(&[&[&str]], u8, &str, &str, usize); 13] = [
     (
         &[
             &["-c", "runs/files", "-s", "16384", "runs/image"],
@@ -57,6 +57,42 @@ const ROWS: [(&[&[&str]], u8, &str, &str, usize); 10] = [
         1,
         "corrupt\nsuperblock: block size 4096, given 8192\n",
         "",
+        16384,
+    ),
+    // a path in an image
+    (
+        &[
+            &["-c", "runs/files", "-s", "32768", "runs/image"],
+            &["--mkdir", "/d", "runs/image"],
+            &["--put", "runs/files/a", "/d/c", "runs/image"],
+            &["--remove", "/a", "runs/image"],
+            &["-l", "runs/image"],
+        ],
+        0,
+        "f 0 /b\nd 0 /d\nf 5 /d/c\n",
+        "",
+        32768,
+    ),
+    (
+        &[
+            &["-c", "runs/files", "-s", "16384", "runs/image"],
+            &["--put", "runs/files/b", "/a", "runs/image"],
+            &["--put", "runs/files/a", "/b", "runs/image"],
+            &["--cat", "/b", "runs/image"],
+        ],
+        0,
+        "hello",
+        "",
+        16384,
+    ),
+    (
+        &[
+            &["-c", "runs/files", "-s", "16384", "runs/image"],
+            &["--remove", "/none", "--explain", "runs/image"],
+        ],
+        1,
+        "",
+        "error: NoEnt (2)\n/none: nothing is there, or a folder above it is missing\n",
         16384,
     ),
     // what refuses leaves the old image

@@ -65,7 +65,9 @@ pub use image_devices::ram_device_of_image;
 pub use image_layout::ImageLayout;
 pub use input::read_image;
 pub use judgement::judge_image_on_device;
-pub use lfs_tool_line::{Limit, Line, LineError, Mode, read_line};
+pub use lfs_tool_line::{
+    Extras, Limit, Line, LineError, Misuse, Mode, Request, read_line, read_request,
+};
 pub use listings::list;
 pub use output::write_bytes_and_flush;
 pub use progress::{FilesAndBytes, FollowsProgress};

@@ -12,6 +12,7 @@ use Rattle.lfs_model.specs.declared.order.NameOrder.{NameOrder}
 use Rattle.lfs_model.specs.declared.order.NameOrder.TheVariants.{LongerFirst, ShorterFirst}
 use Rattle.lfs_tool_line.specs.Boards.{block_size_of_board, board_with_name, profile_of_board}
 use Rattle.lfs_tool_line.specs.Command.{mklittlefs}
+use Rattle.lfs_tool_line.specs.Extras.{AreExtrasOfParsedArguments, misused_option}
 use Rattle.lfs_tool_line.specs.Limits.{first_broken_limit}
 use Rattle.lfs_tool_line.specs.Values.{flag_value_in_rows, number_faults, number_or}
 use Rattle.lfs_tool_line.specs.declared.board.Board.{Board}
@@ -22,6 +23,7 @@ use Rattle.lfs_tool_line.specs.declared.line.LineError.{LineError}
 use Rattle.lfs_tool_line.specs.declared.line.LineError.TheVariants as error
 use Rattle.lfs_tool_line.specs.declared.line.LineError.TheVariants.{Modes, NotUtf8, Order, Parser}
 use Rattle.lfs_tool_line.specs.declared.line.Mode.{Mode}
+use Rattle.lfs_tool_line.specs.declared.line.Request.{Request}
 use Rattle.lfs_tool_line.specs.declared.line.Mode.TheVariants as mode
 use Rattle.lfs_tool_line.specs.declared.modes.GivenModes.{GivenModes}
 use Rattle.lfs_tool_line.specs.declared.modes.GivenModes.TheVariants as given
@@ -163,6 +165,11 @@ pub record IsCommandLineOfParsedArguments (rows : List Row) (line : Line) : Type
   pub profile : given_profile rows ≡ line.profile
   pub image : first_of (codes "image") rows ≡ Some line.image.now
 
+-- the line and what it requests beside its image
+pub record IsRequestOfParsedArguments (rows : List Row) (request : Request) : Type 0 where
+  pub line : IsCommandLineOfParsedArguments rows request.line
+  pub extras : AreExtrasOfParsedArguments rows request.extras
+
 -- the image is there
 abbrev pub HasGivenImage : Found → Type 0
 HasGivenImage f = is_some (first_value f (codes "image")) ≡ true
@@ -172,11 +179,13 @@ abbrev pub NamesModeOrderAndBoard : List Text → Type 0
 NamesModeOrderAndBoard words = ParserAcceptsWords words × HasOneMode (rows words) × HasValidNameOrder (rows words) × HasKnownBoard (rows words)
 
 -- The cause for which there is no line: the parser refuses the words; or it takes them and not exactly one mode is given; or an
--- order is none of the two; or a board is none of the four; or a limit breaks its rule, and none before it does. Text is UTF-8.
+-- order is none of the two; or a board is none of the four; or a limit breaks its rule, and none before it does;
+-- or an option has no meaning where it is given, and none before it. Text is UTF-8.
 abbrev pub IsLineErrorOfWords : List Text → LineError → Type 0
 IsLineErrorOfWords words (Parser e) = HasKind (faults words) e
 IsLineErrorOfWords words Modes = ParserAcceptsWords words × ¬ HasOneMode (rows words)
 IsLineErrorOfWords words Order = ParserAcceptsWords words × HasOneMode (rows words) × ¬ HasValidNameOrder (rows words)
 IsLineErrorOfWords words error.Board = ParserAcceptsWords words × HasOneMode (rows words) × HasValidNameOrder (rows words) × ¬ HasKnownBoard (rows words)
 IsLineErrorOfWords words (error.Limit limit) = NamesModeOrderAndBoard words × (broken_limit (rows words) ≡ Some limit)
+IsLineErrorOfWords words (error.Misuse misuse) = NamesModeOrderAndBoard words × (broken_limit (rows words) ≡ None) × (misused_option (rows words) ≡ Some misuse)
 IsLineErrorOfWords words NotUtf8 = ⊥

@@ -5,6 +5,7 @@ ghost use Rattle.clap.specs.Words.{FailsBy, app_of, fault_of, found_of, kind_of,
 ghost use Rattle.lfs_tool_line.specs.Command.{rule_of_check_option, rule_of_explain_option, rule_of_folder_option, rule_of_image_argument, rule_of_list_option, mklittlefs, rule_of_number_option, rule_of_order_option, with_mode_options, with_mode_size_and_order_options, with_size_options, with_version_option};
 ghost use Rattle.lfs_tool_line.specs.Matches.{HasGivenImage, faults, rows};
 
+use crate::extra_options::with_extra_options;
 use crate::mode_options::with_path_mode_options;
 use crate::options::{number_arg, with_board_and_version_options, with_limit_options};
 use crate::values::first_bad_number;
@@ -288,6 +289,7 @@ fn mklittlefs_command<'a>(alloc: Global) -> Result<Command<'a>, AllocError>
     let command = with_mode_size_and_order_options(alloc)?;
     let command = with_limit_options(alloc, command)?;
     let command = with_board_and_version_options(alloc, command)?;
+    let command = with_extra_options(alloc, command)?;
     let command = add_explain_option_to_command(alloc, command)?;
     let command = add_image_argument_to_command(alloc, command)?;
     Ok(command)

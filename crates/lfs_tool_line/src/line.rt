@@ -1,10 +1,11 @@
 ghost use Rattle.std.specs.Prelude.{◌≡◌, List, IfErr, IfOk, Some, map};
 ghost use Rattle.clap.specs.Words.{Text, found_of, rows_of};
 ghost use Rattle.lfs_tool_line.specs.Choices.{AreChoicesOfParsedArguments};
-ghost use Rattle.lfs_tool_line.specs.Matches.{HasGivenImage, IsLineErrorOfWords, IsCommandLineOfParsedArguments, ParserAcceptsWords, broken_limit, given_board, given_name_order, name_order_of_text, rows};
+ghost use Rattle.lfs_tool_line.specs.Matches.{HasGivenImage, IsLineErrorOfWords, IsCommandLineOfParsedArguments, IsRequestOfParsedArguments, ParserAcceptsWords, broken_limit, given_board, given_name_order, name_order_of_text, rows};
 
 use crate::board::Board;
 use crate::command::parse_command_line_words;
+use crate::extras::{Extras, Misuse, extras_of_matches, misused_option};
 use crate::limits::{Limit, first_broken_limit, given_or_other_profile};
 use crate::modes::mode_of_matches;
 use crate::values::{argument_text, flag_value_in_matches, given_or_other_number};
@@ -55,6 +56,13 @@ pub struct Line<'a> {
     pub image: &'a str,
 }
 
+/// A line, and what it requests beside its image.
+#[derive(Debug, Drop)]
+pub struct Request<'a> {
+    pub line: Line<'a>,
+    pub extras: Extras<'a>,
+}
+
 // What of a line is one of several names.
 #[derive(Clone, Copy)]
 struct Choices<'a> {
@@ -82,6 +90,9 @@ pub enum LineError {
     /// A limit is 0, or larger than it may be.
     #[error("error: {}", .0.rule())]
     Limit(Limit),
+    /// An option has no meaning with the mode.
+    #[error("error: {}", .0.rule())]
+    Misuse(Misuse),
     /// A word isn't UTF-8. `read_line` doesn't return this, since its words are text.
     #[error("error: the command line is not UTF-8")]
     NotUtf8,
@@ -166,7 +177,8 @@ fn command_line_of_matches<'a>(
 
 /// Reads the words of a command line, the program's name first:
 /// `mklittlefs (-c DIR | -u DIR | -l | --check | --cat PATH | --put FILE PATH | --remove PATH | --mkdir PATH) [-b N] [-p N] [-s N] [--order ORDER] [--name-max N] [--file-max N]
-/// [--attr-max N] [--inline-max N] [--board NAME] [--also-2.1] [--explain] IMAGE`. The long names are `--create`,
+/// [--attr-max N] [--inline-max N] [--board NAME] [--also-2.1] [--exclude PATTERN] [--follow-links] [--skip-links] [--json]
+/// [--explain] IMAGE`. The long names are `--create`,
 /// `--unpack`, `--list`, `--block`, `--page` and `--size`.
 ///
 /// A number is from 0 to 4294967295, as `4096`, `0x1000`, `4k` and `1.5M` are: decimal, hexadecimal, or in units of 1024
@@ -179,10 +191,11 @@ fn command_line_of_matches<'a>(
 /// # Errors
 /// `LineError::Parser` where the parser refuses the words or a number is none, where they ask for help or for the
 /// version, or where memory isn't granted. `LineError::Modes` where it takes them and not exactly one mode is given. `LineError::Order` where ORDER is neither, and `LineError::Board` where NAME is none of the four.
-/// `LineError::Limit` where a limit that is given is 0 or too large.
-pub fn read_line<'a, S: AsStr>(alloc: Global, words: &'a [S]) -> Result<Line<'a>, LineError>
-    ensures ok { IfOk result (λ line. ParserAcceptsWords (map S.text words.entry.now)
-        × IsCommandLineOfParsedArguments (rows (map S.text words.entry.now)) line) }
+/// `LineError::Limit` where a limit that is given is 0 or too large. `LineError::Misuse` where another option is given with a
+/// mode for which it has no meaning.
+pub fn read_request<'a, S: AsStr>(alloc: Global, words: &'a [S]) -> Result<Request<'a>, LineError>
+    ensures ok { IfOk result (λ request. ParserAcceptsWords (map S.text words.entry.now)
+        × IsRequestOfParsedArguments (rows (map S.text words.entry.now)) request) }
     ensures err { IfErr result (IsLineErrorOfWords (map S.text words.entry.now)) }
 {
     let matches = match parse_command_line_words(alloc, words) {
@@ -193,8 +206,30 @@ pub fn read_line<'a, S: AsStr>(alloc: Global, words: &'a [S]) -> Result<Line<'a>
         Ok(choices) => choices,
         Err(error) => return Err(error),
     };
-    match command_line_of_matches(&matches, choices) {
-        Ok(line) => Ok(line),
-        Err(limit) => Err(LineError::Limit(limit)),
+    let line = match command_line_of_matches(&matches, choices) {
+        Ok(line) => line,
+        Err(limit) => return Err(LineError::Limit(limit)),
+    };
+    if let Some(misuse) = misused_option(&matches) {
+        return Err(LineError::Misuse(misuse));
+    }
+    match extras_of_matches(alloc, &matches) {
+        Ok(extras) => Ok(Request { line, extras }),
+        Err(error) => Err(LineError::Parser(clap::Error::from(error))),
+    }
+}
+
+/// Reads the words of a command line as `read_request` does, and returns the line alone.
+///
+/// # Errors
+/// Those of `read_request`.
+pub fn read_line<'a, S: AsStr>(alloc: Global, words: &'a [S]) -> Result<Line<'a>, LineError>
+    ensures ok { IfOk result (λ line. ParserAcceptsWords (map S.text words.entry.now)
+        × IsCommandLineOfParsedArguments (rows (map S.text words.entry.now)) line) }
+    ensures err { IfErr result (IsLineErrorOfWords (map S.text words.entry.now)) }
+{
+    match read_request(alloc, words) {
+        Ok(request) => Ok(request.line),
+        Err(error) => Err(error),
     }
 }

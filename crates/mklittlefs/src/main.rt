@@ -7,6 +7,7 @@ mod cat;
 mod change;
 mod explain;
 mod files;
+mod json;
 mod limit_watch;
 mod path_words;
 mod progress;
@@ -20,7 +21,7 @@ mod session;
 use crate::files::Host;
 use crate::run::run_words_and_return_exit_status;
 use lfs_tool::WatchedStream;
-use lfs_tool_folders::FaultLog;
+use lfs_tool_folders::{FaultLog, FolderRules};
 use std::process::ExitCode;
 use std::{env, io};
 
@@ -44,6 +45,7 @@ fn main(rt: HostRuntime) -> ExitCode {
         rt: &rt,
         log: &log,
         explains: is_explanation_wanted(&rt),
+        rules: FolderRules::new(),
     };
     let mut out = WatchedStream::new(rt.stdout());
     let mut err = WatchedStream::new(rt.stderr());

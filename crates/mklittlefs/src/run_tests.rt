@@ -3,7 +3,7 @@
 use crate::files::Host;
 use crate::run::run_words_and_return_exit_status;
 use lfs_tool::WatchedStream;
-use lfs_tool_folders::FaultLog;
+use lfs_tool_folders::{FaultLog, FolderRules};
 use std::alloc::{AllocError, Global};
 use std::test::Fail;
 use std::{fs, io};
@@ -15,7 +15,7 @@ const LEN: usize = 14;
 
 // The words of runs behind one another, the status, and what the last one writes to `out` and to `err`; the others write
 // nothing. How long the image is then. A folder `runs/files` has two files.
-const ROWS: [(&[&[&str]], u8, &str, &str, usize); 13] = [
+const ROWS: [(&[&[&str]], u8, &str, &str, usize); 17] = [
     (
         &[
             &["-c", "runs/files", "-s", "16384", "runs/image"],
@@ -58,6 +58,56 @@ const ROWS: [(&[&[&str]], u8, &str, &str, usize); 13] = [
         "corrupt\nsuperblock: block size 4096, given 8192\n",
         "",
         16384,
+    ),
+    // what is left out, and lines as JSON
+    (
+        &[
+            &[
+                "-c",
+                "runs/files",
+                "--exclude",
+                "?",
+                "-s",
+                "16384",
+                "runs/image",
+            ],
+            &["-l", "runs/image"],
+        ],
+        0,
+        "",
+        "",
+        16384,
+    ),
+    (
+        &[
+            &[
+                "-c",
+                "runs/files",
+                "--exclude=b*",
+                "-s",
+                "16384",
+                "runs/image",
+            ],
+            &["-l", "--json", "runs/image"],
+        ],
+        0,
+        "{\"type\": \"file\", \"size\": 5, \"path\": \"/a\"}\n",
+        "",
+        16384,
+    ),
+    (
+        &[&["--check", "--json", "runs/image"]],
+        1,
+        "{\"ok\": false, \"reason\": \"no image of blocks of 4096 bytes and pages of 256\"}\n",
+        "",
+        LEN,
+    ),
+    (
+        &[&["-l", "--skip-links", "runs/image"]],
+        2,
+        "",
+        "error: --exclude, --follow-links and --skip-links are for -c\n",
+        LEN,
     ),
     // a path in an image
     (
@@ -179,6 +229,7 @@ fn ends_so(
         rt,
         log: &log,
         explains: false,
+        rules: FolderRules::new(),
     };
     let ended = run_words_and_return_exit_status(host, words, &mut written, &mut told);
     ended == status

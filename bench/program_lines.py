@@ -95,7 +95,17 @@ def tool_rows(tool, folder):
     yield "no folder above", run(tool, ["-c", "some", "--explain", *sizes, "no/x.img"], "", folder), (
         3, "", "error: output\nno/x.img: No such file or directory (os error 2)\n")
     write(folder, "big/a", size=1 << 31)
-    yield "a file that is too big", run(tool, ["-c", "big", "--explain", *sizes, "x.img"], "", folder), (1, "", "error: TooBig (27)\n")
+    yield "a file that is too big", run(tool, ["-c", "big", "--explain", *sizes, "x.img"], "", folder), (
+        1, "", "error: TooBig (27)\nbig/a: a file of 2147483648 bytes, and 2147483647 are the most\n")
+    write(folder, "named/d/four", b"hi")
+    yield "a name that is too long, and why", run(tool, ["-c", "named", "--explain", "--name-max", "3", "n.img"], "", folder), (
+        1, "", "error: NameTooLong (36)\nnamed/d/four: a name of 4 bytes, and 3 are the most\n")
+    shutil.rmtree(folder + "/named")
+    os.makedirs(folder + "/bytes")
+    open(os.path.join(folder.encode(), b"bytes/\xff"), "wb").close()
+    for value, why in ("1", "bytes/\\xff: the name is not UTF-8\n"), ("0", ""), ("", ""):
+        came = subprocess.run([tool, "-c", "bytes", "n.img"], cwd=folder, capture_output=True, env={"MKLITTLEFS_EXPLAIN": value})
+        yield f"MKLITTLEFS_EXPLAIN={value}", (came.returncode, came.stderr.decode()), (3, "error: input\n" + why)
     write(folder, "both/a", size=1 << 20)
     write(folder, "both/b", size=3 << 30)
     yield "too few blocks, and a file that is too big", run(tool, ["-c", "both", "--explain", *sizes, "x.img"], "", folder), (

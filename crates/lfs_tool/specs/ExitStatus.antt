@@ -6,6 +6,7 @@ use Rattle.clap.specs.declared.error.ErrorKind.TheVariants as kind
 use Rattle.lfs_tool_line.specs.declared.line.LineError.TheVariants.{Modes, NotUtf8, Order, Parser}
 use Rattle.lfs_tool_line.specs.declared.line.LineError.TheVariants as line_error
 use Rattle.lfs_tool_line.specs.declared.limits.Limit.{Limit}
+use Rattle.lfs_tool_line.specs.Extras.{rule_of_misuse}
 use Rattle.lfs_tool_line.specs.Limits.{rule_of_limit}
 use Rattle.lfs_model.specs.Listing.{newline}
 use Rattle.lfs_tool.specs.Errors.{error_line, tool_error_line, tool_error_status}
@@ -35,6 +36,7 @@ exit_status_of_failure (Line Modes) = 2
 exit_status_of_failure (Line Order) = 2
 exit_status_of_failure (Line line_error.Board) = 2
 exit_status_of_failure (Line (line_error.Limit limit)) = 2
+exit_status_of_failure (Line (line_error.Misuse misuse)) = 2
 exit_status_of_failure (Line NotUtf8) = 2
 exit_status_of_failure (Line (Parser e)) = status_of_parser_outcome (outcome_of_parser_error (kind_of e))
 exit_status_of_failure (Tool e) = tool_error_status e
@@ -54,6 +56,7 @@ standard_error_line_of_failure (Line Modes) = Some (codes "error: give exactly o
 standard_error_line_of_failure (Line Order) = Some (codes "error: --order is longer-first or shorter-first" ++ newline)
 standard_error_line_of_failure (Line line_error.Board) = Some (codes "error: --board is esp8266, esp32, rp2040 or micropython" ++ newline)
 standard_error_line_of_failure (Line (line_error.Limit limit)) = Some (broken_limit_line limit)
+standard_error_line_of_failure (Line (line_error.Misuse misuse)) = Some (codes "error: " ++ rule_of_misuse misuse ++ newline)
 standard_error_line_of_failure (Line NotUtf8) = Some (codes "error: the command line is not UTF-8" ++ newline)
 standard_error_line_of_failure (Line (Parser e)) = error_line_of_parser_outcome (outcome_of_parser_error (kind_of e))
 standard_error_line_of_failure (Tool e) = Some (tool_error_line e)

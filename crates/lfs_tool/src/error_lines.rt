@@ -1,4 +1,6 @@
-ghost use Rattle.std.specs.Prelude.{◌≡◌, false, true};
+ghost use Rattle.std.specs.Prelude.{◌≡◌, ◌++◌, codes, false, true};
+ghost use Rattle.lfs_model.specs.Listing.{newline};
+ghost use Rattle.lfs_tool_line.specs.Extras.{rule_of_misuse};
 ghost use Rattle.std.specs.Io.KnownBytes.{Appends};
 ghost use Rattle.lfs_tool.specs.KnownBytes.{AppendsBeginningOfBytes};
 ghost use Rattle.lfs_tool.specs.ExitStatus.{broken_limit_line, is_failure_a_help_request};
@@ -10,7 +12,7 @@ use crate::output::write_bytes_and_flush;
 use crate::{Fault, ToolError, ToolOutput};
 use clap::error::ErrorKind;
 use lfs_device::Error;
-use lfs_tool_line::{Limit, LineError};
+use lfs_tool_line::{Limit, LineError, Misuse};
 
 const MODES: &str = "error: give exactly one of -c, -u, -l\n";
 
@@ -29,6 +31,17 @@ fn line_of_broken_limit(limit: Limit) -> &'static str
         Limit::File => "error: --file-max is from 1 to 2147483647\n",
         Limit::Attr => "error: --attr-max is from 1 to 1022\n",
         Limit::Inline => "error: --inline-max is from 1 to 1022, and at most an eighth of -b\n",
+    }
+}
+
+// Returns the line that says where an option has a meaning.
+fn line_of_misuse(misuse: Misuse) -> &'static str
+    ensures { result.now ≡ codes "error: " ++ rule_of_misuse misuse ++ newline }
+{
+    match misuse {
+        Misuse::Folder => "error: --exclude, --follow-links and --skip-links are for -c\n",
+        Misuse::Links => "error: give one of --follow-links and --skip-links\n",
+        Misuse::Json => "error: --json is for -l and --check\n",
     }
 }
 
@@ -75,6 +88,9 @@ pub fn report<O: ToolOutput, E: ToolOutput>(fault: &Fault, out: &mut O, err: &mu
         Fault::Line(LineError::Board) => write_line_and_return_status(err, BOARD, 2),
         Fault::Line(LineError::Limit(limit)) => {
             write_line_and_return_status(err, line_of_broken_limit(*limit), 2)
+        }
+        Fault::Line(LineError::Misuse(misuse)) => {
+            write_line_and_return_status(err, line_of_misuse(*misuse), 2)
         }
         Fault::Line(LineError::NotUtf8) => write_line_and_return_status(err, NOT_UTF8, 2),
         Fault::Line(LineError::Parser(error)) => match error.kind() {

@@ -41,8 +41,11 @@ fn geometry_of_image_length(len: usize, layout: ImageLayout) -> Result<Geometry,
     Ok(geometry.with_profile(layout.profile))
 }
 
-// Makes a device that holds an image. Returns `Invalid` exactly where no image has so many bytes.
-pub(crate) fn ram_device_of_image(image: Vec<u8>, layout: ImageLayout) -> Result<RamDevice, Error>
+/// Makes a device that holds an image.
+///
+/// # Errors
+/// `Invalid` exactly where no image has so many bytes.
+pub fn ram_device_of_image(image: Vec<u8>, layout: ImageLayout) -> Result<RamDevice, Error>
     requires { length image.items < 2 ^ 32 }
     ensures image { OnOk result (IsImageOfWholeBlocks layout.block_size layout.page image.items) }
     ensures disk { IfOk result (λ d. shown (geometry_of_ram_device d) (ram_blocks d) ≡ disk_of_image layout.block_size layout.page layout.profile LongerFirst image.items) }

@@ -11,8 +11,12 @@ use std::alloc::Global;
 // The most bytes that an image has.
 pub(crate) const IMAGE_MAX: usize = 268_435_456;
 
-// Reads to the end, or one byte more than an image may have.
-pub(crate) fn read_image<R: ImageInput>(alloc: Global, image: &mut R) -> Result<Vec<u8>, ToolError>
+/// Reads to the end, or one byte more than the largest image has, which is 268,435,456.
+///
+/// # Errors
+/// - `Input` where the reader failed.
+/// - `Fs(NoMemory)` where memory isn't granted.
+pub fn read_image<R: ImageInput>(alloc: Global, image: &mut R) -> Result<Vec<u8>, ToolError>
     ensures bytes { IfOk result (λ v. IfSome (R.remaining image.old) (λ bytes. v.items ≡ take (IMAGE_MAX + 1) bytes)) }
     ensures bound { IfOk result (λ v. length v.items ≤ IMAGE_MAX + 1) }
     ensures read { OnOk result (IsReadToEndOrPastImageLimit (R.remaining image.old) (R.remaining image.new)) }

@@ -56,10 +56,14 @@ pub use examination::check_result_of_image;
 pub use excerpt::ExcerptDevice;
 pub use excerpt_laws::{excerpt_is_listed_like_its_disk, excerpt_is_read_without_fault};
 pub use image_checks::check;
+pub use image_devices::ram_device_of_image;
 pub use image_layout::ImageLayout;
+pub use input::read_image;
 pub use judgement::judge_image_on_device;
 pub use lfs_lookup::push_escaped_path;
-pub use lfs_tool_line::{Limit, Line, LineError, Mode, read_line};
+pub use lfs_tool_line::{
+    Extras, Limit, Line, LineError, Misuse, Mode, Request, read_line, read_request,
+};
 pub use listings::list;
 pub use output::write_bytes_and_flush;
 pub use progress::{FilesAndBytes, FollowsProgress};

@@ -3,17 +3,19 @@ ghost use Rattle.std.specs.IoError.{error_kind};
 ghost use Rattle.lfs_tool_folders.specs.Roots.{root_path_of_source_folder, file_limits_of_source_folder};
 
 use crate::file_bytes::read_at_most;
-use crate::full_path::full_path;
+use crate::full_path::{full_path, full_path_joined_with_name_unless_empty};
 use crate::zeros::{number_of_zeros_refused_like_too_long_file, zeros};
-use crate::{FaultLog, FileLimits, ListedName, Source, SourceError, SourceKind, Tally};
+use crate::{
+    FaultLog, FileLimits, FolderRules, Links, ListedName, Source, SourceError, SourceKind, Tally,
+};
 use std::alloc::{AllocError, Global};
 use std::fs::{File, FileType, Metadata, OpenFile};
 use std::io::ErrorKind;
 use std::rt::Files;
 use std::{fs, io};
 
-/// A folder of the real file system. A name that isn't UTF-8 is a fault, and so is a symbolic link or
-/// anything else but a file or a folder. A fault is noted in a log, with the path that it comes from.
+/// A folder of the real file system. A name that isn't UTF-8 is a fault, and so is anything else but a file or a
+/// folder. So is a symbolic link, unless the folder's rules say otherwise. A fault is noted in a log, with the path that it comes from.
 ///
 /// It can be made for an image of so many bytes. Then a file that is longer than that isn't read, since
 /// no such image holds it. Zeros stand for its bytes, so many that they are refused as the file is.
@@ -23,6 +25,7 @@ pub struct Folder<'a, R> {
     root: String,
     log: &'a FaultLog,
     limits: FileLimits,
+    rules: FolderRules<'a>,
     faults: Tally,
 }
 
@@ -85,8 +88,42 @@ impl<'a, R: Files + AllocGlobal + Clone + Drop> Folder<'a, R> {
             root: String::from_str(rt.alloc(), root)?,
             log,
             limits,
+            rules: FolderRules::new(),
             faults: Tally::none(),
         })
+    }
+
+    /// Makes the same source, read by these rules.
+    pub fn with_rules(mut self, rules: FolderRules<'a>) -> Folder<'a, R> {
+        self.rules = rules;
+        self
+    }
+
+    // Returns the entry of a name, or none where it is left out.
+    fn listed_name_by_rules(
+        &self,
+        folder: &[u8],
+        name: &[u8],
+        own: io::Result<Metadata>,
+    ) -> io::Result<Option<ListedName>> {
+        let alloc = self.rt.alloc();
+        let path = full_path_joined_with_name_unless_empty(alloc, "", folder, name)?;
+        if self.rules.leave_out(path.as_slice(), name) {
+            return Ok(None);
+        }
+        let metadata = match own {
+            Ok(metadata) if metadata.file_type().is_symlink() => match self.rules.links {
+                Links::Refuse => Ok(metadata),
+                Links::Skip => return Ok(None),
+                Links::Follow => {
+                    let full = full_path(alloc, self.root.as_str(), path.as_slice())?;
+                    fs::metadata(self.rt, full.as_str())
+                }
+            },
+            own => own,
+        };
+        let listed = listed_name_with_kind_and_length(alloc, name, metadata)?;
+        Ok(Some(listed))
     }
 
     fn list_names_in_folder(&self, alloc: Global, path: &[u8]) -> io::Result<Vec<ListedName>> {
@@ -95,11 +132,13 @@ impl<'a, R: Files + AllocGlobal + Clone + Drop> Folder<'a, R> {
         for entry in fs::read_dir(self.rt, full.as_str())? {
             let entry = entry?;
             let name = entry.file_name();
-            let listed = listed_name_with_kind_and_length(alloc, name.as_bytes(), entry.metadata());
+            let listed = self.listed_name_by_rules(path, name.as_bytes(), entry.metadata());
             if let Err(error) = &listed {
                 self.note_error_at_name(path, name.as_bytes(), error);
             }
-            names.push(listed?)?;
+            if let Some(listed) = listed? {
+                names.push(listed)?;
+            }
         }
         Ok(names)
     }

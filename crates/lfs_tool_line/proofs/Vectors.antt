@@ -3,7 +3,7 @@ use Rattle.std.proofs.Common.{◌≡◌, ◌∷◌, [], None, Some, List, refl, 
 use Rattle.clap.specs.Words.{Text, first_of}
 use Rattle.clap.specs.declared.error.ErrorKind.TheVariants as kind
 use Rattle.clap.proofs.OnLiterals.{clap_on_literals}
-use Rattle.lfs_tool_line.specs.Command.{mklittlefs, with_board_and_version_options, with_limit_options, with_mode_options, with_mode_size_and_order_options, with_size_options}
+use Rattle.lfs_tool_line.specs.Command.{mklittlefs, with_board_and_version_options, with_extra_options, with_limit_options, with_mode_options, with_mode_size_and_order_options, with_path_mode_options, with_size_options}
 use Rattle.lfs_tool_line.specs.Matches.{faults, given_mode_count, rows}
 use Rattle.lfs_tool_line.specs.Numbers.{number_in_text, within_32_bits}
 use Rattle.lfs_tool_line.specs.Values.{number_or, numeric_option_value_in_rows}
@@ -14,19 +14,19 @@ create_line = codes "mklittlefs" ∷ codes "-cdir" ∷ codes "-b=512" ∷ codes 
 created : (numeric_option_value_in_rows (codes "block_size") (rows create_line) ≡ Some 512) × (numeric_option_value_in_rows (codes "page") (rows create_line) ≡ Some 16)
     × (number_or 65536 (codes "size") (rows create_line) ≡ 65536) × (first_of (codes "create") (rows create_line) ≡ Some (codes "dir"))
     × (given_mode_count (rows create_line) ≡ 1) × (faults create_line ≡ [])
-unfolding clap_on_literals mklittlefs with_mode_size_and_order_options with_mode_options with_size_options with_limit_options with_board_and_version_options rows faults number_in_text
+unfolding clap_on_literals mklittlefs with_mode_size_and_order_options with_mode_options with_path_mode_options with_size_options with_limit_options with_board_and_version_options with_extra_options rows faults number_in_text
 created = (refl, refl, refl, refl, refl, refl)
 
 too_large : faults (codes "m" ∷ codes "-l" ∷ codes "-s4294967296" ∷ codes "i" ∷ []) ≡ kind.ValueValidation ∷ []
-unfolding clap_on_literals mklittlefs with_mode_size_and_order_options with_mode_options with_size_options with_limit_options with_board_and_version_options rows faults number_in_text
+unfolding clap_on_literals mklittlefs with_mode_size_and_order_options with_mode_options with_path_mode_options with_size_options with_limit_options with_board_and_version_options with_extra_options rows faults number_in_text
 too_large = refl
 
 no_image : faults (codes "m" ∷ codes "-l" ∷ []) ≡ kind.MissingRequiredArgument ∷ []
-unfolding clap_on_literals mklittlefs with_mode_size_and_order_options with_mode_options with_size_options with_limit_options with_board_and_version_options faults
+unfolding clap_on_literals mklittlefs with_mode_size_and_order_options with_mode_options with_path_mode_options with_size_options with_limit_options with_board_and_version_options with_extra_options faults
 no_image = refl
 
 no_mode : (faults (codes "m" ∷ codes "i" ∷ []) ≡ []) × (given_mode_count (rows (codes "m" ∷ codes "i" ∷ [])) ≡ 0)
-unfolding clap_on_literals mklittlefs with_mode_size_and_order_options with_mode_options with_size_options with_limit_options with_board_and_version_options rows faults
+unfolding clap_on_literals mklittlefs with_mode_size_and_order_options with_mode_options with_path_mode_options with_size_options with_limit_options with_board_and_version_options with_extra_options rows faults
 no_mode = (refl, refl)
 
 -- each form of a number
@@ -55,7 +55,7 @@ unfolding number_in_text
 largest = (refl, refl, refl, refl)
 
 broken_size : faults (codes "m" ∷ codes "-l" ∷ codes "--page=1.3k" ∷ codes "i" ∷ []) ≡ kind.ValueValidation ∷ []
-unfolding clap_on_literals mklittlefs with_mode_size_and_order_options with_mode_options with_size_options with_limit_options with_board_and_version_options rows faults number_in_text
+unfolding clap_on_literals mklittlefs with_mode_size_and_order_options with_mode_options with_path_mode_options with_size_options with_limit_options with_board_and_version_options with_extra_options rows faults number_in_text
 broken_size = refl
 
 abbrev forms_line : List Text
@@ -63,5 +63,5 @@ forms_line = codes "mklittlefs" ∷ codes "-cdir" ∷ codes "-s0x160000" ∷ cod
 
 formed : (numeric_option_value_in_rows (codes "size") (rows forms_line) ≡ Some 1441792) × (numeric_option_value_in_rows (codes "block_size") (rows forms_line) ≡ Some 4096)
     × (numeric_option_value_in_rows (codes "file_max") (rows forms_line) ≡ Some 1572864) × (faults forms_line ≡ [])
-unfolding clap_on_literals mklittlefs with_mode_size_and_order_options with_mode_options with_size_options with_limit_options with_board_and_version_options rows faults number_in_text
+unfolding clap_on_literals mklittlefs with_mode_size_and_order_options with_mode_options with_path_mode_options with_size_options with_limit_options with_board_and_version_options with_extra_options rows faults number_in_text
 formed = (refl, refl, refl, refl)

@@ -1,7 +1,7 @@
 -- The values of a line of words.
-use Rattle.std.specs.Prelude.{◌≡◌, ◌∷◌, if◌then◌else◌, ℕ, [], Bool, List, Option, Some, None, true, codes, is_some, unwrap_or, count_by}
+use Rattle.std.specs.Prelude.{◌≡◌, ◌≤◌, ◌+◌, ◌∷◌, if◌then◌else◌, ℕ, [], Bool, List, Option, Some, None, true, codes, is_some, unwrap_or, count_by}
 use Rattle.std.specs.Str.{bytes_eq}
-use Rattle.clap.specs.Words.{Kinds, Row, Text, fault_of, first_of, matches_of}
+use Rattle.clap.specs.Words.{Kinds, Row, Text, all_of, fault_of, first_of, matches_of}
 use Rattle.clap.specs.Kinds.{or_else}
 use Rattle.clap.specs.Words.{HasKind, first_value}
 use Rattle.clap.specs.declared.parser.matches.Found.{Found}
@@ -12,6 +12,7 @@ use Rattle.lfs_model.specs.declared.order.NameOrder.{NameOrder}
 use Rattle.lfs_model.specs.declared.order.NameOrder.TheVariants.{LongerFirst, ShorterFirst}
 use Rattle.lfs_tool_line.specs.Boards.{block_size_of_board, board_with_name, profile_of_board}
 use Rattle.lfs_tool_line.specs.Command.{mklittlefs}
+use Rattle.lfs_tool_line.specs.Extras.{AreExtrasOfParsedArguments, misused_option}
 use Rattle.lfs_tool_line.specs.Limits.{first_broken_limit}
 use Rattle.lfs_tool_line.specs.Values.{flag_value_in_rows, number_faults, number_or}
 use Rattle.lfs_tool_line.specs.declared.board.Board.{Board}
@@ -22,7 +23,10 @@ use Rattle.lfs_tool_line.specs.declared.line.LineError.{LineError}
 use Rattle.lfs_tool_line.specs.declared.line.LineError.TheVariants as error
 use Rattle.lfs_tool_line.specs.declared.line.LineError.TheVariants.{Modes, NotUtf8, Order, Parser}
 use Rattle.lfs_tool_line.specs.declared.line.Mode.{Mode}
+use Rattle.lfs_tool_line.specs.declared.line.Request.{Request}
 use Rattle.lfs_tool_line.specs.declared.line.Mode.TheVariants as mode
+use Rattle.lfs_tool_line.specs.declared.modes.GivenModes.{GivenModes}
+use Rattle.lfs_tool_line.specs.declared.modes.GivenModes.TheVariants as given
 
 -- the matches that clap's definition of a simple command gives for the words
 unfoldable pub rows : List Text → List Row
@@ -44,13 +48,32 @@ is_check_requested rows = flag_value_in_rows (codes "check") rows
 abbrev pub is_error_explanation_requested : List Row → Bool
 is_error_explanation_requested rows = flag_value_in_rows (codes "explain") rows
 
-abbrev pub given_mode_flags : List Row → List Bool
-given_mode_flags rows = is_some (first_of (codes "create") rows)
+-- whether each of -c, -u, -l and --check is given
+abbrev pub folder_mode_flags : List Row → List Bool
+folder_mode_flags rows = is_some (first_of (codes "create") rows)
     ∷ is_some (first_of (codes "unpack") rows) ∷ is_list_requested rows ∷ is_check_requested rows ∷ []
 
--- how many of -c, -u, -l and --check are given
+-- the two texts of a list of two
+abbrev pub pair_of_two : Option (List Text) → Option (Text × Text)
+pair_of_two (Some (first ∷ second ∷ [])) = Some (first, second)
+pair_of_two _ = None
+
+-- the two texts of an option
+abbrev pub given_pair : Text → List Row → Option (Text × Text)
+given_pair id rows = pair_of_two (all_of id rows)
+
+-- whether each of --cat, --put, --remove and --mkdir is given
+abbrev pub path_mode_flags : List Row → List Bool
+path_mode_flags rows = is_some (first_of (codes "cat") rows)
+    ∷ is_some (given_pair (codes "put") rows) ∷ is_some (first_of (codes "remove") rows) ∷ is_some (first_of (codes "mkdir") rows) ∷ []
+
+-- how many of these are given
+abbrev pub given_count : List Bool → ℕ
+given_count flags = count_by (λ b. b) flags
+
+-- how many modes are given
 abbrev pub given_mode_count : List Row → ℕ
-given_mode_count rows = count_by (λ b. b) (given_mode_flags rows)
+given_mode_count rows = given_count (folder_mode_flags rows) + given_count (path_mode_flags rows)
 
 abbrev pub HasOneMode : List Row → Type 0
 HasOneMode rows = given_mode_count rows ≡ 1
@@ -61,6 +84,16 @@ IsModeOfParsedArguments rows (mode.Create dir) = first_of (codes "create") rows 
 IsModeOfParsedArguments rows (mode.Unpack dir) = first_of (codes "unpack") rows ≡ Some dir.now
 IsModeOfParsedArguments rows mode.List = is_list_requested rows ≡ true
 IsModeOfParsedArguments rows mode.Check = is_check_requested rows ≡ true
+IsModeOfParsedArguments rows (mode.Cat path) = first_of (codes "cat") rows ≡ Some path.now
+IsModeOfParsedArguments rows (mode.Put file path) = given_pair (codes "put") rows ≡ Some (file.now, path.now)
+IsModeOfParsedArguments rows (mode.Remove path) = first_of (codes "remove") rows ≡ Some path.now
+IsModeOfParsedArguments rows (mode.Mkdir path) = first_of (codes "mkdir") rows ≡ Some path.now
+
+-- what is given of the modes with these flags
+abbrev pub AreGivenModes : List Bool → List Row → GivenModes → Type 0
+AreGivenModes flags rows given.None = given_count flags ≡ 0
+AreGivenModes flags rows (given.One mode) = (given_count flags ≡ 1) × IsModeOfParsedArguments rows mode
+AreGivenModes flags rows given.Several = 2 ≤ given_count flags
 
 -- the order of names that a text names
 abbrev pub name_order_of_text : Text → Option NameOrder
@@ -132,6 +165,11 @@ pub record IsCommandLineOfParsedArguments (rows : List Row) (line : Line) : Type
   pub profile : given_profile rows ≡ line.profile
   pub image : first_of (codes "image") rows ≡ Some line.image.now
 
+-- the line and what it requests beside its image
+pub record IsRequestOfParsedArguments (rows : List Row) (request : Request) : Type 0 where
+  pub line : IsCommandLineOfParsedArguments rows request.line
+  pub extras : AreExtrasOfParsedArguments rows request.extras
+
 -- the image is there
 abbrev pub HasGivenImage : Found → Type 0
 HasGivenImage f = is_some (first_value f (codes "image")) ≡ true
@@ -141,11 +179,13 @@ abbrev pub NamesModeOrderAndBoard : List Text → Type 0
 NamesModeOrderAndBoard words = ParserAcceptsWords words × HasOneMode (rows words) × HasValidNameOrder (rows words) × HasKnownBoard (rows words)
 
 -- The cause for which there is no line: the parser refuses the words; or it takes them and not exactly one mode is given; or an
--- order is none of the two; or a board is none of the four; or a limit breaks its rule, and none before it does. Text is UTF-8.
+-- order is none of the two; or a board is none of the four; or a limit breaks its rule, and none before it does;
+-- or an option has no meaning where it is given, and none before it. Text is UTF-8.
 abbrev pub IsLineErrorOfWords : List Text → LineError → Type 0
 IsLineErrorOfWords words (Parser e) = HasKind (faults words) e
 IsLineErrorOfWords words Modes = ParserAcceptsWords words × ¬ HasOneMode (rows words)
 IsLineErrorOfWords words Order = ParserAcceptsWords words × HasOneMode (rows words) × ¬ HasValidNameOrder (rows words)
 IsLineErrorOfWords words error.Board = ParserAcceptsWords words × HasOneMode (rows words) × HasValidNameOrder (rows words) × ¬ HasKnownBoard (rows words)
 IsLineErrorOfWords words (error.Limit limit) = NamesModeOrderAndBoard words × (broken_limit (rows words) ≡ Some limit)
+IsLineErrorOfWords words (error.Misuse misuse) = NamesModeOrderAndBoard words × (broken_limit (rows words) ≡ None) × (misused_option (rows words) ≡ Some misuse)
 IsLineErrorOfWords words NotUtf8 = ⊥

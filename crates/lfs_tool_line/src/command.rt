@@ -5,6 +5,8 @@ ghost use Rattle.clap.specs.Words.{FailsBy, app_of, fault_of, found_of, kind_of,
 ghost use Rattle.lfs_tool_line.specs.Command.{rule_of_check_option, rule_of_explain_option, rule_of_folder_option, rule_of_image_argument, rule_of_list_option, mklittlefs, rule_of_number_option, rule_of_order_option, with_mode_options, with_mode_size_and_order_options, with_size_options, with_version_option};
 ghost use Rattle.lfs_tool_line.specs.Matches.{HasGivenImage, faults, rows};
 
+use crate::extra_options::with_extra_options;
+use crate::mode_options::with_path_mode_options;
 use crate::options::{number_arg, with_board_and_version_options, with_limit_options};
 use crate::values::first_bad_number;
 use clap::error::ErrorKind;
@@ -16,6 +18,11 @@ use std::convert::AsStr;
 // that it was proved with.
 const VERSION: &str = "1.0.0 (littlefs on-disk version 2.0, rattle-kit-13f logic dac8208d650f15bf)";
 
+// The first lines of the help.
+const ABOUT: &str = "\
+Creates, unpacks, lists, checks or changes an image of a littlefs file system.
+With --explain, or MKLITTLEFS_EXPLAIN=1 in the environment, it says why it fails.";
+
 // The text below the options in the help.
 const EXAMPLES: &str = "\
 Examples:
@@ -23,6 +30,8 @@ Examples:
   mklittlefs -l disk.img                 lists what is in it, a line for each
   mklittlefs -u copy disk.img            puts what is in it into the folder copy
   mklittlefs --check disk.img            says what is wrong with it, or what is in it
+  mklittlefs --cat /log/today disk.img   writes the bytes of a file in it
+  mklittlefs --put wifi.txt /keys/wifi disk.img
   mklittlefs -c settings -b 1024 -p 128 -s 262144 disk.img
   mklittlefs -l -b 1024 -p 128 disk.img  one of 256 KiB with other blocks
   mklittlefs -c settings --order shorter-first disk.img
@@ -77,6 +86,11 @@ Files:
   that an old one stays where that fails. A file longer than the image isn't
   read. -u makes the folders above DIR. With --explain both say where they
   stopped.
+
+Paths:
+  PATH is a path in IMAGE, as /log/today. --put, --remove and --mkdir change
+  IMAGE in its place, whole or not at all. The folder above PATH has to be there.
+  - as FILE is standard input.
 
 Progress:
   At a terminal -c and -u show how much is done, once a second has gone by.";
@@ -218,9 +232,9 @@ fn clap_command_before_arguments_are_added<'a>(alloc: Global) -> Command<'a>
 {
     Command::new(alloc, "mklittlefs")
         .version(VERSION)
-        .about("Creates, unpacks, lists or checks an image of a littlefs file system.")
+        .about(ABOUT)
         .override_usage(
-            "mklittlefs (-c DIR | -u DIR | -l | --check) [-b N] [-p N] [-s N] [--order ORDER] [--name-max N] [--file-max N] [--attr-max N] [--inline-max N] [--board NAME] [--also-2.1] [--explain] IMAGE",
+            "mklittlefs (-c DIR | -u DIR | -l | --check | --cat PATH | --put FILE PATH | --remove PATH | --mkdir PATH) [OPTIONS] IMAGE",
         )
         .after_help(EXAMPLES)
 }
@@ -262,6 +276,7 @@ fn with_mode_size_and_order_options<'a>(alloc: Global) -> Result<Command<'a>, Al
         alloc,
         clap_command_before_arguments_are_added(alloc),
     )?;
+    let command = with_path_mode_options(alloc, command)?;
     let command = with_size_options(alloc, command)?;
     let command = add_name_order_option_to_command(alloc, command)?;
     Ok(command)
@@ -274,6 +289,7 @@ fn mklittlefs_command<'a>(alloc: Global) -> Result<Command<'a>, AllocError>
     let command = with_mode_size_and_order_options(alloc)?;
     let command = with_limit_options(alloc, command)?;
     let command = with_board_and_version_options(alloc, command)?;
+    let command = with_extra_options(alloc, command)?;
     let command = add_explain_option_to_command(alloc, command)?;
     let command = add_image_argument_to_command(alloc, command)?;
     Ok(command)

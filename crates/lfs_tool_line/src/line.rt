@@ -1,11 +1,13 @@
-ghost use Rattle.std.specs.Prelude.{◌≡◌, List, IfErr, IfOk, MatchOption, Some, map};
+ghost use Rattle.std.specs.Prelude.{◌≡◌, List, IfErr, IfOk, Some, map};
 ghost use Rattle.clap.specs.Words.{Text, found_of, rows_of};
 ghost use Rattle.lfs_tool_line.specs.Choices.{AreChoicesOfParsedArguments};
-ghost use Rattle.lfs_tool_line.specs.Matches.{HasOneMode, HasGivenImage, IsLineErrorOfWords, IsCommandLineOfParsedArguments, IsModeOfParsedArguments, ParserAcceptsWords, broken_limit, given_board, given_name_order, name_order_of_text, rows};
+ghost use Rattle.lfs_tool_line.specs.Matches.{HasGivenImage, IsLineErrorOfWords, IsCommandLineOfParsedArguments, IsRequestOfParsedArguments, ParserAcceptsWords, broken_limit, given_board, given_name_order, name_order_of_text, rows};
 
 use crate::board::Board;
 use crate::command::parse_command_line_words;
+use crate::extras::{Extras, Misuse, extras_of_matches, misused_option};
 use crate::limits::{Limit, first_broken_limit, given_or_other_profile};
+use crate::modes::mode_of_matches;
 use crate::values::{argument_text, flag_value_in_matches, given_or_other_number};
 use clap::ArgMatches;
 use lfs_model::{NameOrder, Profile};
@@ -24,6 +26,14 @@ pub enum Mode<'a> {
     List,
     /// Check the image.
     Check,
+    /// Write the bytes of the file at this path in the image.
+    Cat(&'a str),
+    /// Put the bytes of this file at this path in the image.
+    Put(&'a str, &'a str),
+    /// Remove what is at this path in the image.
+    Remove(&'a str),
+    /// Make a directory at this path in the image.
+    Mkdir(&'a str),
 }
 
 /// The request of a command line. Its numbers are as they were given: no size is checked here.
@@ -46,6 +56,13 @@ pub struct Line<'a> {
     pub image: &'a str,
 }
 
+/// A line, and what it requests beside its image.
+#[derive(Debug, Drop)]
+pub struct Request<'a> {
+    pub line: Line<'a>,
+    pub extras: Extras<'a>,
+}
+
 // What of a line is one of several names.
 #[derive(Clone, Copy)]
 struct Choices<'a> {
@@ -61,7 +78,7 @@ pub enum LineError {
     /// isn't granted.
     #[error(transparent)]
     Parser(clap::Error),
-    /// None of `-c`, `-u`, `-l` and `--check` is given, or more than one is.
+    /// None of the modes is given, or more than one is.
     #[error("error: give exactly one of -c, -u, -l")]
     Modes,
     /// The order of names is neither `longer-first` nor `shorter-first`.
@@ -73,27 +90,12 @@ pub enum LineError {
     /// A limit is 0, or larger than it may be.
     #[error("error: {}", .0.rule())]
     Limit(Limit),
+    /// An option has no meaning with the mode.
+    #[error("error: {}", .0.rule())]
+    Misuse(Misuse),
     /// A word isn't UTF-8. `read_line` doesn't return this, since its words are text.
     #[error("error: the command line is not UTF-8")]
     NotUtf8,
-}
-
-// Returns the mode, where exactly one is given.
-fn mode_of_matches<'a>(matches: &ArgMatches<'a>) -> Option<Mode<'a>>
-    ensures { MatchOption result (¬ HasOneMode (rows_of (found_of matches.now)))
-        (λ mode. HasOneMode (rows_of (found_of matches.now)) × IsModeOfParsedArguments (rows_of (found_of matches.now)) mode) }
-{
-    let create = argument_text(matches, "create");
-    let unpack = argument_text(matches, "unpack");
-    let list = flag_value_in_matches(matches, "list");
-    let check = flag_value_in_matches(matches, "check");
-    match (create, unpack, list, check) {
-        (Some(dir), None, false, false) => Some(Mode::Create(dir)),
-        (None, Some(dir), false, false) => Some(Mode::Unpack(dir)),
-        (None, None, true, false) => Some(Mode::List),
-        (None, None, false, true) => Some(Mode::Check),
-        _ => None,
-    }
 }
 
 // Returns the order that a text names.
@@ -174,8 +176,9 @@ fn command_line_of_matches<'a>(
 }
 
 /// Reads the words of a command line, the program's name first:
-/// `mklittlefs (-c DIR | -u DIR | -l | --check) [-b N] [-p N] [-s N] [--order ORDER] [--name-max N] [--file-max N]
-/// [--attr-max N] [--inline-max N] [--board NAME] [--also-2.1] [--explain] IMAGE`. The long names are `--create`,
+/// `mklittlefs (-c DIR | -u DIR | -l | --check | --cat PATH | --put FILE PATH | --remove PATH | --mkdir PATH) [-b N] [-p N] [-s N] [--order ORDER] [--name-max N] [--file-max N]
+/// [--attr-max N] [--inline-max N] [--board NAME] [--also-2.1] [--exclude PATTERN] [--follow-links] [--skip-links] [--json]
+/// [--explain] IMAGE`. The long names are `--create`,
 /// `--unpack`, `--list`, `--block`, `--page` and `--size`.
 ///
 /// A number is from 0 to 4294967295, as `4096`, `0x1000`, `4k` and `1.5M` are: decimal, hexadecimal, or in units of 1024
@@ -187,12 +190,12 @@ fn command_line_of_matches<'a>(
 ///
 /// # Errors
 /// `LineError::Parser` where the parser refuses the words or a number is none, where they ask for help or for the
-/// version, or where memory isn't granted. `LineError::Modes` where it takes them and not exactly one of `-c`, `-u`, `-l` and
-/// `--check` is given. `LineError::Order` where ORDER is neither, and `LineError::Board` where NAME is none of the four.
-/// `LineError::Limit` where a limit that is given is 0 or too large.
-pub fn read_line<'a, S: AsStr>(alloc: Global, words: &'a [S]) -> Result<Line<'a>, LineError>
-    ensures ok { IfOk result (λ line. ParserAcceptsWords (map S.text words.entry.now)
-        × IsCommandLineOfParsedArguments (rows (map S.text words.entry.now)) line) }
+/// version, or where memory isn't granted. `LineError::Modes` where it takes them and not exactly one mode is given. `LineError::Order` where ORDER is neither, and `LineError::Board` where NAME is none of the four.
+/// `LineError::Limit` where a limit that is given is 0 or too large. `LineError::Misuse` where another option is given with a
+/// mode for which it has no meaning.
+pub fn read_request<'a, S: AsStr>(alloc: Global, words: &'a [S]) -> Result<Request<'a>, LineError>
+    ensures ok { IfOk result (λ request. ParserAcceptsWords (map S.text words.entry.now)
+        × IsRequestOfParsedArguments (rows (map S.text words.entry.now)) request) }
     ensures err { IfErr result (IsLineErrorOfWords (map S.text words.entry.now)) }
 {
     let matches = match parse_command_line_words(alloc, words) {
@@ -203,8 +206,30 @@ pub fn read_line<'a, S: AsStr>(alloc: Global, words: &'a [S]) -> Result<Line<'a>
         Ok(choices) => choices,
         Err(error) => return Err(error),
     };
-    match command_line_of_matches(&matches, choices) {
-        Ok(line) => Ok(line),
-        Err(limit) => Err(LineError::Limit(limit)),
+    let line = match command_line_of_matches(&matches, choices) {
+        Ok(line) => line,
+        Err(limit) => return Err(LineError::Limit(limit)),
+    };
+    if let Some(misuse) = misused_option(&matches) {
+        return Err(LineError::Misuse(misuse));
+    }
+    match extras_of_matches(alloc, &matches) {
+        Ok(extras) => Ok(Request { line, extras }),
+        Err(error) => Err(LineError::Parser(clap::Error::from(error))),
+    }
+}
+
+/// Reads the words of a command line as `read_request` does, and returns the line alone.
+///
+/// # Errors
+/// Those of `read_request`.
+pub fn read_line<'a, S: AsStr>(alloc: Global, words: &'a [S]) -> Result<Line<'a>, LineError>
+    ensures ok { IfOk result (λ line. ParserAcceptsWords (map S.text words.entry.now)
+        × IsCommandLineOfParsedArguments (rows (map S.text words.entry.now)) line) }
+    ensures err { IfErr result (IsLineErrorOfWords (map S.text words.entry.now)) }
+{
+    match read_request(alloc, words) {
+        Ok(request) => Ok(request.line),
+        Err(error) => Err(error),
     }
 }

@@ -402,7 +402,7 @@ const INLINE_MAX: &str = "error: --inline-max is from 1 to 1022, and at most an 
 const BAD_PAGE: &str = "\
 error: invalid value '0x' for '--page <N>': a number is 4096, 0x1000, 4k or 1.5M, and at most 4294967295
 
-Usage: mklittlefs (-c DIR | -u DIR | -l | --check) [-b N] [-p N] [-s N] [--order ORDER] [--name-max N] [--file-max N] [--attr-max N] [--inline-max N] [--board NAME] [--also-2.1] [--explain] IMAGE
+Usage: mklittlefs (-c DIR | -u DIR | -l | --check | --cat PATH | --put FILE PATH | --remove PATH | --mkdir PATH) [OPTIONS] IMAGE
 
 For more information, try '--help'.
 ";
@@ -410,7 +410,7 @@ For more information, try '--help'.
 const BAD_PAGE_IN_UNITS: &str = "\
 error: invalid value '1.3k' for '--page <N>': a number is 4096, 0x1000, 4k or 1.5M, and at most 4294967295
 
-Usage: mklittlefs (-c DIR | -u DIR | -l | --check) [-b N] [-p N] [-s N] [--order ORDER] [--name-max N] [--file-max N] [--attr-max N] [--inline-max N] [--board NAME] [--also-2.1] [--explain] IMAGE
+Usage: mklittlefs (-c DIR | -u DIR | -l | --check | --cat PATH | --put FILE PATH | --remove PATH | --mkdir PATH) [OPTIONS] IMAGE
 
 For more information, try '--help'.
 ";
@@ -418,7 +418,7 @@ For more information, try '--help'.
 const BAD_NAME_MAX: &str = "\
 error: invalid value '0x100000000' for '--name-max <N>': a number is 4096, 0x1000, 4k or 1.5M, and at most 4294967295
 
-Usage: mklittlefs (-c DIR | -u DIR | -l | --check) [-b N] [-p N] [-s N] [--order ORDER] [--name-max N] [--file-max N] [--attr-max N] [--inline-max N] [--board NAME] [--also-2.1] [--explain] IMAGE
+Usage: mklittlefs (-c DIR | -u DIR | -l | --check | --cat PATH | --put FILE PATH | --remove PATH | --mkdir PATH) [OPTIONS] IMAGE
 
 For more information, try '--help'.
 ";
@@ -427,37 +427,48 @@ const VERSION: &str =
     "mklittlefs 1.0.0 (littlefs on-disk version 2.0, rattle-kit-13f logic dac8208d650f15bf)\n";
 
 const HELP: &str = "\
-Creates, unpacks, lists or checks an image of a littlefs file system.
+Creates, unpacks, lists, checks or changes an image of a littlefs file system.
+With --explain, or MKLITTLEFS_EXPLAIN=1 in the environment, it says why it fails.
 
-Usage: mklittlefs (-c DIR | -u DIR | -l | --check) [-b N] [-p N] [-s N] [--order ORDER] [--name-max N] [--file-max N] [--attr-max N] [--inline-max N] [--board NAME] [--also-2.1] [--explain] IMAGE
+Usage: mklittlefs (-c DIR | -u DIR | -l | --check | --cat PATH | --put FILE PATH | --remove PATH | --mkdir PATH) [OPTIONS] IMAGE
 
 Arguments:
   <IMAGE>  The file with the image, or - for standard input or output
 
 Options:
-  -c, --create <DIR>    Create IMAGE from the folder DIR
-  -u, --unpack <DIR>    Unpack IMAGE into the folder DIR
-  -l, --list            List the files and folders of IMAGE
-      --check           Say what is wrong with IMAGE, or what is in it
-  -b, --block <N>       Size of a block in bytes [default: 4096]
-  -p, --page <N>        Size of a page in bytes [default: 256]
-  -s, --size <N>        Size of the image in bytes, with -c [default: 65536]
-      --order <ORDER>   Order of names in the image that -c makes [default: longer-first]
-      --name-max <N>    Longest name in bytes, with -c [default: 255]
-      --file-max <N>    Longest file in bytes, with -c [default: 2147483647]
-      --attr-max <N>    Longest attribute in bytes, with -c [default: 1022]
-      --inline-max <N>  Longest inline file in bytes, with -c [default: an eighth of -b]
-      --board <NAME>    Take the numbers of a board where they aren't given
-      --also-2.1        Read images of version 2.1, too
-      --explain         Say why after the line of an error
-  -h, --help            Print help
-  -V, --version         Print version
+  -c, --create <DIR>       Create IMAGE from the folder DIR
+  -u, --unpack <DIR>       Unpack IMAGE into the folder DIR
+  -l, --list               List the files and folders of IMAGE
+      --check              Say what is wrong with IMAGE, or what is in it
+      --cat <PATH>         Write the bytes of the file at PATH in IMAGE to standard output
+      --put <FILE> <PATH>  Put the bytes of FILE at PATH in IMAGE
+      --remove <PATH>      Remove the file or the empty folder at PATH in IMAGE
+      --mkdir <PATH>       Make a folder at PATH in IMAGE
+  -b, --block <N>          Size of a block in bytes [default: 4096]
+  -p, --page <N>           Size of a page in bytes [default: 256]
+  -s, --size <N>           Size of the image in bytes, with -c [default: 65536]
+      --order <ORDER>      Order of names in the image that -c makes [default: longer-first]
+      --name-max <N>       Longest name in bytes, with -c [default: 255]
+      --file-max <N>       Longest file in bytes, with -c [default: 2147483647]
+      --attr-max <N>       Longest attribute in bytes, with -c [default: 1022]
+      --inline-max <N>     Longest inline file in bytes, with -c [default: an eighth of -b]
+      --board <NAME>       Take the numbers of a board where they aren't given
+      --also-2.1           Read images of version 2.1, too
+      --exclude <PATTERN>  Leave out the names that PATTERN fits, with -c
+      --follow-links       Read what symbolic links lead to, with -c
+      --skip-links         Leave out symbolic links, with -c
+      --json               Print JSON, with -l and --check
+      --explain            Say why after the line of an error
+  -h, --help               Print help
+  -V, --version            Print version
 
 Examples:
   mklittlefs -c settings disk.img        makes an image of the folder settings
   mklittlefs -l disk.img                 lists what is in it, a line for each
   mklittlefs -u copy disk.img            puts what is in it into the folder copy
   mklittlefs --check disk.img            says what is wrong with it, or what is in it
+  mklittlefs --cat /log/today disk.img   writes the bytes of a file in it
+  mklittlefs --put wifi.txt /keys/wifi disk.img
   mklittlefs -c settings -b 1024 -p 128 -s 262144 disk.img
   mklittlefs -l -b 1024 -p 128 disk.img  one of 256 KiB with other blocks
   mklittlefs -c settings --order shorter-first disk.img
@@ -512,6 +523,11 @@ Files:
   that an old one stays where that fails. A file longer than the image isn't
   read. -u makes the folders above DIR. With --explain both say where they
   stopped.
+
+Paths:
+  PATH is a path in IMAGE, as /log/today. --put, --remove and --mkdir change
+  IMAGE in its place, whole or not at all. The folder above PATH has to be there.
+  - as FILE is standard input.
 
 Progress:
   At a terminal -c and -u show how much is done, once a second has gone by.

@@ -2,13 +2,15 @@
 
 use crate::blocks::{EnoughBlocks, enough_blocks_for_entries};
 use crate::files::{Host, OldImage, is_standard_stream, open_image};
+use crate::limit_watch::{LimitWatch, PassedLimit};
+use crate::path_words::push_path_line;
 use crate::run::{folder_of_line, geometry_of_line, layout_of_line};
 use lfs_device::Error;
 use lfs_tool::{
     CheckResult, Fault, ImageInput, Line, Mode, RefusalReason, ToolError, ToolOutput, WrongNumber,
     check_result_of_image, lines_of_check_result, push_escaped_path, report, write_bytes_and_flush,
 };
-use lfs_tool_folders::{SourceError, read_tree};
+use lfs_tool_folders::{Source, SourceEntry, SourceError, read_tree};
 use lfs_tool_line::Sizes;
 use std::io::Write;
 
@@ -60,7 +62,19 @@ fn size_of_image(host: Host<'_>, line: &Line<'_>) -> Result<usize, ToolError> {
     Ok(size.min(most))
 }
 
-// The rule that the sizes break.
+// What is wrong with the path in the image of the line's mode.
+fn path_in_image_line(host: Host<'_>, line: &Line<'_>, error: Error) -> Result<Vec<u8>, ToolError> {
+    let mut text = Vec::new(host.alloc());
+    match line.mode {
+        Mode::Cat(path) | Mode::Put(_, path) | Mode::Remove(path) | Mode::Mkdir(path) => {
+            push_path_line(&mut text, path, error)?;
+        }
+        Mode::Create(_) | Mode::Unpack(_) | Mode::List | Mode::Check => {}
+    }
+    Ok(text)
+}
+
+// The rule that the sizes break, or what is wrong with the path in the image.
 fn size_rule_line(host: Host<'_>, line: &Line<'_>) -> Result<Vec<u8>, ToolError> {
     let sizes = Sizes {
         size: size_of_image(host, line)?,
@@ -68,8 +82,9 @@ fn size_rule_line(host: Host<'_>, line: &Line<'_>) -> Result<Vec<u8>, ToolError>
         page: line.page,
     };
     let mut text = Vec::new(host.alloc());
-    if let Some(rule) = sizes.broken_rule() {
-        sizes.push_broken_rule_line(&mut text, rule)?;
+    match sizes.broken_rule() {
+        Some(rule) => sizes.push_broken_rule_line(&mut text, rule)?,
+        None => return path_in_image_line(host, line, Error::Invalid),
     }
     Ok(text)
 }
@@ -98,15 +113,48 @@ fn check_lines(host: Host<'_>, line: &Line<'_>) -> Result<Vec<u8>, ToolError> {
     Ok(text)
 }
 
+// All that a source has.
+fn entries_of_source<S: Source>(
+    host: Host<'_>,
+    source: &mut S,
+) -> Result<Vec<SourceEntry>, ToolError> {
+    match read_tree(host.alloc(), source) {
+        Ok(entries) => Ok(entries),
+        Err(SourceError::Fault) => Err(ToolError::Input),
+        Err(SourceError::NoMemory) => Err(ToolError::Fs(Error::NoMemory)),
+    }
+}
+
+// The first name or file of a folder that passes a limit.
+fn passed_limit_line(
+    host: Host<'_>,
+    line: &Line<'_>,
+    folder: &str,
+    limit: PassedLimit,
+) -> Result<Vec<u8>, ToolError> {
+    let source = folder_of_line(host, line, folder, IMAGE_MAX)?;
+    let mut watch = LimitWatch {
+        source,
+        limit,
+        first: None,
+    };
+    entries_of_source(host, &mut watch)?;
+    let mut text = Vec::new(host.alloc());
+    match watch.first {
+        Some(words) => {
+            push_escaped_path(&mut text, folder.as_bytes())?;
+            text.extend_from_slice(words.as_slice())?;
+        }
+        None => text.extend_from_slice(b"no name and no file of the folder is too long by now\n")?,
+    }
+    Ok(text)
+}
+
 // How many blocks the image of a folder takes.
 fn needed_blocks_line(host: Host<'_>, line: &Line<'_>, folder: &str) -> Result<Vec<u8>, ToolError> {
     let blocks = geometry_of_line(line)?.block_count;
     let mut source = folder_of_line(host, line, folder, IMAGE_MAX)?;
-    let entries = match read_tree(host.alloc(), &mut source) {
-        Ok(entries) => entries,
-        Err(SourceError::Fault) => return Err(ToolError::Input),
-        Err(SourceError::NoMemory) => return Err(ToolError::Fs(Error::NoMemory)),
-    };
+    let entries = entries_of_source(host, &mut source)?;
     let mut text = Vec::new(host.alloc());
     let written = match enough_blocks_for_entries(host, line, entries.as_slice(), blocks) {
         Ok(EnoughBlocks::Count(count)) => {
@@ -133,6 +181,27 @@ fn needed_blocks_line(host: Host<'_>, line: &Line<'_>, folder: &str) -> Result<V
     }
 }
 
+// The lines that say why no image of a folder was made.
+fn new_image_lines(
+    host: Host<'_>,
+    line: &Line<'_>,
+    folder: &str,
+    error: Error,
+) -> Result<Vec<u8>, ToolError> {
+    match error {
+        Error::NoSpace => needed_blocks_line(host, line, folder),
+        Error::NameTooLong => {
+            let limit = PassedLimit::Name(line.profile.name_max);
+            passed_limit_line(host, line, folder, limit)
+        }
+        Error::TooBig => {
+            let limit = PassedLimit::File(line.profile.file_max);
+            passed_limit_line(host, line, folder, limit)
+        }
+        _ => Ok(Vec::new(host.alloc())),
+    }
+}
+
 // The lines that say why a line ended in this error.
 fn explanation_lines(
     host: Host<'_>,
@@ -143,11 +212,10 @@ fn explanation_lines(
         ToolError::Input | ToolError::Output => path_fault_line(host),
         ToolError::Fs(Error::Invalid) => size_rule_line(host, line),
         ToolError::Fs(Error::Corrupt) => check_lines(host, line),
-        ToolError::Fs(Error::NoSpace) => match line.mode {
-            Mode::Create(folder) => needed_blocks_line(host, line, folder),
-            _ => Ok(Vec::new(host.alloc())),
+        ToolError::Fs(error) => match line.mode {
+            Mode::Create(folder) => new_image_lines(host, line, folder, error),
+            _ => path_in_image_line(host, line, error),
         },
-        ToolError::Fs(_) => Ok(Vec::new(host.alloc())),
     }
 }
 

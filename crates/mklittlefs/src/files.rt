@@ -2,7 +2,7 @@
 
 use lfs_device::Error;
 use lfs_tool::{ToolError, WatchedStream};
-use lfs_tool_folders::{FaultLog, NewImage};
+use lfs_tool_folders::{FaultLog, FolderRules, NewImage};
 use std::alloc::Global;
 use std::fs::File;
 use std::io;
@@ -16,6 +16,10 @@ const READ_AHEAD: usize = 65_536;
 pub(crate) struct Host<'a> {
     pub(crate) rt: &'a HostRuntime,
     pub(crate) log: &'a FaultLog,
+    /// Whether the environment wants each error with its cause.
+    pub(crate) explains: bool,
+    /// How the folder of an image that is made is read.
+    pub(crate) rules: FolderRules<'a>,
 }
 
 impl<'a> Host<'a> {

@@ -3,19 +3,25 @@
 #![tactic(auto)]
 
 mod blocks;
+mod cat;
+mod change;
 mod explain;
 mod files;
+mod json;
+mod limit_watch;
+mod path_words;
 mod progress;
 #[cfg(test)]
 mod progress_tests;
 mod run;
 #[cfg(test)]
 mod run_tests;
+mod session;
 
 use crate::files::Host;
 use crate::run::run_words_and_return_exit_status;
 use lfs_tool::WatchedStream;
-use lfs_tool_folders::FaultLog;
+use lfs_tool_folders::{FaultLog, FolderRules};
 use std::process::ExitCode;
 use std::{env, io};
 
@@ -25,9 +31,22 @@ fn read_command_line_words(rt: &HostRuntime) -> io::Result<Vec<String>> {
     Ok(words)
 }
 
+// Whether the environment wants each error with its cause.
+fn is_explanation_wanted(rt: &HostRuntime) -> bool {
+    match env::var(rt, "MKLITTLEFS_EXPLAIN") {
+        Ok(value) => value.as_str() == "1",
+        Err(_) => false,
+    }
+}
+
 fn main(rt: HostRuntime) -> ExitCode {
     let log = FaultLog::new();
-    let host = Host { rt: &rt, log: &log };
+    let host = Host {
+        rt: &rt,
+        log: &log,
+        explains: is_explanation_wanted(&rt),
+        rules: FolderRules::new(),
+    };
     let mut out = WatchedStream::new(rt.stdout());
     let mut err = WatchedStream::new(rt.stderr());
     let words = read_command_line_words(&rt);

@@ -1,14 +1,17 @@
 // What a command line requests.
 
+use crate::cat::cat_file;
+use crate::change::change_image;
 use crate::explain::write_explanation;
 use crate::files::{Host, NotedWriter, open_image};
+use crate::json::{check_as_json, list_as_json};
 use crate::progress::progress_at_terminal;
 use lfs_device::{Error, Geometry};
 use lfs_tool::{
-    Fault, ImageLayout, Line, LineError, Mode, ToolError, ToolOutput, WatchedStream, check, create,
-    geometry_of_image_sizes, list, read_line, report, unpack,
+    Extras, Fault, ImageLayout, Line, LineError, Mode, Request, ToolError, ToolOutput,
+    WatchedStream, check, create, geometry_of_image_sizes, list, read_request, report, unpack,
 };
-use lfs_tool_folders::{FileLimits, Folder, TargetFolder};
+use lfs_tool_folders::{FileLimits, Folder, FolderRules, Links, TargetFolder};
 use std::io;
 use std::io::ErrorKind;
 
@@ -35,7 +38,7 @@ pub(crate) fn folder_of_line<'a>(
         file: u64::from(line.profile.file_max.min(2_147_483_647)),
     };
     let folder = Folder::with_file_limits(host.rt, host.log, path, limits)?;
-    Ok(folder)
+    Ok(folder.with_rules(host.rules))
 }
 
 // Makes the image of a folder, and puts it in its place once it is whole. Sizes that no image has are refused before
@@ -76,36 +79,67 @@ fn unpack_image(host: Host<'_>, line: &Line<'_>, folder: &str) -> Result<(), Too
 fn run_mode<W: ToolOutput>(
     host: Host<'_>,
     line: &Line<'_>,
+    json: bool,
     out: &mut W,
 ) -> Result<bool, ToolError> {
+    let layout = layout_of_line(line);
     match line.mode {
         Mode::List => {
             let mut image = open_image(host, line.image)?;
-            list(host.alloc(), &mut image, layout_of_line(line), out)?;
+            if json {
+                list_as_json(host, &mut image, layout, out)?;
+            } else {
+                list(host.alloc(), &mut image, layout, out)?;
+            }
         }
         Mode::Check => {
             let mut image = open_image(host, line.image)?;
-            return check(host.alloc(), &mut image, layout_of_line(line), out);
+            if json {
+                return check_as_json(host, &mut image, layout, out);
+            }
+            return check(host.alloc(), &mut image, layout, out);
         }
         Mode::Create(folder) => create_image(host, line, folder)?,
         Mode::Unpack(folder) => unpack_image(host, line, folder)?,
+        Mode::Cat(path) => cat_file(host, line, path, out)?,
+        Mode::Put(..) | Mode::Remove(_) | Mode::Mkdir(_) => change_image(host, line)?,
     }
     Ok(true)
 }
 
-// Does what a line requests, and returns the status. An error is shown, with its cause where the line requests that.
-fn run_line_and_return_exit_status<O: ToolOutput, E: ToolOutput>(
+// How the folder of an image that is made is read.
+fn folder_rules<'a>(extras: &'a Extras<'_>) -> FolderRules<'a> {
+    let links = if extras.follow_links {
+        Links::Follow
+    } else if extras.skip_links {
+        Links::Skip
+    } else {
+        Links::Refuse
+    };
+    FolderRules {
+        exclude: extras.exclude.as_slice(),
+        links,
+    }
+}
+
+// Does what is requested, and returns the status. An error is shown, with its cause where that is requested.
+fn run_request_and_return_exit_status<O: ToolOutput, E: ToolOutput>(
     host: Host<'_>,
-    line: &Line<'_>,
+    request: &Request<'_>,
     out: &mut O,
     err: &mut E,
 ) -> u8 {
-    match run_mode(host, line, out) {
+    let host = Host {
+        rules: folder_rules(&request.extras),
+        ..host
+    };
+    let line = &request.line;
+    match run_mode(host, line, request.extras.json, out) {
         Ok(true) => 0,
         Ok(false) => 1,
         Err(error) => {
             let status = report(&Fault::Tool(error), out, err);
-            if line.explain {
+            if line.explain || host.explains {
                 write_explanation(host, line, error, out, err);
             }
             status
@@ -134,8 +168,8 @@ pub(crate) fn run_words_and_return_exit_status<O: ToolOutput, E: ToolOutput>(
         Ok(words) => words,
         Err(error) => return report(&fault_of_words(&error), out, err),
     };
-    match read_line(host.alloc(), words.as_slice()) {
-        Ok(line) => run_line_and_return_exit_status(host, &line, out, err),
+    match read_request(host.alloc(), words.as_slice()) {
+        Ok(request) => run_request_and_return_exit_status(host, &request, out, err),
         Err(error) => report(&Fault::Line(error), out, err),
     }
 }

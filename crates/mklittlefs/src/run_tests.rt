@@ -3,7 +3,7 @@
 use crate::files::Host;
 use crate::run::run_words_and_return_exit_status;
 use lfs_tool::WatchedStream;
-use lfs_tool_folders::FaultLog;
+use lfs_tool_folders::{FaultLog, FolderRules};
 use std::alloc::{AllocError, Global};
 use std::test::Fail;
 use std::{fs, io};
@@ -15,7 +15,7 @@ const LEN: usize = 14;
 
 // The words of runs behind one another, the status, and what the last one writes to `out` and to `err`; the others write
 // nothing. How long the image is then. A folder `runs/files` has two files.
-const ROWS: [(&[&[&str]], u8, &str, &str, usize); 9] = [
+const ROWS: [(&[&[&str]], u8, &str, &str, usize); 17] = [
     (
         &[
             &["-c", "runs/files", "-s", "16384", "runs/image"],
@@ -59,6 +59,92 @@ const ROWS: [(&[&[&str]], u8, &str, &str, usize); 9] = [
         "",
         16384,
     ),
+    // what is left out, and lines as JSON
+    (
+        &[
+            &[
+                "-c",
+                "runs/files",
+                "--exclude",
+                "?",
+                "-s",
+                "16384",
+                "runs/image",
+            ],
+            &["-l", "runs/image"],
+        ],
+        0,
+        "",
+        "",
+        16384,
+    ),
+    (
+        &[
+            &[
+                "-c",
+                "runs/files",
+                "--exclude=b*",
+                "-s",
+                "16384",
+                "runs/image",
+            ],
+            &["-l", "--json", "runs/image"],
+        ],
+        0,
+        "{\"type\": \"file\", \"size\": 5, \"path\": \"/a\"}\n",
+        "",
+        16384,
+    ),
+    (
+        &[&["--check", "--json", "runs/image"]],
+        1,
+        "{\"ok\": false, \"reason\": \"no image of blocks of 4096 bytes and pages of 256\"}\n",
+        "",
+        LEN,
+    ),
+    (
+        &[&["-l", "--skip-links", "runs/image"]],
+        2,
+        "",
+        "error: --exclude, --follow-links and --skip-links are for -c\n",
+        LEN,
+    ),
+    // a path in an image
+    (
+        &[
+            &["-c", "runs/files", "-s", "32768", "runs/image"],
+            &["--mkdir", "/d", "runs/image"],
+            &["--put", "runs/files/a", "/d/c", "runs/image"],
+            &["--remove", "/a", "runs/image"],
+            &["-l", "runs/image"],
+        ],
+        0,
+        "f 0 /b\nd 0 /d\nf 5 /d/c\n",
+        "",
+        32768,
+    ),
+    (
+        &[
+            &["-c", "runs/files", "-s", "16384", "runs/image"],
+            &["--put", "runs/files/b", "/a", "runs/image"],
+            &["--put", "runs/files/a", "/b", "runs/image"],
+            &["--cat", "/b", "runs/image"],
+        ],
+        0,
+        "hello",
+        "",
+        16384,
+    ),
+    (
+        &[
+            &["-c", "runs/files", "-s", "16384", "runs/image"],
+            &["--remove", "/none", "--explain", "runs/image"],
+        ],
+        1,
+        "",
+        "error: NoEnt (2)\n/none: nothing is there, or a folder above it is missing\n",
+        16384,
+    ),
     // what refuses leaves the old image
     (
         &[&["-c", "runs/files", "-s", "4095", "--explain", "runs/image"]],
@@ -72,6 +158,20 @@ const ROWS: [(&[&[&str]], u8, &str, &str, usize); 9] = [
         1,
         "",
         "error: NoSpace (28)\n2 blocks are too few, it takes 4\n",
+        LEN,
+    ),
+    (
+        &[&[
+            "-c",
+            "runs/files",
+            "--file-max",
+            "4",
+            "--explain",
+            "runs/image",
+        ]],
+        1,
+        "",
+        "error: TooBig (27)\nruns/files/a: a file of 5 bytes, and 4 are the most\n",
         LEN,
     ),
     (
@@ -125,7 +225,12 @@ fn ends_so(
     let log = FaultLog::new();
     let mut written = WatchedStream::new(Vec::new(rt.alloc()));
     let mut told = WatchedStream::new(Vec::new(rt.alloc()));
-    let host = Host { rt, log: &log };
+    let host = Host {
+        rt,
+        log: &log,
+        explains: false,
+        rules: FolderRules::new(),
+    };
     let ended = run_words_and_return_exit_status(host, words, &mut written, &mut told);
     ended == status
         && written.inner().as_slice() == out.as_bytes()

@@ -1,0 +1,49 @@
+// A change of an image, which takes its place whole or not at all.
+
+use crate::files::{Host, NotedWriter, open_image};
+use crate::session::session_of_line;
+use lfs_device::{Error, RamDevice};
+use lfs_fs::{OpenFlags, Session};
+use lfs_tool::{Line, Mode, ToolError, WatchedStream, read_image, write_bytes_and_flush};
+
+// Puts a file of these bytes at a path in the image, in place of one that is there.
+fn put_bytes(
+    host: Host<'_>,
+    session: &mut Session<RamDevice>,
+    path: &str,
+    bytes: &[u8],
+) -> Result<(), Error> {
+    let flags = OpenFlags::WRITE | OpenFlags::CREATE | OpenFlags::TRUNCATE;
+    let file = session.open(host.alloc(), path.as_bytes(), flags)?;
+    session.write(host.alloc(), file, bytes)?;
+    session.close(host.alloc(), file)
+}
+
+// Makes the change of the line's mode. The other modes change nothing.
+fn change_in_session(
+    host: Host<'_>,
+    line: &Line<'_>,
+    session: &mut Session<RamDevice>,
+) -> Result<(), ToolError> {
+    match line.mode {
+        Mode::Put(file, path) => {
+            let mut file = open_image(host, file)?;
+            let bytes = read_image(host.alloc(), &mut file)?;
+            put_bytes(host, session, path, bytes.as_slice())?;
+        }
+        Mode::Remove(path) => session.remove(host.alloc(), path.as_bytes())?,
+        Mode::Mkdir(path) => session.mkdir(host.alloc(), path.as_bytes())?,
+        _ => {}
+    }
+    Ok(())
+}
+
+/// Changes the line's image as its mode says, and puts it in its place. A refusal leaves the image as it is.
+pub(crate) fn change_image(host: Host<'_>, line: &Line<'_>) -> Result<(), ToolError> {
+    let mut session = session_of_line(host, line)?;
+    change_in_session(host, line, &mut session)?;
+    let bytes = session.unmount().to_bytes();
+    let mut image = WatchedStream::new(NotedWriter::new(host, line.image)?);
+    write_bytes_and_flush(&mut image, bytes.as_slice())?;
+    image.into_inner().place()
+}

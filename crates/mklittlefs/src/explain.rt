@@ -2,7 +2,7 @@
 
 use crate::blocks::{EnoughBlocks, enough_blocks_for_entries};
 use crate::files::{Host, OldImage, is_standard_stream, open_image};
-use crate::run::{folder_of_line, geometry_of_line, layout_of_line};
+use crate::run::{folder_of_line, geometry_of_line, layout_of_line, refusing_file_limit};
 use lfs_device::Error;
 use lfs_tool::{
     CheckResult, Fault, ImageInput, Line, Mode, RefusalReason, ToolError, ToolOutput, WrongNumber,
@@ -101,14 +101,16 @@ fn check_lines(host: Host<'_>, line: &Line<'_>) -> Result<Vec<u8>, ToolError> {
 // How many blocks the image of a folder takes.
 fn needed_blocks_line(host: Host<'_>, line: &Line<'_>, folder: &str) -> Result<Vec<u8>, ToolError> {
     let blocks = geometry_of_line(line)?.block_count;
-    let mut source = folder_of_line(host, line, folder, IMAGE_MAX)?;
+    let mut source = folder_of_line(host, folder, IMAGE_MAX)?;
     let entries = match read_tree(host.alloc(), &mut source) {
         Ok(entries) => entries,
         Err(SourceError::Fault) => return Err(ToolError::Input),
         Err(SourceError::NoMemory) => return Err(ToolError::Fs(Error::NoMemory)),
     };
+    let mut line = *line;
+    line.profile.file_max = refusing_file_limit(&source, IMAGE_MAX, line.profile.file_max);
     let mut text = Vec::new(host.alloc());
-    let written = match enough_blocks_for_entries(host, line, entries.as_slice(), blocks) {
+    let written = match enough_blocks_for_entries(host, &line, entries.as_slice(), blocks) {
         Ok(EnoughBlocks::Count(count)) => {
             writeln!(text, "{blocks} blocks are too few, it takes {count}")
         }

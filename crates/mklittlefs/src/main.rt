@@ -5,6 +5,7 @@
 mod blocks;
 mod explain;
 mod files;
+mod leftovers;
 mod progress;
 #[cfg(test)]
 mod progress_tests;
@@ -12,10 +13,11 @@ mod run;
 #[cfg(test)]
 mod run_tests;
 
-use crate::files::Host;
+use crate::files::{Host, Lines};
 use crate::run::run_words_and_return_exit_status;
 use lfs_tool::WatchedStream;
 use lfs_tool_folders::FaultLog;
+use std::cell::Cell;
 use std::process::ExitCode;
 use std::{env, io};
 
@@ -27,8 +29,16 @@ fn read_command_line_words(rt: &HostRuntime) -> io::Result<Vec<String>> {
 
 fn main(rt: HostRuntime) -> ExitCode {
     let log = FaultLog::new();
-    let host = Host { rt: &rt, log: &log };
-    let mut out = WatchedStream::new(rt.stdout());
+    let fault = Cell::new(None);
+    let host = Host {
+        rt: &rt,
+        log: &log,
+        fault_of_lines: &fault,
+    };
+    let mut out = WatchedStream::new(Lines {
+        stream: rt.stdout(),
+        fault: &fault,
+    });
     let mut err = WatchedStream::new(rt.stderr());
     let words = read_command_line_words(&rt);
     ExitCode::from(run_words_and_return_exit_status(host, words, &mut out, &mut err))

@@ -172,7 +172,8 @@ def wrong_sizes(image, block_size, page):
     try:
         image_reader.check_geometry(len(image), block_size, page)
     except image_reader.Refused:
-        yield "sizes", f"no image of blocks of {block_size} bytes and pages of {page}"
+        size = min(len(image), LARGEST_IMAGE + 1)
+        yield "sizes", f"no image of blocks of {block_size} bytes and pages of {page} has {size} bytes"
 
 
 def place(address, ident, slot):

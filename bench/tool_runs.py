@@ -2,6 +2,7 @@
 
 Each row is run in a folder with these alone: `files` with `a` (hello) and `b` (empty), an old image, and what the row puts beside them.
 """
+import fcntl
 import os
 import resource
 import shutil
@@ -19,6 +20,8 @@ NO_TEXT = simple_plan([((0, 1), [superblock(4096, 16), inline(b"\xff", b"hello")
 UNPACKED = {"a": b"hello", "d": {"x": b""}}
 FOLDER, NOTHING = object(), object()
 SHORT = "-b 1024 -p 128 -s 4096"
+# the eight letters of a superblock and other numbers behind them, without its tags
+UNTAGGED = bytes(8) + b"littlefs" + bytes(range(1, 29)) + bytes(65492)
 CHECKED = "used 2 of 16 blocks\nfree 14\norder either\nrecover no\nwritable yes\n"
 CORRUPT = "error: Corrupt (84)\ncorrupt\npair 0 1: no commit with a right checksum\n"
 MISSING = ": No such file or directory (os error 2)\n"
@@ -42,7 +45,10 @@ RUNS = [
     ({}, ["-c . image", "-l image"], (0, "d 0 /files\nf 5 /files/a\nf 0 /files/b\nf 14 /image\n", ""), {"image": 65536}),
     ({"l": link("image"), "e": FOLDER}, ["-c files l", "-c e l", "-l image"], (0, "", ""), {"image": 65536}),
     ({"e": FOLDER}, ["-c files e/image", "-c e -s 131072 image", "-l image"], (0, "f 65536 /image\n", ""), {"image": 131072}),
-    ({".mklittlefs-0": b"other"}, ["-c files image"], (0, "", ""), {"image": 65536, ".mklittlefs-0": b"other", ".mklittlefs-1": NOTHING}),
+    # what a run has left beside it goes, unless it has no bytes
+    ({".mklittlefs-0": b"other", ".mklittlefs-2": b"", ".mklittlefs-7": b"other"}, ["-c files image"], (0, "", ""),
+     {"image": 65536, ".mklittlefs-0": NOTHING, ".mklittlefs-1": NOTHING, ".mklittlefs-2": b"", ".mklittlefs-7": NOTHING}),
+    ({".mklittlefs-0": b"other"}, ["-c none image"], (3, "", "error: input\n"), {"image": OLD, ".mklittlefs-0": b"other"}),
     # what refuses leaves the old one
     ({}, ["-c files -b 128 -p 1024 -s 4096 image"], (1, "", "error: Invalid (22)\n"), KEPT),
     ({}, ["-c none -s 65537 image"], (1, "", "error: Invalid (22)\n"), KEPT),
@@ -77,7 +83,8 @@ RUNS = [
     ({"image": IMAGE}, ["-l image"], (0, "f 5 /a\nd 0 /d\nf 0 /d/x\n", ""), {"image": IMAGE}),
     ({}, ["-c files image", "--check image"], (0, "ok\nfiles 2\ndirectories 0\n" + CHECKED, ""), {}),
     ({}, ["-c files image", "--check image -b 8192"], (1, "corrupt\nsuperblock: block size 4096, given 8192\n", ""), {}),
-    ({}, ["--check image"], (1, "corrupt\nno image of blocks of 4096 bytes and pages of 256\n", ""), KEPT),
+    ({}, ["--check image"], (1, "corrupt\nno image of blocks of 4096 bytes and pages of 256 has 14 bytes\n", ""), KEPT),
+    ({"z": UNTAGGED}, ["--check z"], (1, "corrupt\npair 0 1: no commit with a right checksum\n", ""), {}),
     ({}, ["-l -b 0 image"], (1, "", "error: Invalid (22)\n"), KEPT),
     ({}, ["-l -p 0 image"], (1, "", "error: Invalid (22)\n"), KEPT),
     ({}, ["-u files image"], (1, "", "error: Invalid (22)\n"), KEPT),
@@ -90,6 +97,11 @@ RUNS = [
     ({"image": IMAGE}, ["-u x/y image"], (0, "", ""), {"x/y": UNPACKED}),
     ({"image": IMAGE, "o/a": b"an older file", "o/d/y": b"older"}, ["-u o image"], (0, "", ""),
      {"o": {"a": b"hello", "d": {"x": b"", "y": b"older"}}}),
+    ({"e": FOLDER}, ["-c e image", "-u x/y image"], (0, "", ""), {"x/y": {}}),
+    ({"e": FOLDER, "o": link("files")}, ["-c e image", "-u o image"], (0, "", ""), {}),
+    ({"image": IMAGE, "t": FOLDER, "o": link("t")}, ["-u o image"], (0, "", ""), {"t": UNPACKED}),
+    ({"image": IMAGE, "o": link("none")}, ["-u o image"], (3, "", "error: output\n"), {"none": NOTHING}),
+    ({"image": IMAGE, "o": link("files/a")}, ["-u o image"], (3, "", "error: output\n"), {"files/a": b"hello"}),
     ({"image": IMAGE, "o/a": FOLDER}, ["-u o image"], (3, "", "error: output\n"), {"o": {"a": {}}}),
     ({"image": IMAGE, "o/d": b"older"}, ["-u o image"], (3, "", "error: output\n"), {"o": {"a": b"hello", "d": b"older"}}),
     ({"image": NO_TEXT, "o": FOLDER}, ["-u o image"], (3, "", "error: output\n"), {"o": {}}),
@@ -232,6 +244,11 @@ def small_files():
     resource.setrlimit(resource.RLIMIT_FSIZE, (8192, 8192))
 
 
+def little_memory():
+    """256 MiB of memory."""
+    resource.setrlimit(resource.RLIMIT_AS, (1 << 28, 1 << 28))
+
+
 def rows(tool, folder):
     """What was run, what came, and what has to come."""
     top = os.path.join(folder, "runs")
@@ -250,6 +267,24 @@ def rows(tool, folder):
     with open("/dev/full", "wb") as full:
         came = run(tool, "-c files --explain -", top, stdout=full)
     yield "a standard output that is full", came, (3, None, b"error: output\n-: No space left on device (os error 28)\n")
+    with open("/dev/full", "wb") as full:
+        for words in "--help", "-h", "--version":
+            yield f"{words} to a full output", run(tool, words, top, stdout=full), (3, None, b"error: output\n")
+        yield "lines to a full output", run(tool, f"-l {SHORT} image", top, stdout=full), (3, None, b"error: output\n")
+    for words in f"-l {SHORT} image", "--help":
+        unread, closed = os.pipe()
+        os.close(unread)
+        yield f"{words} to a pipe that nobody reads", run(tool, words, top, stdout=closed), (3, None, b"")
+        os.close(closed)
+    put(top, "long/c", long(3 << 30))
+    yield "a file that is too big, in little memory", run(tool, "-c long i", top, preexec_fn=little_memory), (1, b"", b"error: TooBig (27)\n")
+    put(top, ".mklittlefs-0", b"another run's")
+    with open(os.path.join(top, ".mklittlefs-0"), "rb") as another:
+        fcntl.flock(another, fcntl.LOCK_EX)
+        came = run(tool, f"-c files {SHORT} image", top)
+    yield "an image that another run makes", (came, left(top, {".mklittlefs-0": b"another run's"})), (
+        (0, b"", b""), ({".mklittlefs-0": b"another run's"}, []))
+    os.remove(os.path.join(top, ".mklittlefs-0"))
     yield "a device that is full", run(tool, "-c files --explain /dev/full", top), (
         3, b"", b"error: output\n/dev/full: No space left on device (os error 28)\n")
     came = run(tool, "-c files --explain image", top, preexec_fn=small_files)

@@ -42,4 +42,4 @@ pub refused_read : (known : Option (List ℕ)) (layout : ImageLayout) (items : L
 refused_read None layout items given c read long is refused = tt
 refused_read (Some bytes) layout items given c read long is refused =
     let more = too_long bytes items read long in
-    refused bytes more (no_image layout.block_size layout.page bytes more) (record { size_is = is.size_is; page_is = is.page_is; count_is = λ some short. absurd (omega arith) })
+    refused bytes more (no_image layout.block_size layout.page bytes more) (record { size_is = is.size_is; page_is = is.page_is; length_is = λ short. absurd (omega arith); past_is = λ past. is.past_is long; count_is = λ some short. absurd (omega arith) })

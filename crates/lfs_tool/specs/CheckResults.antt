@@ -36,10 +36,12 @@ IsReasonForRefusedBytes layout image (reason.WrongNumber stated) = IsWrongNumber
 IsReasonForRefusedBytes layout image reason.NoImage = IsWrongNumberIfAny layout image None × ¬ IsImageOfWholeBlocks layout.block_size layout.page image
 IsReasonForRefusedBytes layout image (reason.Broken rule) = IsWrongNumberIfAny layout image None × IsTrueOfDiskOfImage layout image (λ disk. BreaksInSomeOrder disk rule.violation)
 
--- the sizes are those that were given; there are so many whole blocks, unless the bytes are more than an image may have
+-- the sizes are those that were given; there are so many bytes and whole blocks, unless the bytes are more than an image may have
 pub record AreReportedSizesThoseGivenToCheck (layout : ImageLayout) (image : List ℕ) (given : GivenSizes) : Type 0 where
   pub size_is : given.block_size ≡ layout.block_size
   pub page_is : given.page ≡ layout.page
+  pub length_is : IsShortEnoughForImage image → given.size ≡ length image
+  pub past_is : 268435456 < length image → 268435456 < given.size
   pub count_is : 0 < layout.block_size → IsShortEnoughForImage image → given.blocks ≡ length image / layout.block_size
 
 -- the bytes aren't an image that is accepted, in either order of names

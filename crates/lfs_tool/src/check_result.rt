@@ -3,12 +3,13 @@
 use crate::verdict::{AcceptedOrders, BrokenRule, ImageSummary};
 use crate::wrong_number::WrongNumber;
 
-/// The sizes with which an image is checked: of a block and a page in bytes, and the number of
-/// whole blocks.
+/// The sizes with which an image is checked: of a block, a page and the image in bytes, and the number of
+/// whole blocks. Of bytes that are more than an image may have, one more than these is counted.
 #[derive(Clone, Copy, Debug, PartialEq, Eq, Drop)]
 pub struct GivenSizes {
     pub block_size: u32,
     pub page: u32,
+    pub size: usize,
     pub blocks: usize,
 }
 

@@ -330,7 +330,9 @@ fn push_no_image_of_given_sizes_text(
         block_size,
         " bytes and pages of ",
         page,
-    )
+    )?;
+    push_labelled_number(text, " has ", given.size)?;
+    push_text(text, " bytes")
 }
 
 fn push_unaccepted_reason(

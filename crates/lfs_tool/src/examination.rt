@@ -47,6 +47,7 @@ fn given_sizes_with_block_count_of_image(len: usize, layout: ImageLayout) -> Giv
     GivenSizes {
         block_size: layout.block_size,
         page: layout.page,
+        size: len,
         blocks,
     }
 }

@@ -50,6 +50,7 @@ fn given_sizes(geometry: &Geometry) -> GivenSizes {
     GivenSizes {
         block_size: geometry.block_size,
         page: geometry.page,
+        size: geometry.block_size as usize * geometry.block_count as usize,
         blocks: geometry.block_count as usize,
     }
 }

@@ -6,7 +6,6 @@
 mod entries;
 mod fault_log;
 mod file_bytes;
-mod file_limits;
 mod folder_rules;
 mod full_path;
 mod names;
@@ -24,7 +23,6 @@ mod zeros;
 
 pub use entries::{SourceEntry, read_tree};
 pub use fault_log::{FaultLog, PathFault};
-pub use file_limits::FileLimits;
 pub use folder_rules::{FolderRules, Links};
 pub use new_image::NewImage;
 pub use source::{ListedName, Source, SourceError, SourceKind};

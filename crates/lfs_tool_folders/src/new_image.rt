@@ -55,6 +55,11 @@ impl<'a, R: Files> NewImage<'a, R> {
         })
     }
 
+    /// Borrows its file, once it is made. A write of no bytes makes it, too.
+    pub fn file(&self) -> Option<&R::File> {
+        self.file.as_ref()
+    }
+
     /// Puts the image at its path. Flush it before, and place it only where each write has succeeded. Where
     /// nothing was written an old file stays.
     ///

@@ -1,13 +1,11 @@
 ghost use Rattle.std.specs.Prelude.{◌≡◌, ◌↔◌, IfOk, suc};
 ghost use Rattle.std.specs.IoError.{error_kind};
-ghost use Rattle.lfs_tool_folders.specs.Roots.{root_path_of_source_folder, file_limits_of_source_folder};
+ghost use Rattle.lfs_tool_folders.specs.Roots.{image_size_of_source_folder, root_path_of_source_folder};
 
 use crate::file_bytes::read_at_most;
 use crate::full_path::{full_path, full_path_joined_with_name_unless_empty};
-use crate::zeros::{number_of_zeros_refused_like_too_long_file, zeros};
-use crate::{
-    FaultLog, FileLimits, FolderRules, Links, ListedName, Source, SourceError, SourceKind, Tally,
-};
+use crate::zeros::zeros_of_too_long_file;
+use crate::{FaultLog, FolderRules, Links, ListedName, Source, SourceError, SourceKind, Tally};
 use std::alloc::{AllocError, Global};
 use std::fs::{File, FileType, Metadata, OpenFile};
 use std::io::ErrorKind;
@@ -18,13 +16,16 @@ use std::{fs, io};
 /// folder. So is a symbolic link, unless the folder's rules say otherwise. A fault is noted in a log, with the path that it comes from.
 ///
 /// It can be made for an image of so many bytes. Then a file that is longer than that isn't read, since
-/// no such image holds it. Zeros stand for its bytes, so many that they are refused as the file is.
+/// no such image holds it. Zeros stand for its bytes, one more than the image has.
 #[derive(Drop)]
 pub struct Folder<'a, R> {
     rt: &'a R,
     root: String,
     log: &'a FaultLog,
-    limits: FileLimits,
+    // How many bytes the image has.
+    image: u64,
+    // The length of the first file that was longer.
+    too_long: Option<u64>,
     rules: FolderRules<'a>,
     faults: Tally,
 }
@@ -66,28 +67,25 @@ impl<'a, R: Files + AllocGlobal + Clone + Drop> Folder<'a, R> {
     pub fn new(rt: &'a R, log: &'a FaultLog, root: &str) -> Result<Folder<'a, R>, AllocError>
         ensures root { IfOk result (λ f. root_path_of_source_folder f ≡ root.now) }
     {
-        let limits = FileLimits {
-            image: u64::MAX,
-            file: u64::MAX,
-        };
-        Folder::with_file_limits(rt, log, root, limits)
+        Folder::for_image_of_size(rt, log, root, u64::MAX)
     }
 
-    /// Makes the same source for an image of such a size, with files of such a length.
-    pub fn with_file_limits(
+    /// Makes the same source for an image of so many bytes.
+    pub fn for_image_of_size(
         rt: &'a R,
         log: &'a FaultLog,
         root: &str,
-        limits: FileLimits,
+        image: u64,
     ) -> Result<Folder<'a, R>, AllocError>
         ensures root { IfOk result (λ f. root_path_of_source_folder f ≡ root.now) }
-        ensures limits { IfOk result (λ f. file_limits_of_source_folder f ≡ limits) }
+        ensures image { IfOk result (λ f. image_size_of_source_folder f ≡ image) }
     {
         Ok(Folder {
             rt,
             root: String::from_str(rt.alloc(), root)?,
             log,
-            limits,
+            image,
+            too_long: None,
             rules: FolderRules::new(),
             faults: Tally::none(),
         })
@@ -126,6 +124,11 @@ impl<'a, R: Files + AllocGlobal + Clone + Drop> Folder<'a, R> {
         Ok(Some(listed))
     }
 
+    /// Returns the length of the first file that was longer than the image, of those that were read.
+    pub fn first_too_long_file(&self) -> Option<u64> {
+        self.too_long
+    }
+
     fn list_names_in_folder(&self, alloc: Global, path: &[u8]) -> io::Result<Vec<ListedName>> {
         let full = full_path(self.rt.alloc(), self.root.as_str(), path)?;
         let mut names = Vec::new(alloc);
@@ -152,19 +155,22 @@ impl<'a, R: Files + AllocGlobal + Clone + Drop> Folder<'a, R> {
 
     // Returns the bytes of a file. A listed length that is too great is asked for again, since the file may be
     // shorter by now.
-    fn read_file_bytes(&self, path: &[u8], listed_len: u64) -> io::Result<Vec<u8>> {
+    fn read_file_bytes(&mut self, path: &[u8], listed_len: u64) -> io::Result<Vec<u8>>
+        ensures { self.new.faults ≡ self.old.faults }
+    {
         let full = full_path(self.rt.alloc(), self.root.as_str(), path)?;
         let file = File::open(self.rt, full.as_str())?;
-        let len = if listed_len > self.limits.image {
+        let len = if listed_len > self.image {
             file.metadata()?.len()
         } else {
             listed_len
         };
-        if let Some(count) = number_of_zeros_refused_like_too_long_file(len, self.limits) {
-            return Ok(zeros(self.rt.alloc(), count)?);
+        if let Some(zeros) = zeros_of_too_long_file(self.rt.alloc(), len, self.image)? {
+            self.too_long = self.too_long.or(Some(len));
+            return Ok(zeros);
         }
         // A file that has become longer since is too long, too.
-        let most = self.limits.image.saturating_add(1);
+        let most = self.image.saturating_add(1);
         read_at_most(self.rt.alloc(), file, len as usize, most)
     }
 

@@ -10,8 +10,8 @@ use std::io::{ErrorKind, Write};
 use std::rt::Files;
 use std::{fs, io};
 
-/// A folder of the real file system. It is made at the first call where it isn't there, and so are the
-/// folders above it. A name that isn't UTF-8 is a fault. So is a path with something else than a file
+/// A folder of the real file system, or a link to one. It is made at the first call where it isn't there, and so
+/// are the folders above it. A name that isn't UTF-8 is a fault. So is a path in it with something else than a file
 /// or a folder, as a symbolic link. A fault is noted in a log, with the path that it comes from.
 #[derive(Drop)]
 pub struct TargetFolder<'a, R> {
@@ -32,11 +32,15 @@ fn make_folder_unless_present<R: Files>(rt: &R, path: &str) -> io::Result<()> {
     }
 }
 
-// Makes a folder and those above it, unless there is one.
+// Makes a folder and those above it, unless there is one, or a link to one.
 fn make_folder_and_parents<R: Files>(rt: &R, path: &str) -> io::Result<()> {
     match make_folder_unless_present(rt, path) {
         Err(error) if error.kind() == ErrorKind::NotFound => fs::create_dir_all(rt, path),
-        other => other,
+        Err(error) => match fs::metadata(rt, path) {
+            Ok(there) if there.is_dir() => Ok(()),
+            _ => Err(error),
+        },
+        Ok(()) => Ok(()),
     }
 }
 
@@ -81,8 +85,12 @@ impl<'a, R: Files + AllocGlobal + Clone + Drop> TargetFolder<'a, R> {
             .note_below_root(self.rt.alloc(), root, path, b"", error);
     }
 
+    // Makes the folder at a path. The empty path is that of the target itself.
     fn make_folder_at_path(&self, path: &[u8]) -> io::Result<()> {
         let full = self.make_target_folder_and_return_full_path(path)?;
+        if path.is_empty() {
+            return Ok(());
+        }
         make_folder_unless_present(self.rt, full.as_str())
     }
 

@@ -4,7 +4,7 @@ use crate::blocks::{EnoughBlocks, enough_blocks_for_entries};
 use crate::files::{Host, OldImage, is_standard_stream, open_image};
 use crate::limit_watch::{LimitWatch, PassedLimit};
 use crate::path_words::push_path_line;
-use crate::run::{folder_of_line, geometry_of_line, layout_of_line};
+use crate::run::{folder_of_line, geometry_of_line, layout_of_line, refusing_file_limit};
 use lfs_device::Error;
 use lfs_tool::{
     CheckResult, Fault, ImageInput, Line, Mode, RefusalReason, ToolError, ToolOutput, WrongNumber,
@@ -132,7 +132,7 @@ fn passed_limit_line(
     folder: &str,
     limit: PassedLimit,
 ) -> Result<Vec<u8>, ToolError> {
-    let source = folder_of_line(host, line, folder, IMAGE_MAX)?;
+    let source = folder_of_line(host, folder, IMAGE_MAX)?;
     let mut watch = LimitWatch {
         source,
         limit,
@@ -153,10 +153,12 @@ fn passed_limit_line(
 // How many blocks the image of a folder takes.
 fn needed_blocks_line(host: Host<'_>, line: &Line<'_>, folder: &str) -> Result<Vec<u8>, ToolError> {
     let blocks = geometry_of_line(line)?.block_count;
-    let mut source = folder_of_line(host, line, folder, IMAGE_MAX)?;
+    let mut source = folder_of_line(host, folder, IMAGE_MAX)?;
     let entries = entries_of_source(host, &mut source)?;
+    let mut line = *line;
+    line.profile.file_max = refusing_file_limit(&source, IMAGE_MAX, line.profile.file_max);
     let mut text = Vec::new(host.alloc());
-    let written = match enough_blocks_for_entries(host, line, entries.as_slice(), blocks) {
+    let written = match enough_blocks_for_entries(host, &line, entries.as_slice(), blocks) {
         Ok(EnoughBlocks::Count(count)) => {
             writeln!(text, "{blocks} blocks are too few, it takes {count}")
         }

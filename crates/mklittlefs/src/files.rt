@@ -1,9 +1,11 @@
 // The image at a path of the command line: a file, or for `-` a standard stream.
 
+use crate::leftovers::{begin_new_image, remove_leftovers};
 use lfs_device::Error;
 use lfs_tool::{ToolError, WatchedStream};
 use lfs_tool_folders::{FaultLog, FolderRules, NewImage};
 use std::alloc::Global;
+use std::cell::Cell;
 use std::fs::File;
 use std::io;
 use std::io::{BufReader, ErrorKind, Read, Stdin, Stdout, Write};
@@ -11,15 +13,18 @@ use std::io::{BufReader, ErrorKind, Read, Stdin, Stdout, Write};
 // How many bytes of an image are read at once.
 const READ_AHEAD: usize = 65_536;
 
-/// The system, and the log in which it is noted what files, folders and streams meet.
+/// The system, and what is noted of it.
 #[derive(Clone, Copy)]
 pub(crate) struct Host<'a> {
     pub(crate) rt: &'a HostRuntime,
+    /// What files, folders and streams meet.
     pub(crate) log: &'a FaultLog,
     /// Whether the environment wants each error with its cause.
     pub(crate) explains: bool,
     /// How the folder of an image that is made is read.
     pub(crate) rules: FolderRules<'a>,
+    /// Why standard output didn't take the lines.
+    pub(crate) fault_of_lines: &'a Cell<Option<ErrorKind>>,
 }
 
 impl<'a> Host<'a> {
@@ -34,6 +39,35 @@ impl<'a> Host<'a> {
                 self.log.note(self.alloc(), path.as_bytes(), error);
             }
         }
+    }
+}
+
+/// Standard output. It notes why it fails.
+#[derive(Drop)]
+pub(crate) struct Lines<'a> {
+    pub(crate) stream: Stdout,
+    pub(crate) fault: &'a Cell<Option<ErrorKind>>,
+}
+
+impl Lines<'_> {
+    fn note_error<T>(&self, called: &io::Result<T>) {
+        if let Err(error) = called {
+            self.fault.set(Some(error.kind()));
+        }
+    }
+}
+
+impl Write for Lines<'_> {
+    fn write(&mut self, buf: &[u8]) -> io::Result<usize> {
+        let written = self.stream.write(buf);
+        self.note_error(&written);
+        written
+    }
+
+    fn flush(&mut self) -> io::Result<()> {
+        let flushed = self.stream.flush();
+        self.note_error(&flushed);
+        flushed
     }
 }
 
@@ -107,7 +141,10 @@ pub(crate) struct NotedWriter<'a> {
 impl Write for NotedWriter<'_> {
     fn write(&mut self, buf: &[u8]) -> io::Result<usize> {
         let written = match &mut self.stream {
-            WrittenStream::File(file) => file.write(buf),
+            WrittenStream::File(file) => match begin_new_image(file) {
+                Ok(()) => file.write(buf),
+                Err(error) => Err(error),
+            },
             WrittenStream::Standard(stream) => stream.write(buf),
         };
         self.host.note_error(self.path, &written);
@@ -135,7 +172,8 @@ impl<'a> NotedWriter<'a> {
         Ok(NotedWriter { stream, path, host })
     }
 
-    /// Puts an image at its path that is whole and flushed. One that is dropped before leaves what was there.
+    /// Puts an image at its path that is whole and flushed, and removes what other runs have left beside it. One that is
+    /// dropped before leaves what was there.
     pub(crate) fn place(self) -> Result<(), ToolError> {
         let NotedWriter { stream, path, host } = self;
         if let WrittenStream::File(file) = stream {
@@ -144,6 +182,7 @@ impl<'a> NotedWriter<'a> {
             if placed.is_err() {
                 return Err(ToolError::Output);
             }
+            remove_leftovers(host.rt, path);
         }
         Ok(())
     }

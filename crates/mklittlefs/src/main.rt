@@ -8,6 +8,7 @@ mod change;
 mod explain;
 mod files;
 mod json;
+mod leftovers;
 mod limit_watch;
 mod path_words;
 mod progress;
@@ -18,10 +19,11 @@ mod run;
 mod run_tests;
 mod session;
 
-use crate::files::Host;
+use crate::files::{Host, Lines};
 use crate::run::run_words_and_return_exit_status;
 use lfs_tool::WatchedStream;
 use lfs_tool_folders::{FaultLog, FolderRules};
+use std::cell::Cell;
 use std::process::ExitCode;
 use std::{env, io};
 
@@ -41,13 +43,18 @@ fn is_explanation_wanted(rt: &HostRuntime) -> bool {
 
 fn main(rt: HostRuntime) -> ExitCode {
     let log = FaultLog::new();
+    let fault = Cell::new(None);
     let host = Host {
         rt: &rt,
         log: &log,
         explains: is_explanation_wanted(&rt),
         rules: FolderRules::new(),
+        fault_of_lines: &fault,
     };
-    let mut out = WatchedStream::new(rt.stdout());
+    let mut out = WatchedStream::new(Lines {
+        stream: rt.stdout(),
+        fault: &fault,
+    });
     let mut err = WatchedStream::new(rt.stderr());
     let words = read_command_line_words(&rt);
     ExitCode::from(run_words_and_return_exit_status(host, words, &mut out, &mut err))

@@ -11,7 +11,7 @@ use lfs_tool::{
     Extras, Fault, ImageLayout, Line, LineError, Mode, Request, ToolError, ToolOutput,
     WatchedStream, check, create, geometry_of_image_sizes, list, read_request, report, unpack,
 };
-use lfs_tool_folders::{FileLimits, Folder, FolderRules, Links, TargetFolder};
+use lfs_tool_folders::{Folder, FolderRules, Links, Target, TargetError, TargetFolder};
 use std::io;
 use std::io::ErrorKind;
 
@@ -29,34 +29,55 @@ pub(crate) fn geometry_of_line(line: &Line<'_>) -> Result<Geometry, ToolError> {
 /// The folder of which an image of at most so many bytes is made.
 pub(crate) fn folder_of_line<'a>(
     host: Host<'a>,
-    line: &Line<'_>,
     path: &str,
     size: u32,
 ) -> Result<Folder<'a, HostRuntime>, ToolError> {
-    let limits = FileLimits {
-        image: u64::from(size),
-        file: u64::from(line.profile.file_max.min(2_147_483_647)),
-    };
-    let folder = Folder::with_file_limits(host.rt, host.log, path, limits)?;
+    let folder = Folder::for_image_of_size(host.rt, host.log, path, u64::from(size))?;
     Ok(folder.with_rules(host.rules))
+}
+
+/// The limit of files by which a folder is refused as by the given one. It was read for an image of at most so many
+/// bytes, and one zero more stands for a file that is longer.
+pub(crate) fn refusing_file_limit(folder: &Folder<'_, HostRuntime>, size: u32, limit: u32) -> u32 {
+    match folder.first_too_long_file() {
+        Some(len) if len > u64::from(limit) => size.min(limit),
+        _ => limit,
+    }
+}
+
+// Writes the image of a folder.
+fn write_image(
+    host: Host<'_>,
+    line: &Line<'_>,
+    source: &mut Folder<'_, HostRuntime>,
+    geometry: Geometry,
+    image: &mut WatchedStream<NotedWriter<'_>>,
+) -> Result<(), ToolError> {
+    let mut progress = progress_at_terminal(host.rt);
+    create(
+        host.alloc(),
+        source,
+        geometry,
+        line.order,
+        image,
+        &mut progress,
+    )
 }
 
 // Makes the image of a folder, and puts it in its place once it is whole. Sizes that no image has are refused before
 // the folder is read.
 fn create_image(host: Host<'_>, line: &Line<'_>, folder: &str) -> Result<(), ToolError> {
     let geometry = geometry_of_line(line)?;
-    let mut source = folder_of_line(host, line, folder, line.size)?;
+    let mut source = folder_of_line(host, folder, line.size)?;
     let mut image = WatchedStream::new(NotedWriter::new(host, line.image)?);
-    let mut progress = progress_at_terminal(host.rt);
-    let created = create(
-        host.alloc(),
-        &mut source,
-        geometry,
-        line.order,
-        &mut image,
-        &mut progress,
-    );
-    drop(progress);
+    let mut created = write_image(host, line, &mut source, geometry, &mut image);
+    let file_max = refusing_file_limit(&source, line.size, line.profile.file_max);
+    if created == Err(ToolError::Fs(Error::NoSpace)) && file_max < line.profile.file_max {
+        let mut profile = line.profile;
+        profile.file_max = file_max;
+        let geometry = geometry.with_profile(profile);
+        created = write_image(host, line, &mut source, geometry, &mut image);
+    }
     created?;
     image.into_inner().place()
 }
@@ -72,7 +93,13 @@ fn unpack_image(host: Host<'_>, line: &Line<'_>, folder: &str) -> Result<(), Too
         layout_of_line(line),
         &mut target,
         &mut progress,
-    )
+    )?;
+    // An empty image has no action that makes the folder.
+    match target.make_folder(host.alloc(), b"") {
+        Ok(()) => Ok(()),
+        Err(TargetError::Fault) => Err(ToolError::Output),
+        Err(TargetError::NoMemory) => Err(ToolError::Fs(Error::NoMemory)),
+    }
 }
 
 // Does what a line requests. Returns false where an image was checked that isn't accepted, and else true.
@@ -107,6 +134,18 @@ fn run_mode<W: ToolOutput>(
     Ok(true)
 }
 
+// The status where standard output didn't take the lines. If nobody reads them there is no line of the error.
+fn report_unwritten_lines<O: ToolOutput, E: ToolOutput>(
+    host: Host<'_>,
+    out: &mut O,
+    err: &mut E,
+) -> u8 {
+    match host.fault_of_lines.get() {
+        Some(ErrorKind::BrokenPipe) => 3,
+        _ => report(&Fault::Tool(ToolError::Output), out, err),
+    }
+}
+
 // How the folder of an image that is made is read.
 fn folder_rules<'a>(extras: &'a Extras<'_>) -> FolderRules<'a> {
     let links = if extras.follow_links {
@@ -137,6 +176,7 @@ fn run_request_and_return_exit_status<O: ToolOutput, E: ToolOutput>(
     match run_mode(host, line, request.extras.json, out) {
         Ok(true) => 0,
         Ok(false) => 1,
+        Err(ToolError::Output) if line.mode == Mode::List => report_unwritten_lines(host, out, err),
         Err(error) => {
             let status = report(&Fault::Tool(error), out, err);
             if line.explain || host.explains {
@@ -170,6 +210,9 @@ pub(crate) fn run_words_and_return_exit_status<O: ToolOutput, E: ToolOutput>(
     };
     match read_request(host.alloc(), words.as_slice()) {
         Ok(request) => run_request_and_return_exit_status(host, &request, out, err),
-        Err(error) => report(&Fault::Line(error), out, err),
+        Err(error) => match report(&Fault::Line(error), out, err) {
+            0 if host.fault_of_lines.get().is_some() => report_unwritten_lines(host, out, err),
+            status => status,
+        },
     }
 }

@@ -5,6 +5,7 @@ use crate::run::run_words_and_return_exit_status;
 use lfs_tool::WatchedStream;
 use lfs_tool_folders::{FaultLog, FolderRules};
 use std::alloc::{AllocError, Global};
+use std::cell::Cell;
 use std::test::Fail;
 use std::{fs, io};
 
@@ -15,7 +16,7 @@ const LEN: usize = 14;
 
 // The words of runs behind one another, the status, and what the last one writes to `out` and to `err`; the others write
 // nothing. How long the image is then. A folder `runs/files` has two files.
-const ROWS: [(&[&[&str]], u8, &str, &str, usize); 17] = [
+const ROWS: [(&[&[&str]], u8, &str, &str, usize); 18] = [
     (
         &[
             &["-c", "runs/files", "-s", "16384", "runs/image"],
@@ -58,6 +59,18 @@ const ROWS: [(&[&[&str]], u8, &str, &str, usize); 17] = [
         "corrupt\nsuperblock: block size 4096, given 8192\n",
         "",
         16384,
+    ),
+    // an empty image has a folder
+    (
+        &[
+            &["-c", "runs/empty", "runs/image"],
+            &["-u", "runs/other", "runs/image"],
+            &["-c", "runs/other", "-s", "32768", "runs/image"],
+        ],
+        0,
+        "",
+        "",
+        32768,
     ),
     // what is left out, and lines as JSON
     (
@@ -201,6 +214,7 @@ const ROWS: [(&[&[&str]], u8, &str, &str, usize); 17] = [
 fn make_files(rt: &HostRuntime) -> io::Result<()> {
     let _ = fs::remove_dir_all(rt, "runs");
     fs::create_dir_all(rt, "runs/files")?;
+    fs::create_dir(rt, "runs/empty")?;
     fs::write(rt, "runs/files/a", b"hello")?;
     fs::write(rt, "runs/files/b", b"")?;
     fs::write(rt, "runs/image", OLD.as_bytes())
@@ -225,11 +239,13 @@ fn ends_so(
     let log = FaultLog::new();
     let mut written = WatchedStream::new(Vec::new(rt.alloc()));
     let mut told = WatchedStream::new(Vec::new(rt.alloc()));
+    let fault = Cell::new(None);
     let host = Host {
         rt,
         log: &log,
         explains: false,
         rules: FolderRules::new(),
+        fault_of_lines: &fault,
     };
     let ended = run_words_and_return_exit_status(host, words, &mut written, &mut told);
     ended == status

@@ -118,9 +118,6 @@ not_both {a} {b} n e f = n (same_Some a b (sym e ∙ f))
 
 -- The blocks of a pair are free; they were used, each once.
 module _ (sets : BlockStateList) (at : ℕ × ℕ) (us vs : List ℕ) (used : AreExactlyTheUsedBlocks sets us) (once : (b : ℕ) → occurrence_count_of_number b us ≤ 1) (less : (b : ℕ) → occurrence_count_of_number b vs + occurrence_count_of_number b (blocks_of_pair_address at) ≡ occurrence_count_of_number b us) where
-  abbrev now : BlockStateList
-  now = block_map_with_freed_pair sets at
-
   first_there : 1 ≤ occurrence_count_of_number at.0 (blocks_of_pair_address at)
   first_there = let e = count_here at.0 (at.1 ∷ []) in omega arith
 

@@ -74,9 +74,6 @@ pub record HasEntered (t : KeptThread) (w : Site) (p : Pair) (l : List Slot) (na
   pub none_comes : HasNoNewBlockInFlight t.map new.map
 
 module _ (t : KeptThread) (index : ℕ) (changes : List PairContentChange) (w : Site) (p : Pair) (l : List Slot) (name : Name) (to : ℕ × ℕ) (r : List Slot) (k : IsEntering t index changes w p l name to r) where
-  abbrev ps : List Pair
-  ps = thread_at w (p ∷ [])
-
   abbrev u : Slot
   u = new_directory_slot name to
 

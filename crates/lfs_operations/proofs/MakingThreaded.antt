@@ -85,9 +85,6 @@ module _ (t : KeptThread) (ready : IsImageReadyForChange t) (last : ℕ) (chain 
   abbrev f : Pair
   f = fresh_pair x fresh
 
-  abbrev ps : List Pair
-  ps = thread_at w (x ∷ [])
-
   behind_is : fresh_pair_with_tail t last fresh ≡ f
   behind_is = ap (λ (z : Pair). fresh_pair z fresh) (pair_is t last w x e.there e.place)
 

@@ -47,9 +47,6 @@ pub record HasTakenOver (disk : Disk) (w : Site) (p o : Pair) (new : Disk) (q : 
   pub device : IsDevice disk new (thread_at w (p ∷ o ∷ [])) (thread_at w (q ∷ []))
 
 module _ (disk : Disk) (w : Site) (p o : Pair) (u : Slot) (k : IsEndingWhole disk w p o u) where
-  abbrev ps : List Pair
-  ps = thread_at w (p ∷ o ∷ [])
-
   abbrev g : Gstate
   g = gstate_of_pairs (thread_at w (p ∷ o ∷ []))
 
@@ -90,9 +87,6 @@ module _ (disk : Disk) (w : Site) (p o : Pair) (u : Slot) (k : IsEndingWhole dis
   hidden_two = ap₂ (λ x y. x ++ (y ++ [])) (unmoved_elsewhere g p far_p) hides
 
   module _ (new : Disk) (q : Pair) (x : HasTakenOver disk w p o new q) where
-    abbrev qs : List Pair
-    qs = thread_at w (q ∷ [])
-
     still_none : HasNoMove (gstate_of_pairs (thread_at w (q ∷ [])))
     still_none = record { kind = ap (λ (z : Gstate). z.kind) x.state; id = ap (λ (z : Gstate). z.id) x.state; pair = ap (λ (z : Gstate). z.pair) x.state }
 

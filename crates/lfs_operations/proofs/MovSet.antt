@@ -21,7 +21,7 @@ use Rattle.lfs_model.proofs.Files.{HasSameFileBlocksOfStructOnDisks}
 use Rattle.lfs_model.proofs.Global.{gstate_cons, gstate_right}
 use Rattle.lfs_model.proofs.Laws.{DirectoryAddressByPath}
 use Rattle.lfs_model.proofs.Listings.{flip_false}
-use Rattle.lfs_model.proofs.Moves.{AllReached, place_at, get_here, remove_here}
+use Rattle.lfs_model.proofs.Moves.{place_at, get_here, remove_here}
 use Rattle.lfs_model.proofs.MoveSets.{IsMoveSet, move_sets, move_sets_onto}
 use Rattle.lfs_model.proofs.Names.{IsPlace}
 use Rattle.lfs_model.proofs.OneCommit.{some_filled}
@@ -205,9 +205,6 @@ module _ (disk : Disk) (wo : Site) (o : Pair) (lo : List Slot) (u : Slot) (ro : 
     }
 
     -- ---- the tree
-
-    all_reached : AllReached ps
-    all_reached = (recovered_from disk ps k.accepted k.settled).reached
 
     pub taken_by : (change : Tree → Tree) (walk : DirectoryAddressByPath → DirectoryAddressByPath) → IsImageAfterTreeChange disk (thread_at w (p ∷ [])) new (thread_at w (q ∷ more)) change walk
         → IsWritableImageAfterTreeChange disk (thread_at w (p ∷ [])) new (thread_at w (q ∷ more)) change walk

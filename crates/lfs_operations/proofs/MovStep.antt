@@ -146,9 +146,6 @@ module _ (t : KeptThread) (sync : Bool) (old_pair : ℕ) (goes : Bool) (new_pair
     abbrev more : List Pair
     more = x.more
 
-    abbrev qs : List Pair
-    qs = thread_at w (x.q ∷ x.more)
-
     abbrev pub arr : Arranged t.disk wo o w p x.q x.more
     arr = arrangement t.disk mid.disk mid.disk wo o lo u ro w p l target v r k.setting x.q x.more sync x.turned
 

@@ -133,9 +133,6 @@ module _ (disk other : Disk) (G H : ℕ × ℕ → Type 0) (alike : GoAlike disk
 abbrev pub hidden : Gstate → List Pair → List Pair
 hidden g ps = map (λ p. pair_with_slots (slots_not_moved g p) p) ps
 
-abbrev Far : Gstate → Pair → Type 0
-Far g s = same_pair g.pair s.at ≡ false
-
 pub hidden_far : (g : Gstate) (ps : List Pair) → Each (λ (s : Pair). same_pair g.pair s.at ≡ false) ps → AreKin (hidden g ps) ps
 hidden_far g [] h = tt
 hidden_far g (p ∷ ps) h = (record { at = refl; slots = sym (unmoved_elsewhere g p h.0); hard = refl }, hidden_far g ps h.1)

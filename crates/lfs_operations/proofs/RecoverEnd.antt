@@ -32,7 +32,7 @@ use Rattle.lfs_model.proofs.Superblocks.{pairs_behind}
 use Rattle.lfs_thread.specs.Device.{PowerLossLeavesSuchBlocksAfterCleanErases}
 use Rattle.lfs_thread.specs.Kept.{KeptThread, ThreadView}
 use Rattle.lfs_thread.specs.Steps.{IsPairChanged, PowerLossLeavesPairOldOrChanged, IsPairWrittenOnDisk, ThreadChangesOnlyTheseBlocks, thread_pairs_with_content_replaced_at_index, complete_content_after_changes}
-use Rattle.lfs_operations.specs.Deltas.{CanSetGstateInPair, gstate_setting_changes, content_reaching_gstate}
+use Rattle.lfs_operations.specs.Deltas.{gstate_setting_changes, content_reaching_gstate}
 use Rattle.lfs_operations.specs.Recovering.{AreUnreachedPairNumbers, AreUnreachedPairNumbersFrom, CanClearSyncBit, HasDroppedUnreachedPairsAndRecovered, IsSyncBitCleared, ReportsErrorsOfRecovery, list_blocks_of_numbered_pairs, slots_of_numbered_pairs}
 use Rattle.lfs_operations.specs.Dropping.{HasSameBlocksInFlight}
 use Rattle.lfs_operations.specs.Removing.{ReportsErrorsOfCommitTakingNoBlock}
@@ -43,7 +43,6 @@ use Rattle.lfs_operations.proofs.RecoverMap.{HasMap, alike_blocks, files_stay, m
 use Rattle.lfs_operations.proofs.RecoverSteps.{CanClear, clear_alike, clear_left, clear_pairs, clear_state, clear_taken, device_on, h, y}
 use Rattle.lfs_operations.proofs.RecoverUnderWay.{IsUnderWay, StaysOn}
 use Rattle.lfs_operations.proofs.RootStays.{alike_stays}
-use Rattle.lfs_operations.proofs.DroppedTails.{no_move_state}
 
 -- ---- the sync bit
 
@@ -89,9 +88,6 @@ module _ (t : KeptThread) (can : CanClearSyncBit t) where
       behind = let e = enough in omega arith;
       below = omega arith;
     }
-
-    pub can_set_last : CanSetGstateInPair t index zero_gstate
-    can_set_last = record { accepted = can.accepted; writable = can.writable; below = omega arith; storable = no_move_state }
 
     pub cleared : (new : KeptThread) → complete_content_after_changes t index (gstate_setting_changes t index zero_gstate) ≡ Some (content_reaching_gstate t index zero_gstate) → IsPairChanged t index (gstate_setting_changes t index zero_gstate) new → IsSyncBitCleared t new
     cleared new made c =

@@ -16,7 +16,7 @@ use Rattle.lfs_model.proofs.Indexes.{HasSite, site_of_number}
 use Rattle.lfs_model.proofs.Moves.{AllReached, AllReachedBut, IsStep}
 use Rattle.lfs_model.proofs.Profiles.{step_writable}
 use Rattle.lfs_model.proofs.Rests.{slots_stay}
-use Rattle.lfs_model.proofs.Sites.{Site, thread_at}
+use Rattle.lfs_model.proofs.Sites.{thread_at}
 use Rattle.lfs_model.proofs.Splices.{IsDevice, stays_shape}
 use Rattle.lfs_model.proofs.StepsTaken.{IsWritableImageAfterTreeChange, taken_before, within_at, within_same}
 use Rattle.lfs_model.proofs.Unthreaded.{IsReady, IsUnthreaded, Unthreads, unthread}
@@ -101,12 +101,6 @@ pub record CanClear (t : KeptThread) (index : ℕ) : Type 0 where
 module _ (t : KeptThread) (index : ℕ) (can : CanClear t index) where
   pub h : HasSite t.pairs index
   h = site_of_number t.disk t.pairs index can.accepted can.behind can.below
-
-  abbrev w : Site
-  w = h.site
-
-  abbrev p : Pair
-  p = h.pair
 
   place : IsAt t h.site.chain (h.site.before ++ h.site.left) h.pair (h.site.right ++ h.site.after) index
   place = record { there = h.is; number = sym h.number ∙ length-append h.site.chain (h.site.before ++ h.site.left) }

@@ -253,9 +253,6 @@ module _ (old now : KeptThread) (dropped number : ℕ) (rest : List ℕ) (n : Is
   whole_is : now.pairs ≡ C ++ (n.front ++ n.before ∷ n.x ∷ n.todo)
   whole_is = stands old.disk old.pairs now dropped C n.seen n.x n.todo n.parts n.kept n.numbers n.way n.unreached n.front n.before n.split
 
-  place : IsAt now C n.front n.before (n.x ∷ n.todo) at
-  place = record { there = whole_is; number = refl }
-
   is_ready : IsReady now.disk C (n.front ++ n.before ∷ n.x ∷ n.todo)
   is_ready = subst (IsReady now.disk C) (ap (λ z. z ++ n.x ∷ n.todo) n.split ∙ append_assoc n.front (n.before ∷ []) (n.x ∷ n.todo))
       (ready old.disk old.pairs now dropped C n.seen n.x n.todo n.parts n.kept n.numbers n.way n.unreached n.front n.before n.split)

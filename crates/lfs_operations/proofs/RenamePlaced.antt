@@ -27,7 +27,6 @@ use Rattle.lfs_operations.proofs.Splicing.{IsSplicing}
 -- What holds of the old slots holds of the new ones. They name the same files but for those of the slots that are gone.
 pub record MovesSlots (olds news gone : List Slot) (u moved : Slot) : Type 1 where
   pub each : (P : Slot → Type 0) → (P u → P moved) → Each P olds → Each P news
-  pub of_old : (P : Slot → Type 0) → Each P olds → P u
   pub files : (disk : Disk) (b : ℕ) → occurrence_count_of_number b (file_blocks_of_slots disk news) + occurrence_count_of_number b (file_blocks_of_slots disk gone) ≡ occurrence_count_of_number b (file_blocks_of_slots disk olds)
 
 -- the same struct
@@ -37,7 +36,6 @@ with_name u name = record u { name = name }
 pub carries_behind : (u : Slot) (name : List ℕ) (passed gone : List Slot) → MovesSlots (u ∷ (passed ++ gone)) (passed ++ with_name u name ∷ []) gone u (with_name u name)
 carries_behind u name passed gone = record {
   each = λ P f h. each_append P passed (with_name u name ∷ []) (each_left P passed gone h.1) (f h.0, tt);
-  of_old = λ P h. h.0;
   files = λ disk b.
       let a = count_files b disk passed (with_name u name ∷ []) in
       let c = count_append b (skip_list_blocks_of_struct disk u.struct) (file_blocks_of_slots disk []) in
@@ -49,7 +47,6 @@ carries_behind u name passed gone = record {
 pub carries_ahead : (u : Slot) (name : List ℕ) (gone passed : List Slot) → MovesSlots (gone ++ (passed ++ u ∷ [])) (with_name u name ∷ passed) gone u (with_name u name)
 carries_ahead u name gone passed = record {
   each = λ P f h. let r = each_right P gone (passed ++ u ∷ []) h in (f (each_right P passed (u ∷ []) r).0, each_left P passed (u ∷ []) r);
-  of_old = λ P h. (each_right P passed (u ∷ []) (each_right P gone (passed ++ u ∷ []) h)).0;
   files = λ disk b.
       let a = count_files b disk gone (passed ++ u ∷ []) in
       let c = count_files b disk passed (u ∷ []) in

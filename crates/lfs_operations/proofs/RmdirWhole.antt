@@ -78,9 +78,6 @@ module _ (disk middle : Disk) (w : Site) (x0 e q : Pair) (u : Slot) (P : Path) (
   abbrev in_back : List Pair
   in_back = w.right ++ w.after
 
-  abbrev old : List Pair
-  old = thread_at w (x0 ∷ e ∷ [])
-
   abbrev path_there : Path
   path_there = P ++ u.name ∷ []
 

@@ -1,5 +1,4 @@
 pub mod HeldSlots
-pub mod RootPlaces
 pub mod Counts
 pub mod NoWrongNumbers
 pub mod ExcerptsAlike

@@ -1,5 +1,3 @@
-pub mod OwnedSlots
-pub mod OwnedSlotView
 pub mod WrongNumbers
 pub mod ImageSummaries
 pub mod Verdict

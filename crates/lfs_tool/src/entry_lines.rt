@@ -1,7 +1,7 @@
 // The lines that name entries.
 
 use crate::checked_lines::{push_pair_message, push_quoted_name, push_slot_text, push_text};
-use crate::owned_parts::{OwnedPair, OwnedSlot};
+use crate::owned_pairs::{OwnedPair, OwnedSlot};
 use crate::places_in_pairs::{
     Place, ThreadSlots, branch_at, directory_at, places_in_directory, reached_places, slot_at,
 };

@@ -2,7 +2,7 @@
 
 use crate::checked_lines::{push_labelled_number, push_pair_message, push_text};
 use crate::entry_lines::{push_place, push_place_line};
-use crate::owned_parts::OwnedPair;
+use crate::owned_pairs::OwnedPair;
 use crate::places_in_pairs::{Place, ThreadSlots, all_places, place_at, slot_at};
 use crate::verdict::BrokenRule;
 use lfs_ctz::walk;

@@ -1,6 +1,6 @@
 // Where entries are in the pairs of a thread.
 
-use crate::owned_parts::{OwnedPair, OwnedSlot};
+use crate::owned_pairs::{OwnedPair, OwnedSlot};
 use lfs_lookup::OwnedStruct;
 use lfs_pair::is_same_pair;
 use lfs_tag::kinds::DELETE;

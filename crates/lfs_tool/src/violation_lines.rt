@@ -12,11 +12,9 @@ use crate::entry_lines::{
     push_branch_line, push_entry_line, push_names_line, push_place_line, push_two_paths_line,
 };
 use crate::list_lines::push_list_line;
-use crate::owned_pairs::owned_pairs_of_thread;
-use crate::owned_parts::{OwnedPair, OwnedSlot};
+use crate::owned_pairs::{OwnedPair, OwnedSlot, owned_pairs_of_thread, root_pair_index};
 use crate::pair_lines::{push_earlier_pair_line, push_no_content_line};
 use crate::places_in_pairs::{ThreadSlots, place_at, slot_at};
-use crate::roots::root_pair_index;
 use crate::superblocks::wrong_number_in_superblock_fields;
 use crate::verdict::BrokenRule;
 use crate::wrong_number::WrongNumber;

@@ -1,7 +1,7 @@
 use Rattle.std.proofs.Common.{ℕ, ◌≡◌, ◌<◌, ◌≤◌, ◌+◌, ◌-◌, ◌^◌, min, slice_index, slice_range, sym, ap, subst, ◌∙◌, arith}
 use Rattle.lfs_device.specs.declared.geometry.Geometry.{Geometry}
 use Rattle.lfs_model.specs.Blocks.{Blocks, block_bytes_by_number}
-use Rattle.lfs_model.specs.SkipLists.{IsPlaceOfByteInList, bytes_of_skip_list, list_block_count_for_size, list_blocks_from_head}
+use Rattle.lfs_model.specs.SkipLists.{IsPlaceOfByteInList, bytes_of_skip_list, list_block_count_for_size}
 use Rattle.lfs_ctz.specs.declared.known.KnownBlocks.{KnownBlocks}
 use Rattle.lfs_ctz.specs.Known.{ReadsKnownList, row_of_index}
 use Rattle.lfs_ctz.proofs.Geometries.{shaped, sized}

@@ -1,19 +1,20 @@
 -- Steps that write blocks of pairs, and at most two blocks that were free.
 use Rattle.std.proofs.Common.{ℕ, zero, suc, ◌≡◌, ◌≢◌, ◌≤◌, ◌<◌, ◌⊎◌, inl, inr, ◌+◌, Bool, true, false, List, [], ◌∷◌, ◌++◌, length, get_or, insert, remove, set, length-set, refl, ap, subst, ◌∙◌, arith}
-use Rattle.std.specs.Prelude.{All}
+use Rattle.std.specs.Prelude.{All, Contains}
 use Rattle.std.proofs.lemmas.Bool.{cases_lt}
 use Rattle.std.proofs.lemmas.List.Elements.{All-from_recursion, recursion_from_All}
+use Rattle.lfs_model.specs.BlockSets.{IsBlockFree}
 use Rattle.lfs_model.specs.Changes.{PairContentChange}
 use Rattle.lfs_model.specs.Names.{Name}
 use Rattle.lfs_model.specs.Thread.{Pair, blocks_of_pairs, blocks_of_pair_address, blocks_of_two_pair_addresses}
 use Rattle.lfs_model.proofs.BlockSets.{Contains-occurrence_count_of_number, occurrence_count_of_number-Contains}
-use Rattle.lfs_model.proofs.Counts.{occurrence_count_of_number, count_append, each_counted, each_from_counted}
+use Rattle.lfs_model.proofs.Counts.{occurrence_count_of_number, count_append, each_append, each_counted, each_from_counted, each_weaker}
 use Rattle.lfs_model.proofs.Histories.{ArePossibleBlocksAfterPowerLossInCall-read, IsTrueAfterAnyPowerLossSince-read_count_of_history, IsTrueAfterAnyPowerLossSince-trans, AreBytesStillUnprogrammed-read_count_of_history, AreBytesStillUnprogrammed-trans}
 use Rattle.lfs_thread.specs.Kept.{KeptThread}
 use Rattle.lfs_thread.specs.Steps.{IsThreadOnlyRead, ThreadChangesOnlyTheseBlocks, back_pair_of_split, front_pair_of_split, empty_pair_at_anchor, thread_pair_at_index}
 use Rattle.lfs_operations.specs.Changing.{IsPairChangedOrSplit, WritesOnlyThreadPairsAndTwoFreeBlocks, WritesPairAndTwoFreeBlocks, GivesPairsAtMostTwoFreeBlocks}
 use Rattle.lfs_operations.specs.MoveEnds.{HasEndedMoveAt, content_after_move_ends, pair_written_at_move_end, pairs_after_move_ends}
-use Rattle.lfs_operations.specs.MovingSteps.{WritesTwoPairsAndTwoFreeBlocks}
+use Rattle.lfs_operations.specs.MovingSteps.{WritesOnlyThreadPairsAndFreeBlocks, WritesTwoPairsAndTwoFreeBlocks}
 use Rattle.lfs_operations.specs.MovingOnto.{IsEntryReplacedAcrossPairs}
 use Rattle.lfs_operations.proofs.MovStep.{blocks_alike}
 use Rattle.lfs_operations.proofs.Putting.{read_is, with_history}
@@ -179,3 +180,15 @@ pub writes_last : (t m new : KeptThread) (sync : Bool) (old_pair old_id first ne
 writes_last t m new sync old_pair old_id first new_pair new_id name n moved l second = after_read t moved.from new moved.only (more moved.from m new n moved.done.blocks l second)
 
 -- ---- said of each block
+
+-- it is a pair's, or was free
+abbrev IsPairsOrFree : KeptThread → ℕ → Type 0
+IsPairsOrFree t b = Contains (blocks_of_pairs t.pairs) b ⊎ IsBlockFree t.map b
+
+pub each_among : (old new : KeptThread) → WritesOnlyThreadPairsAndTwoFreeBlocks old new → WritesOnlyThreadPairsAndFreeBlocks old new
+each_among old new w = record {
+  blocks = blocks_of_pairs old.pairs ++ w.fresh;
+  each = each_append (IsPairsOrFree old) (blocks_of_pairs old.pairs) w.fresh (each_from_counted (IsPairsOrFree old) (blocks_of_pairs old.pairs) (λ b some. inl (Contains-occurrence_count_of_number (blocks_of_pairs old.pairs) b some)))
+      (each_weaker (IsBlockFree old.map) (IsPairsOrFree old) (λ b free. inr free) w.fresh w.free);
+  writes = w.writes;
+}

@@ -21,7 +21,8 @@ use Rattle.lfs_operations.specs.Dropping.{HasSameBlocksInFlight}
 use Rattle.lfs_operations.proofs.Dropped.{flying_same}
 use Rattle.lfs_operations.proofs.Placing.{blocks_append}
 use Rattle.lfs_operations.proofs.Taking.{within}
-use Rattle.lfs_operations.proofs.Owning.{slots_append, count_used}
+pub use Rattle.lfs_operations.proofs.Owning.{count_used}
+use Rattle.lfs_operations.proofs.Owning.{slots_append}
 
 -- the map has the image's blocks and those that are gone, each once
 pub record HasMap (t : KeptThread) (gone : List ℕ) : Type 0 where

@@ -24,6 +24,7 @@ use Rattle.lfs_operations.specs.Ready.{IsImageReadyForChange}
 use Rattle.lfs_operations.proofs.MovTurned.{IsTurn}
 use Rattle.lfs_operations.proofs.MovSet.{HasTurned}
 use Rattle.lfs_operations.proofs.Owning.{count_pairs}
+pub use Rattle.lfs_operations.proofs.Owning.{not_used}
 use Rattle.std.proofs.lemmas.Bool.{cases_lt}
 
 -- ---- places in the thread

@@ -1,11 +1,11 @@
 -- Bytes of a file that are all in one block of its list.
-use Rattle.std.proofs.Common.{ℕ, ◌≡◌, ◌*◌, ◌+◌, ◌-◌, ◌<◌, ◌≤◌, ◌^◌, List, length, min, take, drop, slice_index, slice_range, sym, ap, subst, ◌∙◌, arith}
+use Rattle.std.proofs.Common.{ℕ, ◌≡◌, ◌*◌, ◌+◌, ◌-◌, ◌<◌, ◌≤◌, ◌^◌, List, min, take, drop, slice_index, slice_range, sym, ap, subst, ◌∙◌, arith}
 use Rattle.lfs_model.specs.Blocks.{Blocks, HasBlocksOfCountAndSize, block_bytes_by_number}
 use Rattle.lfs_model.specs.History.{DeviceCallEvent, read_count_of_history}
 use Rattle.lfs_model.specs.SkipLists.{IsPlaceOfByteInList, IsSkipList, byte_count_before_list_block, bytes_of_skip_list, list_block_count_for_size, list_blocks_from_head, pointer_count_of_list_block}
 use Rattle.lfs_model.proofs.ListParts.{part_of_bytes}
 use Rattle.lfs_ctz.specs.declared.known.KnownBlocks.{KnownBlocks}
-use Rattle.lfs_ctz.specs.Known.{AreKnownListBlocks, IsKnownIndex, ReadsFewPointers, ReadsKnownList, row_of_index}
+use Rattle.lfs_ctz.specs.Known.{AreKnownListBlocks, IsKnownIndex, ReadsKnownList, row_of_index}
 use Rattle.lfs_ctz.proofs.Chains.{length_back}
 use Rattle.lfs_ctz.proofs.Sizes.{place-le, place-lt, place_unique, pointer_count_of_list_block-le}
 

@@ -1,5 +1,7 @@
 // The first name or file of a source that passes a limit of an image.
 
+ghost use Rattle.std.specs.Prelude.{◌≡◌};
+
 use lfs_tool::push_escaped_path;
 use lfs_tool_folders::{ListedName, Source, SourceError};
 use std::alloc::{AllocError, Global};
@@ -48,7 +50,10 @@ fn words_of_passed_limit(
 
 impl<S: Source> LimitWatch<S> {
     // Keeps what is said of a path, where that is the first.
-    fn watch(&mut self, alloc: Global, path: &[u8], len: u64) -> Result<(), SourceError> {
+    fn watch(&mut self, alloc: Global, path: &[u8], len: u64) -> Result<(), SourceError>
+        ensures source { self.new.source ≡ self.old.source }
+        ensures memory { (e : _) → result ≡ Err e → e ≡ SourceError.NoMemory }
+    {
         if self.first.is_none() {
             match words_of_passed_limit(alloc, path, len, self.limit) {
                 Ok(words) => self.first = words,

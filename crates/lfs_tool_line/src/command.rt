@@ -5,7 +5,9 @@ ghost use Rattle.clap.specs.Words.{FailsBy, app_of, fault_of, found_of, kind_of,
 ghost use Rattle.lfs_tool_line.specs.Command.{rule_of_check_option, rule_of_explain_option, rule_of_folder_option, rule_of_image_argument, rule_of_list_option, mklittlefs, rule_of_number_option, rule_of_order_option, with_mode_options, with_mode_size_and_order_options, with_size_options, with_version_option};
 ghost use Rattle.lfs_tool_line.specs.Matches.{HasGivenImage, faults, rows};
 
-use crate::options::{number_arg, with_board_and_version_options, with_limit_options};
+use crate::options::{
+    number_arg, with_board_and_version_options, with_limit_option, with_limit_options,
+};
 use crate::values::first_bad_number;
 use clap::error::ErrorKind;
 use clap::{Arg, ArgAction, ArgMatches, Command, Error};
@@ -25,6 +27,8 @@ Examples:
   mklittlefs --check disk.img            says what is wrong with it, or what is in it
   mklittlefs -c settings -b 1024 -p 128 -s 262144 disk.img
   mklittlefs -l -b 1024 -p 128 disk.img  one of 256 KiB with other blocks
+  mklittlefs -l -b auto flash.bin        one whose blocks its superblock tells
+  mklittlefs -l -b auto --offset 2M flash.bin
   mklittlefs -c settings --order shorter-first disk.img
   mklittlefs -c settings --board esp32 -s 0x160000 disk.img
   mklittlefs -l --also-2.1 disk.img      lists one that firmware has changed
@@ -42,7 +46,8 @@ Sizes:
   -p  8, 16, 32, 64, 128, 256 or 512, and at most an eighth of -b
   -s  a multiple of -b: from 2 to 65536 blocks, and at most 268435456
   With -l, -u and --check the size is that of IMAGE, and -b is the one that it
-  was made with.
+  was made with. -b auto takes the size and number of blocks from its
+  superblock, and leaves alone what is behind them. --offset N skips N bytes.
 
 Limits:
   --name-max    from 1 to 255
@@ -220,7 +225,7 @@ fn clap_command_before_arguments_are_added<'a>(alloc: Global) -> Command<'a>
         .version(VERSION)
         .about("Creates, unpacks, lists or checks an image of a littlefs file system.")
         .override_usage(
-            "mklittlefs (-c DIR | -u DIR | -l | --check) [-b N] [-p N] [-s N] [--order ORDER] [--name-max N] [--file-max N] [--attr-max N] [--inline-max N] [--board NAME] [--also-2.1] [--explain] IMAGE",
+            "mklittlefs (-c DIR | -u DIR | -l | --check) [-b N] [-p N] [-s N] [--offset N] [--order ORDER] [--name-max N] [--file-max N] [--attr-max N] [--inline-max N] [--board NAME] [--also-2.1] [--explain] IMAGE",
         )
         .after_help(EXAMPLES)
 }
@@ -245,12 +250,14 @@ fn with_create_unpack_list_and_check_options<'a>(
 fn with_size_options<'a>(alloc: Global, command: Command<'a>) -> Result<Command<'a>, AllocError>
     ensures { IfOk result (λ c. app_of c ≡ with_size_options (app_of command.entry)) }
 {
-    let block_size = "Size of a block in bytes [default: 4096]";
+    let block_size = "Size of a block in bytes, or auto [default: 4096]";
     let page = "Size of a page in bytes [default: 256]";
     let size = "Size of the image in bytes, with -c [default: 65536]";
+    let offset = "Bytes of IMAGE before the image, without -c [default: 0]";
     let command = with_number_option(alloc, command, "block_size", ('b', "block"), block_size)?;
     let command = with_number_option(alloc, command, "page", ('p', "page"), page)?;
     let command = with_number_option(alloc, command, "size", ('s', "size"), size)?;
+    let command = with_limit_option(alloc, command, "offset", "offset", offset)?;
     Ok(command)
 }
 

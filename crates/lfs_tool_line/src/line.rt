@@ -1,12 +1,14 @@
-ghost use Rattle.std.specs.Prelude.{◌≡◌, List, IfErr, IfOk, MatchOption, Some, map};
+ghost use Rattle.std.specs.Prelude.{◌≡◌, List, IfErr, IfOk, MatchOption, Some, false, map};
 ghost use Rattle.clap.specs.Words.{Text, found_of, rows_of};
 ghost use Rattle.lfs_tool_line.specs.Choices.{AreChoicesOfParsedArguments};
-ghost use Rattle.lfs_tool_line.specs.Matches.{HasOneMode, HasGivenImage, IsLineErrorOfWords, IsCommandLineOfParsedArguments, IsModeOfParsedArguments, ParserAcceptsWords, broken_limit, given_board, given_name_order, name_order_of_text, rows};
+ghost use Rattle.lfs_tool_line.specs.Matches.{HasOneMode, HasGivenImage, IsLineErrorOfWords, IsCommandLineOfParsedArguments, IsModeOfParsedArguments, ParserAcceptsWords, makes_part_of_file, broken_limit, given_board, given_name_order, name_order_of_text, rows};
 
 use crate::board::Board;
 use crate::command::parse_command_line_words;
 use crate::limits::{Limit, first_broken_limit, given_or_other_profile};
-use crate::values::{argument_text, flag_value_in_matches, given_or_other_number};
+use crate::values::{
+    argument_text, flag_value_in_matches, given_or_other_number, is_block_size_auto,
+};
 use clap::ArgMatches;
 use lfs_model::{NameOrder, Profile};
 use std::alloc::Global;
@@ -32,6 +34,10 @@ pub struct Line<'a> {
     pub mode: Mode<'a>,
     /// The size of a block in bytes.
     pub block_size: u32,
+    /// Whether the size and the number of blocks are those of the superblock.
+    pub is_auto: bool,
+    /// How many bytes are before the image.
+    pub offset: u32,
     /// The size of a page in bytes, the unit that a device programs.
     pub page: u32,
     /// The size of the image in bytes, for `Mode::Create`.
@@ -73,6 +79,9 @@ pub enum LineError {
     /// A limit is 0, or larger than it may be.
     #[error("error: {}", .0.rule())]
     Limit(Limit),
+    /// The image is to be made, and a part of a file is given.
+    #[error("error: -b auto and --offset are for -l, -u and --check")]
+    Part,
     /// A word isn't UTF-8. `read_line` doesn't return this, since its words are text.
     #[error("error: the command line is not UTF-8")]
     NotUtf8,
@@ -146,6 +155,16 @@ fn choices_of_matches<'a>(matches: &ArgMatches<'a>) -> Result<Choices<'a>, LineE
     }
 }
 
+// Returns whether a line makes an image and gives a part of a file.
+fn makes_part_of_file(line: &Line<'_>) -> bool
+    ensures { result ≡ makes_part_of_file line.now }
+{
+    match line.mode {
+        Mode::Create(_) => line.is_auto || line.offset != 0,
+        _ => false,
+    }
+}
+
 // Returns the line of the matches, or the first limit that breaks its rule.
 fn command_line_of_matches<'a>(
     matches: &ArgMatches<'a>,
@@ -164,6 +183,8 @@ fn command_line_of_matches<'a>(
     Ok(Line {
         mode: choices.mode,
         block_size,
+        is_auto: is_block_size_auto(matches),
+        offset: given_or_other_number(matches, "offset", 0),
         page: given_or_other_number(matches, "page", 256),
         size: given_or_other_number(matches, "size", 65536),
         order: choices.order,
@@ -174,9 +195,9 @@ fn command_line_of_matches<'a>(
 }
 
 /// Reads the words of a command line, the program's name first:
-/// `mklittlefs (-c DIR | -u DIR | -l | --check) [-b N] [-p N] [-s N] [--order ORDER] [--name-max N] [--file-max N]
-/// [--attr-max N] [--inline-max N] [--board NAME] [--also-2.1] [--explain] IMAGE`. The long names are `--create`,
-/// `--unpack`, `--list`, `--block`, `--page` and `--size`.
+/// `mklittlefs (-c DIR | -u DIR | -l | --check) [-b N] [-p N] [-s N] [--offset N] [--order ORDER] [--name-max N]
+/// [--file-max N] [--attr-max N] [--inline-max N] [--board NAME] [--also-2.1] [--explain] IMAGE`. The long names are `--create`,
+/// `--unpack`, `--list`, `--block`, `--page` and `--size`. `-b auto` and `--offset` go with each mode but `-c`.
 ///
 /// A number is from 0 to 4294967295, as `4096`, `0x1000`, `4k` and `1.5M` are: decimal, hexadecimal, or in units of 1024
 /// or 1048576 bytes, where it may have a point. Where an option isn't given, a block has 4096 bytes, a
@@ -189,10 +210,11 @@ fn command_line_of_matches<'a>(
 /// `LineError::Parser` where the parser refuses the words or a number is none, where they ask for help or for the
 /// version, or where memory isn't granted. `LineError::Modes` where it takes them and not exactly one of `-c`, `-u`, `-l` and
 /// `--check` is given. `LineError::Order` where ORDER is neither, and `LineError::Board` where NAME is none of the four.
-/// `LineError::Limit` where a limit that is given is 0 or too large.
+/// `LineError::Limit` where a limit that is given is 0 or too large. `LineError::Part` where an image is to be made, and
+/// `-b auto` or an offset other than 0 is given.
 pub fn read_line<'a, S: AsStr>(alloc: Global, words: &'a [S]) -> Result<Line<'a>, LineError>
     ensures ok { IfOk result (λ line. ParserAcceptsWords (map S.text words.entry.now)
-        × IsCommandLineOfParsedArguments (rows (map S.text words.entry.now)) line) }
+        × IsCommandLineOfParsedArguments (rows (map S.text words.entry.now)) line × (makes_part_of_file line ≡ false)) }
     ensures err { IfErr result (IsLineErrorOfWords (map S.text words.entry.now)) }
 {
     let matches = match parse_command_line_words(alloc, words) {
@@ -204,6 +226,7 @@ pub fn read_line<'a, S: AsStr>(alloc: Global, words: &'a [S]) -> Result<Line<'a>
         Err(error) => return Err(error),
     };
     match command_line_of_matches(&matches, choices) {
+        Ok(line) if makes_part_of_file(&line) => Err(LineError::Part),
         Ok(line) => Ok(line),
         Err(limit) => Err(LineError::Limit(limit)),
     }

@@ -6,6 +6,7 @@ mod blocks;
 mod explain;
 mod files;
 mod leftovers;
+mod parts;
 mod progress;
 #[cfg(test)]
 mod progress_tests;

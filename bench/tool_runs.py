@@ -85,6 +85,22 @@ RUNS = [
     ({}, ["-c files image", "--check image -b 8192"], (1, "corrupt\nsuperblock: block size 4096, given 8192\n", ""), {}),
     ({}, ["--check image"], (1, "corrupt\nno image of blocks of 4096 bytes and pages of 256 has 14 bytes\n", ""), KEPT),
     ({"z": UNTAGGED}, ["--check z"], (1, "corrupt\npair 0 1: no commit with a right checksum\n", ""), {}),
+    # a part of a file
+    ({"image": IMAGE + bytes(5000)}, ["-l -b auto image"], (0, "f 5 /a\nd 0 /d\nf 0 /d/x\n", ""), {}),
+    ({"image": IMAGE + bytes(5000)}, ["-l image"], (1, "", "error: Invalid (22)\n"), {}),
+    ({"image": bytes(777) + IMAGE + bytes(10)}, ["-u o -b auto --offset 777 image"], (0, "", ""), {"o": UNPACKED}),
+    ({"image": bytes(777) + IMAGE}, ["-l --offset 777 image"], (0, "f 5 /a\nd 0 /d\nf 0 /d/x\n", ""), {}),
+    ({"image": bytes(777)}, ["-l --offset 778 --explain image"],
+     (1, "", "error: Invalid (22)\nsize 0, block 4096: an image has from 2 to 65536 blocks\n"), {}),
+    *(({}, [f"-c files {words} image", "--check -b auto image"],
+       (0, f"ok\nfiles 2\ndirectories 0\nused 2 of {count} blocks\nfree {count - 2}\norder either\nrecover no\nwritable yes\nbehind 0 bytes\n",
+        ""), {}) for words, count in [(SHORT, 4), ("-b 8k", 8)]),
+    ({"image": IMAGE + bytes(5000)}, ["--check --block auto image"], (0, "ok\nfiles 2\ndirectories 1\nused 4 of 16 blocks\nfree 12\n"
+     "order either\nrecover no\nwritable yes\nbehind 5000 bytes\n", ""), {}),
+    ({"z": bytes(8192)}, ["--check -b auto z"], (1, "corrupt\npair 0 1: no commit with a right checksum\nbehind 0 bytes\n", ""), {}),
+    ({"image": IMAGE[:8192]}, ["--check -b auto image"], (1, "corrupt\nsuperblock: block count 16, given 2\nbehind 0 bytes\n", ""), {}),
+    *(({}, [f"-c files {words} image"], (2, "", "error: -b auto and --offset are for -l, -u, --check and --cat\n"), KEPT)
+      for words in ["-b auto", "--offset 1"]),
     ({}, ["-l -b 0 image"], (1, "", "error: Invalid (22)\n"), KEPT),
     ({}, ["-l -p 0 image"], (1, "", "error: Invalid (22)\n"), KEPT),
     ({}, ["-u files image"], (1, "", "error: Invalid (22)\n"), KEPT),
@@ -193,6 +209,7 @@ STREAMS = [
     ("--check -", bytes(8192), (1, b"corrupt\npair 0 1: no commit with a right checksum\n", b""), {}),
     ("--explain -u o -", IMAGE[:65530], (1, b"", b"error: Invalid (22)\nnot explained: error: input\n"), {"o": NOTHING}),
     ("--explain -l ./-", IMAGE, (3, b"", b"error: input\n./-" + MISSING.encode()), {}),
+    ("-l -b auto --offset 3 -", bytes(3) + IMAGE + bytes(100), (0, b"f 5 /a\nd 0 /d\nf 0 /d/x\n", b""), {}),
     ("-c none -", b"", (3, b"", b"error: input\n"), {}),
     ("-c files -s 8192 -", b"", (1, b"", b"error: NoSpace (28)\n"), {}),
 ]

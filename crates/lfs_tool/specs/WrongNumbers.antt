@@ -5,6 +5,8 @@ use Rattle.lfs_model.specs.declared.limits.AcceptedVersions.{AcceptedVersions}
 use Rattle.lfs_model.specs.View.{is_accepted_version, superblock_name_log_entry}
 use Rattle.lfs_model.specs.EntryTypes.{SuperblockFields, inline_struct_type, superblock_fields_of_struct_bytes}
 use Rattle.lfs_model.specs.Tag.{tag_of_type_id_and_length}
+use Rattle.lfs_tag.specs.FieldsView.{superblock_view}
+use Rattle.lfs_tag.specs.declared.fields.Superblock.{Superblock}
 use Rattle.lfs_tool.specs.declared.wrong_number.WrongNumber.{WrongNumber}
 use Rattle.lfs_tool.specs.declared.wrong_number.WrongNumber.TheVariants as stated
 
@@ -33,6 +35,10 @@ pub record IsSuperblockAtOffset (bytes : List ℕ) (from : ℕ) (fields : Superb
   pub inside : from + 44 ≤ length bytes
   pub tags : slice_range bytes (from + 4) (from + 20) ≡ stored_name_and_struct_tag
   pub struct : superblock_fields_of_struct_bytes (slice_range bytes (from + 20) (from + 44)) ≡ fields
+
+-- block 0 begins with that superblock, or block 1, with blocks of its size
+abbrev pub IsSuperblockOfFirstBlocks : List ℕ → Superblock → Type 0
+IsSuperblockOfFirstBlocks bytes s = (from : ℕ) × (((from ≡ 0) ⊎ (from ≡ s.block_size)) × IsSuperblockAtOffset bytes from (superblock_view s))
 
 -- a number in the superblock of block 0 or 1 is wrong for these bytes, in blocks of that size
 pub record IsWrongNumberInImageBytes (bytes : List ℕ) (block_size : ℕ) (versions : AcceptedVersions) (stated : WrongNumber) : Type 0 where

@@ -332,7 +332,8 @@ fn push_no_image_of_given_sizes_text(
         page,
     )?;
     push_labelled_number(text, " has ", given.size)?;
-    push_text(text, " bytes")
+    push_text(text, " bytes")?;
+    Ok(())
 }
 
 fn push_unaccepted_reason(

@@ -20,6 +20,8 @@ const ORDER: &str = "error: --order is longer-first or shorter-first\n";
 
 const BOARD: &str = "error: --board is esp8266, esp32, rp2040 or micropython\n";
 
+const PART: &str = "error: -b auto and --offset are for -l, -u, --check and --cat\n";
+
 const NOT_UTF8: &str = "error: the command line is not UTF-8\n";
 
 // Returns the line that says which rule a limit breaks.
@@ -92,6 +94,7 @@ pub fn report<O: ToolOutput, E: ToolOutput>(fault: &Fault, out: &mut O, err: &mu
         Fault::Line(LineError::Misuse(misuse)) => {
             write_line_and_return_status(err, line_of_misuse(*misuse), 2)
         }
+        Fault::Line(LineError::Part) => write_line_and_return_status(err, PART, 2),
         Fault::Line(LineError::NotUtf8) => write_line_and_return_status(err, NOT_UTF8, 2),
         Fault::Line(LineError::Parser(error)) => match error.kind() {
             ErrorKind::OutOfMemory => write_error_line_and_return_status(

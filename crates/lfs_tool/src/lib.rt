@@ -66,7 +66,7 @@ pub use output::write_bytes_and_flush;
 pub use progress::{FilesAndBytes, FollowsProgress};
 pub use reader::ImageInput;
 pub use sizes::geometry_of_image_sizes;
-pub use superblocks::wrong_superblock_number_in_image;
+pub use superblocks::{superblock_in_image, wrong_superblock_number_in_image};
 pub use unpacked_images::unpack;
 pub use verdict::{AcceptedOrders, BrokenRule, ImageSummary, ImageVerdict};
 pub use watched_stream::WatchedStream;

@@ -3,7 +3,7 @@
 ghost use Rattle.std.specs.Prelude.{◌≡◌, ◌⊎◌, ◌<◌, ◌/◌, ◌^◌, IfSome, None, length};
 ghost use Rattle.lfs_model.specs.EntryTypes.{SuperblockFields};
 ghost use Rattle.lfs_tag.specs.FieldsView.{superblock_view};
-ghost use Rattle.lfs_tool.specs.WrongNumbers.{HasSizesAndVersion, HasNoWrongNumberInImageBytes, IsWrongNumberInImageBytes, IsWrongSuperblockField, IsSuperblockAtOffset};
+ghost use Rattle.lfs_tool.specs.WrongNumbers.{HasSizesAndVersion, HasNoWrongNumberInImageBytes, IsWrongNumberInImageBytes, IsWrongSuperblockField, IsSuperblockAtOffset, IsSuperblockOfFirstBlocks};
 
 use crate::wrong_number::WrongNumber;
 use lfs_device::AcceptedVersions;
@@ -48,6 +48,25 @@ fn superblock_fields_at_offset(bytes: &[u8], from: usize) -> Option<Superblock>
         Ok(fields) => Some(superblock_of(fields)),
         Err(_) => None,
     }
+}
+
+/// Returns the superblock with which block 0 begins, or block 1 where blocks are as large as it says. It is found by its
+/// place, as `wrong_superblock_number_in_image` finds it. So the size of the blocks needn't be known: in block 1 it is a
+/// power of two from 1024 to 65536.
+pub fn superblock_in_image(bytes: &[u8]) -> Option<Superblock>
+    ensures found { IfSome result (IsSuperblockOfFirstBlocks bytes.now) }
+    ensures none { result ≡ None → (fields : SuperblockFields) → ¬ IsSuperblockAtOffset bytes.now 0 fields }
+{
+    if let Some(fields) = superblock_fields_at_offset(bytes, 0) {
+        return Some(fields);
+    }
+    for size in [1024u32, 2048, 4096, 8192, 16384, 32768, 65536] {
+        match superblock_fields_at_offset(bytes, size as usize) {
+            Some(fields) if fields.block_size == size => return Some(fields),
+            _ => {}
+        }
+    }
+    None
 }
 
 // Returns which field of that superblock is wrong for the bytes.

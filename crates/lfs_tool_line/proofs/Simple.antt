@@ -55,13 +55,13 @@ unfolding faults
 faults_of_numbers words found taken same = ap (λ (ks : Kinds). or_else ks (number_faults (rows words))) taken ∙ ap number_faults (sym same)
 
 pub bad_number_refused : (words : List Text) (found : List Row) (text : Text) (e : Error) → fault_of mklittlefs words ≡ [] → found ≡ rows words
-    → Some text ≡ first_bad_number number_options found → kind_of e ≡ ValueValidation → HasKind (faults words) e
+    → Some text ≡ first_bad_number (number_options found) found → kind_of e ≡ ValueValidation → HasKind (faults words) e
 bad_number_refused words found text e taken same bad is =
     let faults_are_one : faults words ≡ ValueValidation ∷ [] = faults_of_numbers words found taken same
     ∙ ap (λ (o : Option Text). if is_some o then ValueValidation ∷ [] else []) (sym bad) in
     subst (λ (ks : Kinds). HasKind ks e) (sym faults_are_one) (inr (inl is))
 
 pub good_numbers_taken : (words : List Text) (found : List Row) → fault_of mklittlefs words ≡ [] → found ≡ rows words
-    → None ≡ first_bad_number number_options found → faults words ≡ []
+    → None ≡ first_bad_number (number_options found) found → faults words ≡ []
 good_numbers_taken words found taken same good =
     faults_of_numbers words found taken same ∙ ap (λ (o : Option Text). if is_some o then ValueValidation ∷ [] else []) (sym good)

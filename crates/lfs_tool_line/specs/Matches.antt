@@ -1,5 +1,5 @@
 -- The values of a line of words.
-use Rattle.std.specs.Prelude.{◌≡◌, ◌≤◌, ◌+◌, ◌∷◌, if◌then◌else◌, ℕ, [], Bool, List, Option, Some, None, true, codes, is_some, unwrap_or, count_by}
+use Rattle.std.specs.Prelude.{◌≡◌, ◌≤◌, ◌+◌, ◌∷◌, ◌||◌, if◌then◌else◌, ℕ, [], Bool, List, Option, Some, None, false, true, codes, is_some, nat_eq, not, unwrap_or, count_by}
 use Rattle.std.specs.Str.{bytes_eq}
 use Rattle.clap.specs.Words.{Kinds, Row, Text, all_of, fault_of, first_of, matches_of}
 use Rattle.clap.specs.Kinds.{or_else}
@@ -14,7 +14,7 @@ use Rattle.lfs_tool_line.specs.Boards.{block_size_of_board, board_with_name, pro
 use Rattle.lfs_tool_line.specs.Command.{mklittlefs}
 use Rattle.lfs_tool_line.specs.Extras.{AreExtrasOfParsedArguments, misused_option}
 use Rattle.lfs_tool_line.specs.Limits.{first_broken_limit}
-use Rattle.lfs_tool_line.specs.Values.{flag_value_in_rows, number_faults, number_or}
+use Rattle.lfs_tool_line.specs.Values.{flag_value_in_rows, is_block_size_auto, number_faults, number_or}
 use Rattle.lfs_tool_line.specs.declared.board.Board.{Board}
 use Rattle.lfs_tool_line.specs.declared.board.Board.TheVariants.{Unnamed}
 use Rattle.lfs_tool_line.specs.declared.limits.Limit.{Limit}
@@ -157,6 +157,8 @@ pub record IsCommandLineOfParsedArguments (rows : List Row) (line : Line) : Type
   pub mode : IsModeOfParsedArguments rows line.mode
   pub known_board : HasKnownBoard rows
   pub block_size : given_block_size rows ≡ line.block_size
+  pub is_auto : is_block_size_auto rows ≡ line.is_auto
+  pub offset : number_or 0 (codes "offset") rows ≡ line.offset
   pub page : number_or 256 (codes "page") rows ≡ line.page
   pub size : number_or 65536 (codes "size") rows ≡ line.size
   pub order : given_name_order rows ≡ Some line.order
@@ -165,10 +167,26 @@ pub record IsCommandLineOfParsedArguments (rows : List Row) (line : Line) : Type
   pub profile : given_profile rows ≡ line.profile
   pub image : first_of (codes "image") rows ≡ Some line.image.now
 
+-- a part of a file is given
+abbrev pub gives_part_of_file : Line → Bool
+gives_part_of_file line = line.is_auto || not (nat_eq line.offset 0)
+
+abbrev pub makes_part_of_file_in_mode : Mode → Bool → Bool
+makes_part_of_file_in_mode (mode.Create dir) part = part
+makes_part_of_file_in_mode (mode.Put file path) part = part
+makes_part_of_file_in_mode (mode.Remove path) part = part
+makes_part_of_file_in_mode (mode.Mkdir path) part = part
+makes_part_of_file_in_mode other part = false
+
+-- the line's mode writes an image, and a part of a file is given
+abbrev pub makes_part_of_file : Line → Bool
+makes_part_of_file line = makes_part_of_file_in_mode line.mode (gives_part_of_file line)
+
 -- the line and what it requests beside its image
 pub record IsRequestOfParsedArguments (rows : List Row) (request : Request) : Type 0 where
   pub line : IsCommandLineOfParsedArguments rows request.line
   pub extras : AreExtrasOfParsedArguments rows request.extras
+  pub whole : makes_part_of_file request.line ≡ false
 
 -- the image is there
 abbrev pub HasGivenImage : Found → Type 0
@@ -180,7 +198,7 @@ NamesModeOrderAndBoard words = ParserAcceptsWords words × HasOneMode (rows word
 
 -- The cause for which there is no line: the parser refuses the words; or it takes them and not exactly one mode is given; or an
 -- order is none of the two; or a board is none of the four; or a limit breaks its rule, and none before it does;
--- or an option has no meaning where it is given, and none before it. Text is UTF-8.
+-- or a part of a file is to be written; or an option has no meaning where it is given, and none before it. Text is UTF-8.
 abbrev pub IsLineErrorOfWords : List Text → LineError → Type 0
 IsLineErrorOfWords words (Parser e) = HasKind (faults words) e
 IsLineErrorOfWords words Modes = ParserAcceptsWords words × ¬ HasOneMode (rows words)
@@ -188,4 +206,5 @@ IsLineErrorOfWords words Order = ParserAcceptsWords words × HasOneMode (rows wo
 IsLineErrorOfWords words error.Board = ParserAcceptsWords words × HasOneMode (rows words) × HasValidNameOrder (rows words) × ¬ HasKnownBoard (rows words)
 IsLineErrorOfWords words (error.Limit limit) = NamesModeOrderAndBoard words × (broken_limit (rows words) ≡ Some limit)
 IsLineErrorOfWords words (error.Misuse misuse) = NamesModeOrderAndBoard words × (broken_limit (rows words) ≡ None) × (misused_option (rows words) ≡ Some misuse)
+IsLineErrorOfWords words error.Part = ParserAcceptsWords words × ((line : Line) × (IsCommandLineOfParsedArguments (rows words) line × (makes_part_of_file line ≡ true)))
 IsLineErrorOfWords words NotUtf8 = ⊥

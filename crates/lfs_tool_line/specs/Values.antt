@@ -32,13 +32,26 @@ abbrev pub first_bad_number : List Text → List Row → Option Text
 first_bad_number [] rows = None
 first_bad_number (id ∷ ids) rows = text_or_next (bad_number_of_option id rows) (first_bad_number ids rows)
 
--- the options that take a number
-abbrev pub number_options : List Text
-number_options = codes "block_size" ∷ codes "page" ∷ codes "size" ∷ codes "name_max" ∷ codes "file_max" ∷ codes "attr_max" ∷ codes "inline_max" ∷ []
+-- the text says that the number is found elsewhere
+abbrev pub is_text_auto : Option Text → Bool
+is_text_auto None = false
+is_text_auto (Some text) = bytes_eq text (codes "auto")
+
+-- the size of a block is that of the superblock
+abbrev pub is_block_size_auto : List Row → Bool
+is_block_size_auto rows = is_text_auto (first_of (codes "block_size") rows)
+
+-- the options that take a number alone
+abbrev pub other_number_options : List Text
+other_number_options = codes "page" ∷ codes "size" ∷ codes "offset" ∷ codes "name_max" ∷ codes "file_max" ∷ codes "attr_max" ∷ codes "inline_max" ∷ []
+
+-- the options that take a number here
+abbrev pub number_options : List Row → List Text
+number_options rows = if is_block_size_auto rows then other_number_options else (codes "block_size" ∷ other_number_options)
 
 -- the error of a text that names no number; empty where each names one
 abbrev pub number_faults : List Row → Kinds
-number_faults rows = if is_some (first_bad_number number_options rows) then ValueValidation ∷ [] else []
+number_faults rows = if is_some (first_bad_number (number_options rows) rows) then ValueValidation ∷ [] else []
 
 -- the flag's text, which clap gives as true or false
 abbrev pub is_flag_text_true : Option Text → Bool

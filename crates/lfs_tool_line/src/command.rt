@@ -7,7 +7,9 @@ ghost use Rattle.lfs_tool_line.specs.Matches.{HasGivenImage, faults, rows};
 
 use crate::extra_options::with_extra_options;
 use crate::mode_options::with_path_mode_options;
-use crate::options::{number_arg, with_board_and_version_options, with_limit_options};
+use crate::options::{
+    number_arg, with_board_and_version_options, with_limit_option, with_limit_options,
+};
 use crate::values::first_bad_number;
 use clap::error::ErrorKind;
 use clap::{Arg, ArgAction, ArgMatches, Command, Error};
@@ -34,6 +36,8 @@ Examples:
   mklittlefs --put wifi.txt /keys/wifi disk.img
   mklittlefs -c settings -b 1024 -p 128 -s 262144 disk.img
   mklittlefs -l -b 1024 -p 128 disk.img  one of 256 KiB with other blocks
+  mklittlefs -l -b auto flash.bin        one whose blocks its superblock tells
+  mklittlefs -l -b auto --offset 2M flash.bin
   mklittlefs -c settings --order shorter-first disk.img
   mklittlefs -c settings --board esp32 -s 0x160000 disk.img
   mklittlefs -l --also-2.1 disk.img      lists one that firmware has changed
@@ -51,7 +55,8 @@ Sizes:
   -p  8, 16, 32, 64, 128, 256 or 512, and at most an eighth of -b
   -s  a multiple of -b: from 2 to 65536 blocks, and at most 268435456
   With -l, -u and --check the size is that of IMAGE, and -b is the one that it
-  was made with.
+  was made with. -b auto takes the size and number of blocks from its
+  superblock, and leaves alone what is behind them. --offset N skips N bytes.
 
 Limits:
   --name-max    from 1 to 255
@@ -259,12 +264,14 @@ fn with_create_unpack_list_and_check_options<'a>(
 fn with_size_options<'a>(alloc: Global, command: Command<'a>) -> Result<Command<'a>, AllocError>
     ensures { IfOk result (λ c. app_of c ≡ with_size_options (app_of command.entry)) }
 {
-    let block_size = "Size of a block in bytes [default: 4096]";
+    let block_size = "Size of a block in bytes, or auto [default: 4096]";
     let page = "Size of a page in bytes [default: 256]";
     let size = "Size of the image in bytes, with -c [default: 65536]";
+    let offset = "Bytes of IMAGE before the image, without -c [default: 0]";
     let command = with_number_option(alloc, command, "block_size", ('b', "block"), block_size)?;
     let command = with_number_option(alloc, command, "page", ('p', "page"), page)?;
     let command = with_number_option(alloc, command, "size", ('s', "size"), size)?;
+    let command = with_limit_option(alloc, command, "offset", "offset", offset)?;
     Ok(command)
 }
 

@@ -1,14 +1,16 @@
-ghost use Rattle.std.specs.Prelude.{◌≡◌, List, IfErr, IfOk, Some, map};
+ghost use Rattle.std.specs.Prelude.{◌≡◌, List, IfErr, IfOk, Some, false, map};
 ghost use Rattle.clap.specs.Words.{Text, found_of, rows_of};
 ghost use Rattle.lfs_tool_line.specs.Choices.{AreChoicesOfParsedArguments};
-ghost use Rattle.lfs_tool_line.specs.Matches.{HasGivenImage, IsLineErrorOfWords, IsCommandLineOfParsedArguments, IsRequestOfParsedArguments, ParserAcceptsWords, broken_limit, given_board, given_name_order, name_order_of_text, rows};
+ghost use Rattle.lfs_tool_line.specs.Matches.{HasGivenImage, IsLineErrorOfWords, IsCommandLineOfParsedArguments, IsRequestOfParsedArguments, ParserAcceptsWords, makes_part_of_file, broken_limit, given_board, given_name_order, name_order_of_text, rows};
 
 use crate::board::Board;
 use crate::command::parse_command_line_words;
 use crate::extras::{Extras, Misuse, extras_of_matches, misused_option};
 use crate::limits::{Limit, first_broken_limit, given_or_other_profile};
 use crate::modes::mode_of_matches;
-use crate::values::{argument_text, flag_value_in_matches, given_or_other_number};
+use crate::values::{
+    argument_text, flag_value_in_matches, given_or_other_number, is_block_size_auto,
+};
 use clap::ArgMatches;
 use lfs_model::{NameOrder, Profile};
 use std::alloc::Global;
@@ -42,6 +44,10 @@ pub struct Line<'a> {
     pub mode: Mode<'a>,
     /// The size of a block in bytes.
     pub block_size: u32,
+    /// Whether the size and the number of blocks are those of the superblock.
+    pub is_auto: bool,
+    /// How many bytes are before the image.
+    pub offset: u32,
     /// The size of a page in bytes, the unit that a device programs.
     pub page: u32,
     /// The size of the image in bytes, for `Mode::Create`.
@@ -93,6 +99,9 @@ pub enum LineError {
     /// An option has no meaning with the mode.
     #[error("error: {}", .0.rule())]
     Misuse(Misuse),
+    /// An image is to be written, and a part of a file is given.
+    #[error("error: -b auto and --offset are for -l, -u, --check and --cat")]
+    Part,
     /// A word isn't UTF-8. `read_line` doesn't return this, since its words are text.
     #[error("error: the command line is not UTF-8")]
     NotUtf8,
@@ -148,6 +157,18 @@ fn choices_of_matches<'a>(matches: &ArgMatches<'a>) -> Result<Choices<'a>, LineE
     }
 }
 
+// Returns whether a line's mode writes an image, and a part of a file is given.
+fn makes_part_of_file(line: &Line<'_>) -> bool
+    ensures { result ≡ makes_part_of_file line.now }
+{
+    match line.mode {
+        Mode::Create(_) | Mode::Put(..) | Mode::Remove(_) | Mode::Mkdir(_) => {
+            line.is_auto || line.offset != 0
+        }
+        _ => false,
+    }
+}
+
 // Returns the line of the matches, or the first limit that breaks its rule.
 fn command_line_of_matches<'a>(
     matches: &ArgMatches<'a>,
@@ -166,6 +187,8 @@ fn command_line_of_matches<'a>(
     Ok(Line {
         mode: choices.mode,
         block_size,
+        is_auto: is_block_size_auto(matches),
+        offset: given_or_other_number(matches, "offset", 0),
         page: given_or_other_number(matches, "page", 256),
         size: given_or_other_number(matches, "size", 65536),
         order: choices.order,
@@ -176,10 +199,10 @@ fn command_line_of_matches<'a>(
 }
 
 /// Reads the words of a command line, the program's name first:
-/// `mklittlefs (-c DIR | -u DIR | -l | --check | --cat PATH | --put FILE PATH | --remove PATH | --mkdir PATH) [-b N] [-p N] [-s N] [--order ORDER] [--name-max N] [--file-max N]
-/// [--attr-max N] [--inline-max N] [--board NAME] [--also-2.1] [--exclude PATTERN] [--follow-links] [--skip-links] [--json]
-/// [--explain] IMAGE`. The long names are `--create`,
-/// `--unpack`, `--list`, `--block`, `--page` and `--size`.
+/// `mklittlefs (-c DIR | -u DIR | -l | --check | --cat PATH | --put FILE PATH | --remove PATH | --mkdir PATH) [-b N] [-p N] [-s N]
+/// [--offset N] [--order ORDER] [--name-max N] [--file-max N] [--attr-max N] [--inline-max N] [--board NAME] [--also-2.1]
+/// [--exclude PATTERN] [--follow-links] [--skip-links] [--json] [--explain] IMAGE`. The long names are `--create`, `--unpack`,
+/// `--list`, `--block`, `--page` and `--size`. `-b auto` and `--offset` go with the modes that write no image.
 ///
 /// A number is from 0 to 4294967295, as `4096`, `0x1000`, `4k` and `1.5M` are: decimal, hexadecimal, or in units of 1024
 /// or 1048576 bytes, where it may have a point. Where an option isn't given, a block has 4096 bytes, a
@@ -190,9 +213,10 @@ fn command_line_of_matches<'a>(
 ///
 /// # Errors
 /// `LineError::Parser` where the parser refuses the words or a number is none, where they ask for help or for the
-/// version, or where memory isn't granted. `LineError::Modes` where it takes them and not exactly one mode is given. `LineError::Order` where ORDER is neither, and `LineError::Board` where NAME is none of the four.
-/// `LineError::Limit` where a limit that is given is 0 or too large. `LineError::Misuse` where another option is given with a
-/// mode for which it has no meaning.
+/// version, or where memory isn't granted. `LineError::Modes` where it takes them and not exactly one mode is given.
+/// `LineError::Order` where ORDER is neither, and `LineError::Board` where NAME is none of the four.
+/// `LineError::Limit` where a limit that is given is 0 or too large. `LineError::Part` where the mode writes an image, and
+/// `-b auto` or an offset other than 0 is given. `LineError::Misuse` where another option is given with a mode for which it has no meaning.
 pub fn read_request<'a, S: AsStr>(alloc: Global, words: &'a [S]) -> Result<Request<'a>, LineError>
     ensures ok { IfOk result (λ request. ParserAcceptsWords (map S.text words.entry.now)
         × IsRequestOfParsedArguments (rows (map S.text words.entry.now)) request) }
@@ -210,6 +234,9 @@ pub fn read_request<'a, S: AsStr>(alloc: Global, words: &'a [S]) -> Result<Reque
         Ok(line) => line,
         Err(limit) => return Err(LineError::Limit(limit)),
     };
+    if makes_part_of_file(&line) {
+        return Err(LineError::Part);
+    }
     if let Some(misuse) = misused_option(&matches) {
         return Err(LineError::Misuse(misuse));
     }
@@ -225,7 +252,7 @@ pub fn read_request<'a, S: AsStr>(alloc: Global, words: &'a [S]) -> Result<Reque
 /// Those of `read_request`.
 pub fn read_line<'a, S: AsStr>(alloc: Global, words: &'a [S]) -> Result<Line<'a>, LineError>
     ensures ok { IfOk result (λ line. ParserAcceptsWords (map S.text words.entry.now)
-        × IsCommandLineOfParsedArguments (rows (map S.text words.entry.now)) line) }
+        × IsCommandLineOfParsedArguments (rows (map S.text words.entry.now)) line × (makes_part_of_file line ≡ false)) }
     ensures err { IfErr result (IsLineErrorOfWords (map S.text words.entry.now)) }
 {
     match read_request(alloc, words) {

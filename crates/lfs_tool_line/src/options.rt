@@ -19,8 +19,8 @@ pub(crate) fn number_arg<'a>(alloc: Global, id: &'a str, long: &'a str, help: &'
         .help(help)
 }
 
-// Adds an option that takes a limit.
-fn with_limit_option<'a>(
+// Adds an option that takes a number, with its long name alone.
+pub(crate) fn with_limit_option<'a>(
     alloc: Global,
     command: Command<'a>,
     id: &'a str,

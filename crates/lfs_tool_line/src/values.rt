@@ -2,7 +2,7 @@
 
 ghost use Rattle.std.specs.Prelude.{◌≡◌, option_map};
 ghost use Rattle.clap.specs.Words.{first_of, found_of, rows_of};
-ghost use Rattle.lfs_tool_line.specs.Values.{bad_number_of_option, first_bad_number, flag_value_in_rows, number_options, number_or, numeric_option_value_in_rows};
+ghost use Rattle.lfs_tool_line.specs.Values.{bad_number_of_option, first_bad_number, flag_value_in_rows, is_block_size_auto, number_options, number_or, numeric_option_value_in_rows, other_number_options};
 
 use crate::numbers::number_in_text;
 use clap::ArgMatches;
@@ -51,18 +51,40 @@ fn bad_number<'a>(matches: &ArgMatches<'a>, id: &str) -> Option<&'a str>
     }
 }
 
+// Returns whether the size of a block is that of the superblock.
+pub(crate) fn is_block_size_auto(matches: &ArgMatches<'_>) -> bool
+    ensures { result ≡ is_block_size_auto (rows_of (found_of matches.now)) }
+{
+    match argument_text(matches, "block_size") {
+        Some(text) => text == "auto",
+        None => false,
+    }
+}
+
 // Returns the first option whose text names no number, and the text.
 pub(crate) fn first_bad_number<'a>(matches: &ArgMatches<'a>) -> Option<(&'static str, &'a str)>
-    ensures { option_map (λ bad. bad.1.now) result ≡ first_bad_number number_options (rows_of (found_of matches.now)) }
+    ensures { option_map (λ bad. bad.1.now) result ≡ first_bad_number (number_options (rows_of (found_of matches.now))) (rows_of (found_of matches.now)) }
 {
-    if let Some(text) = bad_number(matches, "block_size") {
-        return Some(("block", text));
+    if !is_block_size_auto(matches) {
+        if let Some(text) = bad_number(matches, "block_size") {
+            return Some(("block", text));
+        }
     }
+    first_other_bad_number(matches)
+}
+
+// Returns the same of the options behind the size of a block.
+fn first_other_bad_number<'a>(matches: &ArgMatches<'a>) -> Option<(&'static str, &'a str)>
+    ensures { option_map (λ bad. bad.1.now) result ≡ first_bad_number other_number_options (rows_of (found_of matches.now)) }
+{
     if let Some(text) = bad_number(matches, "page") {
         return Some(("page", text));
     }
     if let Some(text) = bad_number(matches, "size") {
         return Some(("size", text));
+    }
+    if let Some(text) = bad_number(matches, "offset") {
+        return Some(("offset", text));
     }
     if let Some(text) = bad_number(matches, "name_max") {
         return Some(("name-max", text));

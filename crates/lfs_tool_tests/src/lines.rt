@@ -18,12 +18,14 @@ const DEFAULT: Profile = Profile {
 };
 
 // The words of command lines, and what they say.
-const LINES: [(&[&str], Line<'static>); 9] = [
+const LINES: [(&[&str], Line<'static>); 10] = [
     (
         &["mklittlefs", "--list", "disk.img"],
         Line {
             mode: Mode::List,
             block_size: 4096,
+            is_auto: false,
+            offset: 0,
             page: 256,
             size: 65536,
             order: NameOrder::LongerFirst,
@@ -37,6 +39,8 @@ const LINES: [(&[&str], Line<'static>); 9] = [
         Line {
             mode: Mode::Unpack("dir"),
             block_size: 4096,
+            is_auto: false,
+            offset: 0,
             page: 256,
             size: 65536,
             order: NameOrder::LongerFirst,
@@ -50,6 +54,8 @@ const LINES: [(&[&str], Line<'static>); 9] = [
         Line {
             mode: Mode::Check,
             block_size: 1024,
+            is_auto: false,
+            offset: 0,
             page: 256,
             size: 65536,
             order: NameOrder::LongerFirst,
@@ -64,6 +70,8 @@ const LINES: [(&[&str], Line<'static>); 9] = [
         Line {
             mode: Mode::Create("dir"),
             block_size: 4096,
+            is_auto: false,
+            offset: 0,
             page: 256,
             size: 8192,
             order: NameOrder::LongerFirst,
@@ -77,6 +85,8 @@ const LINES: [(&[&str], Line<'static>); 9] = [
         Line {
             mode: Mode::List,
             block_size: 4096,
+            is_auto: false,
+            offset: 0,
             page: 256,
             size: 65536,
             order: NameOrder::LongerFirst,
@@ -101,6 +111,8 @@ const LINES: [(&[&str], Line<'static>); 9] = [
         Line {
             mode: Mode::Create("dir"),
             block_size: 512,
+            is_auto: false,
+            offset: 0,
             page: 16,
             size: 1024,
             order: NameOrder::ShorterFirst,
@@ -122,6 +134,8 @@ const LINES: [(&[&str], Line<'static>); 9] = [
         Line {
             mode: Mode::Unpack("out"),
             block_size: 4096,
+            is_auto: false,
+            offset: 0,
             page: 256,
             size: 4_294_967_295,
             order: NameOrder::LongerFirst,
@@ -145,6 +159,8 @@ const LINES: [(&[&str], Line<'static>); 9] = [
         Line {
             mode: Mode::Create("dir"),
             block_size: 1024,
+            is_auto: false,
+            offset: 0,
             page: 128,
             size: 262_144,
             order: NameOrder::LongerFirst,
@@ -158,10 +174,27 @@ const LINES: [(&[&str], Line<'static>); 9] = [
         Line {
             mode: Mode::List,
             block_size: 4096,
+            is_auto: false,
+            offset: 0,
             page: 256,
             size: 65536,
             order: NameOrder::LongerFirst,
             explain: true,
+            profile: DEFAULT,
+            image: "i",
+        },
+    ),
+    (
+        &["mklittlefs", "-bauto", "--offset", "2M", "-l", "i"],
+        Line {
+            mode: Mode::List,
+            block_size: 4096,
+            is_auto: true,
+            offset: 2_097_152,
+            page: 256,
+            size: 65536,
+            order: NameOrder::LongerFirst,
+            explain: false,
             profile: DEFAULT,
             image: "i",
         },
@@ -175,6 +208,8 @@ const PROFILES: [(&[&str], Line<'static>); 8] = [
         Line {
             mode: Mode::List,
             block_size: 4096,
+            is_auto: false,
+            offset: 0,
             page: 256,
             size: 65536,
             order: NameOrder::LongerFirst,
@@ -200,6 +235,8 @@ const PROFILES: [(&[&str], Line<'static>); 8] = [
         Line {
             mode: Mode::Create("d"),
             block_size: 4096,
+            is_auto: false,
+            offset: 0,
             page: 256,
             size: 65536,
             order: NameOrder::LongerFirst,
@@ -231,6 +268,8 @@ const PROFILES: [(&[&str], Line<'static>); 8] = [
         Line {
             mode: Mode::Create("d"),
             block_size: 4096,
+            is_auto: false,
+            offset: 0,
             page: 256,
             size: 65536,
             order: NameOrder::LongerFirst,
@@ -263,6 +302,8 @@ const PROFILES: [(&[&str], Line<'static>); 8] = [
         Line {
             mode: Mode::Create("d"),
             block_size: 4096,
+            is_auto: false,
+            offset: 0,
             page: 128,
             size: 1_441_792,
             order: NameOrder::LongerFirst,
@@ -283,6 +324,8 @@ const PROFILES: [(&[&str], Line<'static>); 8] = [
         Line {
             mode: Mode::Create("d"),
             block_size: 8192,
+            is_auto: false,
+            offset: 0,
             page: 256,
             size: 65536,
             order: NameOrder::LongerFirst,
@@ -301,6 +344,8 @@ const PROFILES: [(&[&str], Line<'static>); 8] = [
         Line {
             mode: Mode::Check,
             block_size: 1024,
+            is_auto: false,
+            offset: 0,
             page: 256,
             size: 65536,
             order: NameOrder::LongerFirst,
@@ -327,6 +372,8 @@ const PROFILES: [(&[&str], Line<'static>); 8] = [
         Line {
             mode: Mode::Create("d"),
             block_size: 4096,
+            is_auto: false,
+            offset: 0,
             page: 256,
             size: 65536,
             order: NameOrder::LongerFirst,
@@ -353,6 +400,8 @@ const PROFILES: [(&[&str], Line<'static>); 8] = [
         Line {
             mode: Mode::Create("d"),
             block_size: 8192,
+            is_auto: false,
+            offset: 0,
             page: 256,
             size: 65536,
             order: NameOrder::LongerFirst,
@@ -535,7 +584,13 @@ Progress:
 
 // Words that are no line: the status, what goes to `out`, and what to `err`, if that isn't the parser's
 // own text.
-const REFUSED: [(&[&str], u8, &str, Option<&str>); 37] = [
+const PART: &str = "error: -b auto and --offset are for -l, -u, --check and --cat\n";
+
+const REFUSED: [(&[&str], u8, &str, Option<&str>); 40] = [
+    // a part of a file that is to be made
+    (&["mklittlefs", "-cd", "-b", "auto", "i"], 2, "", Some(PART)),
+    (&["mklittlefs", "-cd", "--offset=1", "i"], 2, "", Some(PART)),
+    (&["mklittlefs", "-l", "-pauto", "i"], 2, "", None),
     // not exactly one mode
     (&["mklittlefs", "i"], 2, "", Some(MODES)),
     (&["mklittlefs", "-p", "256", "i", "-b0"], 2, "", Some(MODES)),

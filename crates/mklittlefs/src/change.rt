@@ -1,6 +1,6 @@
 // A change of an image, which takes its place whole or not at all.
 
-use crate::files::{Host, NotedWriter, open_image};
+use crate::files::{Host, NotedWriter, open_file};
 use crate::session::session_of_line;
 use lfs_device::{Error, RamDevice};
 use lfs_fs::{OpenFlags, Session};
@@ -27,7 +27,7 @@ fn change_in_session(
 ) -> Result<(), ToolError> {
     match line.mode {
         Mode::Put(file, path) => {
-            let mut file = open_image(host, file)?;
+            let mut file = WatchedStream::new(open_file(host, file)?);
             let bytes = read_image(host.alloc(), &mut file)?;
             put_bytes(host, session, path, bytes.as_slice())?;
         }

@@ -1,10 +1,11 @@
 // Why a command line wasn't carried out: the lines of --explain.
 
 use crate::blocks::{EnoughBlocks, enough_blocks_for_entries};
-use crate::files::{Host, OldImage, is_standard_stream, open_image};
+use crate::files::{Host, is_standard_stream};
 use crate::limit_watch::{LimitWatch, PassedLimit};
+use crate::parts::{ImagePart, OldImage, open_part};
 use crate::path_words::push_path_line;
-use crate::run::{folder_of_line, geometry_of_line, layout_of_line, refusing_file_limit};
+use crate::run::{folder_of_line, geometry_of_line, refusing_file_limit};
 use lfs_device::Error;
 use lfs_tool::{
     CheckResult, Fault, ImageInput, Line, Mode, RefusalReason, ToolError, ToolOutput, WrongNumber,
@@ -21,11 +22,11 @@ const IMAGE_MAX: u32 = 268_435_456;
 const LATER_VERSION: u32 = 0x0002_0001;
 
 // Opens the line's image once more. Standard input can't be read twice.
-fn open_image_again<'a>(host: Host<'a>, line: &Line<'a>) -> Result<OldImage<'a>, ToolError> {
+fn open_part_again<'a>(host: Host<'a>, line: &Line<'a>) -> Result<ImagePart<'a>, ToolError> {
     if is_standard_stream(line.image) {
         return Err(ToolError::Input);
     }
-    open_image(host, line.image)
+    open_part(host, line)
 }
 
 // The fault that a file, a folder or a stream met.
@@ -40,13 +41,9 @@ fn path_fault_line(host: Host<'_>) -> Result<Vec<u8>, ToolError> {
     Ok(text)
 }
 
-// How many bytes the line's image has, or one more than it may have.
-fn size_of_image(host: Host<'_>, line: &Line<'_>) -> Result<usize, ToolError> {
-    if let Mode::Create(_) = line.mode {
-        return Ok(line.size as usize);
-    }
+// How many bytes an image has, or one more than it may have.
+fn size_of_image(image: &mut OldImage<'_>) -> Result<usize, ToolError> {
     let most = IMAGE_MAX as usize + 1;
-    let mut image = open_image_again(host, line)?;
     let mut buffer = [0u8; 65536];
     let mut size = 0usize;
     for _ in 0..most {
@@ -74,13 +71,26 @@ fn path_in_image_line(host: Host<'_>, line: &Line<'_>, error: Error) -> Result<V
     Ok(text)
 }
 
+// The sizes of the line's image.
+fn sizes_of_image(host: Host<'_>, line: &Line<'_>) -> Result<Sizes, ToolError> {
+    if let Mode::Create(_) = line.mode {
+        return Ok(Sizes {
+            size: line.size as usize,
+            block_size: line.block_size,
+            page: line.page,
+        });
+    }
+    let ImagePart { mut stream, layout } = open_part_again(host, line)?;
+    Ok(Sizes {
+        size: size_of_image(&mut stream)?,
+        block_size: layout.block_size,
+        page: layout.page,
+    })
+}
+
 // The rule that the sizes break, or what is wrong with the path in the image.
 fn size_rule_line(host: Host<'_>, line: &Line<'_>) -> Result<Vec<u8>, ToolError> {
-    let sizes = Sizes {
-        size: size_of_image(host, line)?,
-        block_size: line.block_size,
-        page: line.page,
-    };
+    let sizes = sizes_of_image(host, line)?;
     let mut text = Vec::new(host.alloc());
     match sizes.broken_rule() {
         Some(rule) => sizes.push_broken_rule_line(&mut text, rule)?,
@@ -103,8 +113,8 @@ fn wrong_number_of_check_result(checked: &CheckResult) -> Option<WrongNumber> {
 
 // What a check says of the image. For version 2.1 it says which option reads it.
 fn check_lines(host: Host<'_>, line: &Line<'_>) -> Result<Vec<u8>, ToolError> {
-    let mut image = open_image_again(host, line)?;
-    let checked = check_result_of_image(host.alloc(), &mut image, layout_of_line(line))?;
+    let ImagePart { mut stream, layout } = open_part_again(host, line)?;
+    let checked = check_result_of_image(host.alloc(), &mut stream, layout)?;
     let mut text = lines_of_check_result(host.alloc(), &checked)?;
     if wrong_number_of_check_result(&checked) == Some(WrongNumber::Version(LATER_VERSION)) {
         let _end = text.pop();

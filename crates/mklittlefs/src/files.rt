@@ -2,7 +2,7 @@
 
 use crate::leftovers::{begin_new_image, remove_leftovers};
 use lfs_device::Error;
-use lfs_tool::{ToolError, WatchedStream};
+use lfs_tool::ToolError;
 use lfs_tool_folders::{FaultLog, FolderRules, NewImage};
 use std::alloc::Global;
 use std::cell::Cell;
@@ -102,10 +102,10 @@ impl Read for NotedReader<'_> {
     }
 }
 
-pub(crate) type OldImage<'a> = WatchedStream<BufReader<NotedReader<'a>>>;
+pub(crate) type OpenFile<'a> = BufReader<NotedReader<'a>>;
 
-/// Opens the image at a path, to read it.
-pub(crate) fn open_image<'a>(host: Host<'a>, path: &'a str) -> Result<OldImage<'a>, ToolError> {
+/// Opens the file at a path, to read it.
+pub(crate) fn open_file<'a>(host: Host<'a>, path: &'a str) -> Result<OpenFile<'a>, ToolError> {
     let stream = if is_standard_stream(path) {
         ReadStream::Standard(host.rt.stdin())
     } else {
@@ -118,7 +118,7 @@ pub(crate) fn open_image<'a>(host: Host<'a>, path: &'a str) -> Result<OldImage<'
     };
     let reader = NotedReader { stream, path, host };
     match BufReader::with_capacity(host.alloc(), READ_AHEAD, reader) {
-        Ok(reader) => Ok(WatchedStream::new(reader)),
+        Ok(reader) => Ok(reader),
         Err(_) => Err(ToolError::Fs(Error::NoMemory)),
     }
 }

@@ -1,9 +1,11 @@
 // The lines of a list and of a check as JSON.
 
-use crate::files::{Host, OldImage};
+use crate::files::Host;
+use crate::parts::OldImage;
+use crate::run::check_image;
 use lfs_device::Error;
 use lfs_tool::{
-    ImageLayout, ToolError, ToolOutput, WatchedStream, check, list, write_bytes_and_flush,
+    ImageLayout, Line, ToolError, ToolOutput, WatchedStream, list, write_bytes_and_flush,
 };
 use std::alloc::{AllocError, Global};
 use std::io::Write;
@@ -137,6 +139,8 @@ fn push_members(text: &mut Vec<u8>, line: &[u8]) -> Result<(), AllocError> {
         }
         push_key(text, b"reason")?;
         push_string(text, behind)
+    } else if key == "behind".as_bytes() {
+        text.extend_from_slice(first)
     } else if key == "used".as_bytes() {
         text.extend_from_slice(first)?;
         push_key(text, b"blocks")?;
@@ -156,7 +160,7 @@ fn json_of_check(alloc: Global, lines: &[u8]) -> Result<Vec<u8>, AllocError> {
             text.extend_from_slice(b"{\"ok\": true")?;
         } else if line == "corrupt".as_bytes() && text.is_empty() {
             text.extend_from_slice(b"{\"ok\": false")?;
-        } else if is_ok && !line.is_empty() {
+        } else if is_ok && !line.is_empty() || line.starts_with(b"behind ") {
             push_members(&mut text, line)?;
         } else if !line.is_empty() {
             push_key(&mut text, b"reason")?;
@@ -191,12 +195,11 @@ pub(crate) fn list_as_json<W: ToolOutput>(
 /// Checks an image, and writes one object. Returns whether the image is accepted.
 pub(crate) fn check_as_json<W: ToolOutput>(
     host: Host<'_>,
-    image: &mut OldImage<'_>,
-    layout: ImageLayout,
+    line: &Line<'_>,
     out: &mut W,
 ) -> Result<bool, ToolError> {
     let mut lines = WatchedStream::new(Vec::new(host.alloc()));
-    let accepted = memory_answer(check(host.alloc(), image, layout, &mut lines))?;
+    let accepted = memory_answer(check_image(host, line, &mut lines))?;
     let text = json_of_check(host.alloc(), lines.inner().as_slice())?;
     write_bytes_and_flush(out, text.as_slice())?;
     Ok(accepted)

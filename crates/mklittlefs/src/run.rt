@@ -3,13 +3,15 @@
 use crate::cat::cat_file;
 use crate::change::change_image;
 use crate::explain::write_explanation;
-use crate::files::{Host, NotedWriter, open_image};
+use crate::files::{Host, NotedWriter};
 use crate::json::{check_as_json, list_as_json};
+use crate::parts::{ImagePart, count_bytes_behind, open_part};
 use crate::progress::progress_at_terminal;
 use lfs_device::{Error, Geometry};
 use lfs_tool::{
     Extras, Fault, ImageLayout, Line, LineError, Mode, Request, ToolError, ToolOutput,
     WatchedStream, check, create, geometry_of_image_sizes, list, read_request, report, unpack,
+    write_bytes_and_flush,
 };
 use lfs_tool_folders::{Folder, FolderRules, Links, Target, TargetError, TargetFolder};
 use std::io;
@@ -84,13 +86,13 @@ fn create_image(host: Host<'_>, line: &Line<'_>, folder: &str) -> Result<(), Too
 
 // Unpacks the image into a folder.
 fn unpack_image(host: Host<'_>, line: &Line<'_>, folder: &str) -> Result<(), ToolError> {
-    let mut image = open_image(host, line.image)?;
+    let ImagePart { mut stream, layout } = open_part(host, line)?;
     let mut target = TargetFolder::new(host.rt, host.log, folder)?;
     let mut progress = progress_at_terminal(host.rt);
     unpack(
         host.alloc(),
-        &mut image,
-        layout_of_line(line),
+        &mut stream,
+        layout,
         &mut target,
         &mut progress,
     )?;
@@ -102,6 +104,22 @@ fn unpack_image(host: Host<'_>, line: &Line<'_>, folder: &str) -> Result<(), Too
     }
 }
 
+/// Checks the image. With `-b auto` it is said how many bytes are behind it.
+pub(crate) fn check_image<W: ToolOutput>(
+    host: Host<'_>,
+    line: &Line<'_>,
+    out: &mut W,
+) -> Result<bool, ToolError> {
+    let ImagePart { mut stream, layout } = open_part(host, line)?;
+    let is_accepted = check(host.alloc(), &mut stream, layout, out)?;
+    if line.is_auto {
+        let count = count_bytes_behind(stream)?;
+        let text = format!(in host.alloc(); "behind {count} bytes\n")?;
+        write_bytes_and_flush(out, text.as_bytes())?;
+    }
+    Ok(is_accepted)
+}
+
 // Does what a line requests. Returns false where an image was checked that isn't accepted, and else true.
 fn run_mode<W: ToolOutput>(
     host: Host<'_>,
@@ -109,23 +127,17 @@ fn run_mode<W: ToolOutput>(
     json: bool,
     out: &mut W,
 ) -> Result<bool, ToolError> {
-    let layout = layout_of_line(line);
     match line.mode {
         Mode::List => {
-            let mut image = open_image(host, line.image)?;
+            let ImagePart { mut stream, layout } = open_part(host, line)?;
             if json {
-                list_as_json(host, &mut image, layout, out)?;
+                list_as_json(host, &mut stream, layout, out)?;
             } else {
-                list(host.alloc(), &mut image, layout, out)?;
+                list(host.alloc(), &mut stream, layout, out)?;
             }
         }
-        Mode::Check => {
-            let mut image = open_image(host, line.image)?;
-            if json {
-                return check_as_json(host, &mut image, layout, out);
-            }
-            return check(host.alloc(), &mut image, layout, out);
-        }
+        Mode::Check if json => return check_as_json(host, line, out),
+        Mode::Check => return check_image(host, line, out),
         Mode::Create(folder) => create_image(host, line, folder)?,
         Mode::Unpack(folder) => unpack_image(host, line, folder)?,
         Mode::Cat(path) => cat_file(host, line, path, out)?,

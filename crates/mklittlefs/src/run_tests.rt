@@ -16,7 +16,7 @@ const LEN: usize = 14;
 
 // The words of runs behind one another, the status, and what the last one writes to `out` and to `err`; the others write
 // nothing. How long the image is then. A folder `runs/files` has two files.
-const ROWS: [(&[&[&str]], u8, &str, &str, usize); 18] = [
+const ROWS: [(&[&[&str]], u8, &str, &str, usize); 21] = [
     (
         &[
             &["-c", "runs/files", "-s", "16384", "runs/image"],
@@ -71,6 +71,42 @@ const ROWS: [(&[&[&str]], u8, &str, &str, usize); 18] = [
         "",
         "",
         32768,
+    ),
+    // the blocks of the superblock, and a part of a file
+    (
+        &[
+            &[
+                "-c",
+                "runs/files",
+                "-b",
+                "8192",
+                "-s",
+                "16384",
+                "runs/image",
+            ],
+            &["--check", "-b", "auto", "runs/image"],
+        ],
+        0,
+        "ok\nfiles 2\ndirectories 0\nused 2 of 2 blocks\nfree 0\norder either\nrecover no\nwritable yes\nbehind 0 bytes\n",
+        "",
+        16384,
+    ),
+    (
+        &[
+            &["-c", "runs/files", "-s", "16384", "runs/image"],
+            &["-l", "--offset", "16384", "--explain", "runs/image"],
+        ],
+        1,
+        "",
+        "error: Invalid (22)\nsize 0, block 4096: an image has from 2 to 65536 blocks\n",
+        16384,
+    ),
+    (
+        &[&["-c", "runs/files", "--offset", "1", "runs/image"]],
+        2,
+        "",
+        "error: -b auto and --offset are for -l, -u, --check and --cat\n",
+        LEN,
     ),
     // what is left out, and lines as JSON
     (

@@ -7,7 +7,7 @@ use crate::progress::progress_at_terminal;
 use lfs_device::{Error, Geometry};
 use lfs_tool::{
     Fault, ImageLayout, Line, LineError, Mode, ToolError, ToolOutput, WatchedStream, check, create,
-    geometry_of_image_sizes, list, read_line, report, unpack, write_bytes_and_flush,
+    geometry_of_image_sizes, list, read_line, report, unpack,
 };
 use lfs_tool_folders::{Folder, Target, TargetError, TargetFolder};
 use std::io;
@@ -109,9 +109,10 @@ fn check_image<W: ToolOutput>(
     let ImagePart { mut stream, layout } = open_part(host, line)?;
     let is_accepted = check(host.alloc(), &mut stream, layout, out)?;
     if line.is_auto {
-        let count = count_bytes_behind(stream)?;
-        let text = format!(in host.alloc(); "behind {count} bytes\n")?;
-        write_bytes_and_flush(out, text.as_bytes())?;
+        let behind = count_bytes_behind(stream)?;
+        if out.show(&behind).is_err() {
+            return Err(ToolError::Output);
+        }
     }
     Ok(is_accepted)
 }

@@ -173,7 +173,7 @@ def wrong_sizes(image, block_size, page):
         image_reader.check_geometry(len(image), block_size, page)
     except image_reader.Refused:
         size = min(len(image), LARGEST_IMAGE + 1)
-        yield "sizes", f"no image of blocks of {block_size} bytes and pages of {page} has {size} bytes"
+        yield "sizes", f"no image of blocks of {block_size} bytes and pages of {page} has a length of {size}"
 
 
 def place(address, ident, slot):

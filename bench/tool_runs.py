@@ -83,7 +83,7 @@ RUNS = [
     ({"image": IMAGE}, ["-l image"], (0, "f 5 /a\nd 0 /d\nf 0 /d/x\n", ""), {"image": IMAGE}),
     ({}, ["-c files image", "--check image"], (0, "ok\nfiles 2\ndirectories 0\n" + CHECKED, ""), {}),
     ({}, ["-c files image", "--check image -b 8192"], (1, "corrupt\nsuperblock: block size 4096, given 8192\n", ""), {}),
-    ({}, ["--check image"], (1, "corrupt\nno image of blocks of 4096 bytes and pages of 256 has 14 bytes\n", ""), KEPT),
+    ({}, ["--check image"], (1, "corrupt\nno image of blocks of 4096 bytes and pages of 256 has a length of 14\n", ""), KEPT),
     ({"z": UNTAGGED}, ["--check z"], (1, "corrupt\npair 0 1: no commit with a right checksum\n", ""), {}),
     # a part of a file
     ({"image": IMAGE + bytes(5000)}, ["-l -b auto image"], (0, "f 5 /a\nd 0 /d\nf 0 /d/x\n", ""), {}),

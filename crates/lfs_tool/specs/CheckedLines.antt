@@ -90,7 +90,7 @@ wrong_superblock_number_text given (stated.BlockCount n) = codes "superblock: bl
 wrong_superblock_number_text given (stated.Version n) = codes "superblock: version " ++ decimal (n / 65536) ++ codes "." ++ decimal (n % 65536)
 
 abbrev pub no_image_text : GivenSizes → List ℕ
-no_image_text given = ((codes "no image of blocks of " ++ decimal given.block_size ++ codes " bytes and pages of " ++ decimal given.page) ++ codes " has " ++ decimal given.size) ++ codes " bytes"
+no_image_text given = (codes "no image of blocks of " ++ decimal given.block_size ++ codes " bytes and pages of " ++ decimal given.page) ++ (codes " has a length of " ++ decimal given.size)
 
 abbrev pub unaccepted_reason_text : GivenSizes → RefusalReason → List ℕ
 unaccepted_reason_text given (reason.WrongNumber stated) = wrong_superblock_number_text given stated

@@ -331,8 +331,7 @@ fn push_no_image_of_given_sizes_text(
         " bytes and pages of ",
         page,
     )?;
-    push_labelled_number(text, " has ", given.size)?;
-    push_text(text, " bytes")?;
+    push_labelled_number(text, " has a length of ", given.size)?;
     Ok(())
 }
 

@@ -602,19 +602,19 @@ const SIZES: [(usize, u32, u32, &str); 9] = [
         40,
         4096,
         256,
-        "corrupt\nno image of blocks of 4096 bytes and pages of 256 has 40 bytes\n",
+        "corrupt\nno image of blocks of 4096 bytes and pages of 256 has a length of 40\n",
     ),
     (
         65536,
         0,
         256,
-        "corrupt\nno image of blocks of 0 bytes and pages of 256 has 65536 bytes\n",
+        "corrupt\nno image of blocks of 0 bytes and pages of 256 has a length of 65536\n",
     ),
     (
         0,
         4096,
         256,
-        "corrupt\nno image of blocks of 4096 bytes and pages of 256 has 0 bytes\n",
+        "corrupt\nno image of blocks of 4096 bytes and pages of 256 has a length of 0\n",
     ),
 ];
 

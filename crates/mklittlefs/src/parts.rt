@@ -4,8 +4,8 @@ use crate::files::{Host, OpenFile, open_file};
 use crate::run::layout_of_line;
 use lfs_device::Error;
 use lfs_tool::{ImageLayout, Line, ToolError, WatchedStream, superblock_in_image};
-use std::io;
 use std::io::{Chain, Cursor, ErrorKind, Read, Take};
+use std::{fmt, io};
 
 // As far as a superblock of block 0 or 1 is, with the largest blocks.
 const HEAD: u64 = 65_580;
@@ -60,8 +60,21 @@ pub(crate) fn open_part<'a>(host: Host<'a>, line: &Line<'a>) -> Result<ImagePart
     Ok(ImagePart { stream, layout })
 }
 
+/// How many bytes are behind an image, as a line.
+#[derive(Drop)]
+pub(crate) struct BytesBehind {
+    count: u64,
+}
+
+impl fmt::Display for BytesBehind {
+    fn fmt<W: fmt::Write>(&self, f: &mut fmt::Formatter<W>) -> fmt::Result {
+        write!(f, "behind {} bytes\n", self.count)
+    }
+}
+
 /// Counts the bytes behind an image that was read.
-pub(crate) fn count_bytes_behind(image: OldImage<'_>) -> Result<u64, ToolError> {
+pub(crate) fn count_bytes_behind(image: OldImage<'_>) -> Result<BytesBehind, ToolError> {
     let mut rest = image.into_inner().into_inner();
-    skip_bytes(&mut rest, u64::MAX)
+    let count = skip_bytes(&mut rest, u64::MAX)?;
+    Ok(BytesBehind { count })
 }

@@ -11,7 +11,6 @@ use lfs_device::{Error, Geometry};
 use lfs_tool::{
     Extras, Fault, ImageLayout, Line, LineError, Mode, Request, ToolError, ToolOutput,
     WatchedStream, check, create, geometry_of_image_sizes, list, read_request, report, unpack,
-    write_bytes_and_flush,
 };
 use lfs_tool_folders::{Folder, FolderRules, Links, Target, TargetError, TargetFolder};
 use std::io;
@@ -113,9 +112,10 @@ pub(crate) fn check_image<W: ToolOutput>(
     let ImagePart { mut stream, layout } = open_part(host, line)?;
     let is_accepted = check(host.alloc(), &mut stream, layout, out)?;
     if line.is_auto {
-        let count = count_bytes_behind(stream)?;
-        let text = format!(in host.alloc(); "behind {count} bytes\n")?;
-        write_bytes_and_flush(out, text.as_bytes())?;
+        let behind = count_bytes_behind(stream)?;
+        if out.show(&behind).is_err() {
+            return Err(ToolError::Output);
+        }
     }
     Ok(is_accepted)
 }

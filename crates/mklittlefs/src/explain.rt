@@ -150,7 +150,7 @@ fn passed_limit_line(
     };
     entries_of_source(host, &mut watch)?;
     let mut text = Vec::new(host.alloc());
-    match watch.first {
+    match &watch.first {
         Some(words) => {
             push_escaped_path(&mut text, folder.as_bytes())?;
             text.extend_from_slice(words.as_slice())?;

@@ -32,7 +32,7 @@ no_mode = (refl, refl)
 -- the size of a block may be that of the superblock
 auto_size : (is_block_size_auto (rows (codes "m" ∷ codes "-l" ∷ codes "-bauto" ∷ codes "i" ∷ [])) ≡ true) × (faults (codes "m" ∷ codes "-l" ∷ codes "-bauto" ∷ codes "i" ∷ []) ≡ [])
     × (faults (codes "m" ∷ codes "-l" ∷ codes "-pauto" ∷ codes "i" ∷ []) ≡ kind.ValueValidation ∷ [])
-unfolding clap_on_literals mklittlefs with_mode_size_and_order_options with_mode_options with_size_options with_limit_options with_board_and_version_options rows faults number_in_text
+unfolding clap_on_literals mklittlefs with_mode_size_and_order_options with_mode_options with_path_mode_options with_size_options with_limit_options with_board_and_version_options with_extra_options rows faults number_in_text
 auto_size = (refl, refl, refl)
 
 -- each form of a number

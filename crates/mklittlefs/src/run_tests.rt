@@ -81,15 +81,15 @@ const ROWS: [(&[&[&str]], u8, &str, &str, usize); 21] = [
                 "-b",
                 "8192",
                 "-s",
-                "16384",
+                "32768",
                 "runs/image",
             ],
             &["--check", "-b", "auto", "runs/image"],
         ],
         0,
-        "ok\nfiles 2\ndirectories 0\nused 2 of 2 blocks\nfree 0\norder either\nrecover no\nwritable yes\nbehind 0 bytes\n",
+        "ok\nfiles 2\ndirectories 0\nused 2 of 4 blocks\nfree 2\norder either\nrecover no\nwritable yes\nbehind 0 bytes\n",
         "",
-        16384,
+        32768,
     ),
     (
         &[

@@ -147,7 +147,7 @@ const ROWS: [(&[&[&str]], u8, &str, &str, usize); 21] = [
     (
         &[&["--check", "--json", "runs/image"]],
         1,
-        "{\"ok\": false, \"reason\": \"no image of blocks of 4096 bytes and pages of 256\"}\n",
+        "{\"ok\": false, \"reason\": \"no image of blocks of 4096 bytes and pages of 256 has a length of 14\"}\n",
         "",
         LEN,
     ),

@@ -141,7 +141,7 @@ fn failing_readers_are_reported(rt: HostRuntime) -> Result<(), Fail> {
 
 // Whether an image is made or listed, how many bytes a call takes, at which call that fails, and how
 // many bytes it took before. The last call is the flush.
-const WRITERS: [(bool, usize, u32, usize); 20] = [
+const WRITERS: [(bool, usize, u32, usize); 19] = [
     (false, 1, 1, 0),
     (false, 1, 2, 1),
     (false, 1, 3, 2),
@@ -155,12 +155,11 @@ const WRITERS: [(bool, usize, u32, usize); 20] = [
     (false, 3, 3, 6),
     (false, 3, 4, 7),
     (true, 40000, 1, 0),
-    (true, 40000, 2, 8192),
-    (true, 40000, 3, 48192),
-    (true, 40000, 4, 65536),
+    (true, 40000, 2, 40000),
+    (true, 40000, 3, 65536),
     (true, 4096, 2, 4096),
     (true, 1, 2, 1),
-    (true, 65535, 2, 8192),
+    (true, 65535, 2, 65535),
     (true, 65535, 3, 65536),
 ];
 

@@ -493,9 +493,10 @@ Options:
       --put <FILE> <PATH>  Put the bytes of FILE at PATH in IMAGE
       --remove <PATH>      Remove the file or the empty folder at PATH in IMAGE
       --mkdir <PATH>       Make a folder at PATH in IMAGE
-  -b, --block <N>          Size of a block in bytes [default: 4096]
+  -b, --block <N>          Size of a block in bytes, or auto [default: 4096]
   -p, --page <N>           Size of a page in bytes [default: 256]
   -s, --size <N>           Size of the image in bytes, with -c [default: 65536]
+      --offset <N>         Bytes of IMAGE before the image, without -c [default: 0]
       --order <ORDER>      Order of names in the image that -c makes [default: longer-first]
       --name-max <N>       Longest name in bytes, with -c [default: 255]
       --file-max <N>       Longest file in bytes, with -c [default: 2147483647]
@@ -520,6 +521,8 @@ Examples:
   mklittlefs --put wifi.txt /keys/wifi disk.img
   mklittlefs -c settings -b 1024 -p 128 -s 262144 disk.img
   mklittlefs -l -b 1024 -p 128 disk.img  one of 256 KiB with other blocks
+  mklittlefs -l -b auto flash.bin        one whose blocks its superblock tells
+  mklittlefs -l -b auto --offset 2M flash.bin
   mklittlefs -c settings --order shorter-first disk.img
   mklittlefs -c settings --board esp32 -s 0x160000 disk.img
   mklittlefs -l --also-2.1 disk.img      lists one that firmware has changed
@@ -537,7 +540,8 @@ Sizes:
   -p  8, 16, 32, 64, 128, 256 or 512, and at most an eighth of -b
   -s  a multiple of -b: from 2 to 65536 blocks, and at most 268435456
   With -l, -u and --check the size is that of IMAGE, and -b is the one that it
-  was made with.
+  was made with. -b auto takes the size and number of blocks from its
+  superblock, and leaves alone what is behind them. --offset N skips N bytes.
 
 Limits:
   --name-max    from 1 to 255

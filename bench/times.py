@@ -19,7 +19,6 @@ difference is what was missed, and what compiling, linking, and running tests an
 import collections
 import json
 import os
-import re
 import resource
 import shutil
 import subprocess
@@ -29,6 +28,7 @@ import time
 
 TICK = os.sysconf("SC_CLK_TCK")
 PERIOD = 0.5
+LEAST = 240
 PARTS = ("code", "tests", "edits")
 # what these two take alone tells how fast a machine is
 YARDSTICK = ("lfs_model", "lfs_device")
@@ -111,12 +111,6 @@ def copy_with(crates, room):
     return room
 
 
-def functions(log):
-    """How many functions the gate proved of each crate."""
-    with open(log) as it:
-        return dict(re.findall(r"(?s)== (\w+)\n(?:(?!== ).)*?functions=(\d+)", it.read()))
-
-
 def remembered(totals, file):
     """The figures of this run, and of earlier ones for what it didn't measure. They are left in the file."""
     if os.path.exists(file):
@@ -135,12 +129,22 @@ def edits_of(crate):
     return len([it for it in os.listdir(folder) if it.endswith(".edit")]) if os.path.isdir(folder) else 0
 
 
-def table(totals, counts):
-    """The lines of the table, the crate that takes longest first."""
-    yield "| Crate | Functions | Code | Tests | Wrong bodies | Their number |"
-    yield "|---|---|---|---|---|---|"
+def table(totals):
+    """The lines of the table, the crate that takes longest first. Those that take less than LEAST seconds are one line."""
+    yield "| Crate | Code | Tests | Wrong bodies (their number) |"
+    yield "|---|---|---|---|"
+    small = [crate for crate, spent in totals.items() if sum(spent.values()) < LEAST]
     for crate, spent in sorted(totals.items(), key=lambda it: -sum(it[1].values())):
-        yield f"| `{crate}` | {counts.get(crate, '')} | {spent['code']:.0f} | {spent['tests']:.0f} | {spent['edits']:.0f} | {edits_of(crate) or ''} |"
+        if crate not in small:
+            yield row(f"`{crate}`", spent, edits_of(crate))
+    if small:
+        spent = {part: sum(totals[crate][part] for crate in small) for part in PARTS}
+        yield row(f"{len(small)} others", spent, sum(map(edits_of, small)))
+
+
+def row(crates, spent, edits):
+    """A line of the table."""
+    return f"| {crates} | {spent['code']:.0f} | {spent['tests']:.0f} | {spent['edits']:.0f}{f' ({edits})' if edits else ''} |"
 
 
 def main():
@@ -152,7 +156,7 @@ def main():
     sums = {part: sum(it[part] for it in totals.values()) / 60 for part in PARTS}
     print("# Times\n")
     print("Printed by `bench/times.py`, which runs the gate: the processor seconds of each crate's checks, from nothing. On a machine that does other work they are upper bounds.\n")
-    print(*table(totals, functions(log)), sep="\n")
+    print(*table(totals), sep="\n")
     print(f"\nIn all {sum(sums.values()):.0f} processor minutes: {sums['code']:.0f} for the code, {sums['tests']:.0f} for tests, {sums['edits']:.0f} for wrong bodies. That is {sum(sums.values()) / sums['code']:.2f} times as much as the code's proofs alone.")
     print(f"\nThe machine's yardstick: {' and '.join(f'`{it}`' for it in YARDSTICK)} alone take {sum(totals[it]['code'] for it in YARDSTICK):.0f} processor seconds on it.")
     print(f"\nThe last run took {wall / 60:.0f} minutes on {len(os.sched_getaffinity(0))} processors, and all its processes {whole / 60:.0f} processor minutes. The gate's last line: `{last}`.")

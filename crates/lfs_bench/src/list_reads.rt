@@ -1,8 +1,8 @@
 // How many device reads it takes to read a byte of a list of 1,000 blocks. Beside these, the reads
 // of a walk back by each block's first pointer.
 
-use lfs_ctz::read_at;
 use lfs_device::{BlockDevice, CountedCalls, Error, FaultDevice, Geometry, RamDevice};
+use lfs_file::read_at;
 use std::alloc::Global;
 use std::io;
 

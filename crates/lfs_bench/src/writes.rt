@@ -1,8 +1,8 @@
 // A benchmark of a file that is written in pieces of 4 KiB, over a session on a device in memory.
 
 use crate::counting_device::{CountingDevice, Counts};
-use lfs_ctz::blocks_for;
 use lfs_device::{Error, Geometry, RamDevice};
+use lfs_file::blocks_for;
 use lfs_fs::{OpenFlags, Session, format};
 use std::alloc::Global;
 use std::io;

@@ -13,10 +13,10 @@ use Rattle.lfs_model.specs.Effects.{file_size_of_node}
 use Rattle.lfs_model.specs.Tree.{Node, FileNode, DirectoryNode, Path}
 use Rattle.lfs_tree.specs.OpenContents.{AreWriterContentsOverTreeFile, IsInMemoryExactlyUpToInlineLimit, bytes_of_writer_contents, kept_thread_of_tree_state}
 use Rattle.lfs_tree.specs.TreeState.{IsOperationAppliedToTree, TreeState, disk_summary_of_tree, tree_view}
-use Rattle.lfs_writer.specs.Contents.{storage_form_of_contents}
-use Rattle.lfs_writer.specs.Form as shape_of
-use Rattle.lfs_writer.specs.Form.{IsStorageFormOfWriterContents}
-use Rattle.lfs_writer.specs.declared.contents.WriterContents.{WriterContents}
+use Rattle.lfs_file.specs.Contents.{storage_form_of_contents}
+use Rattle.lfs_file.specs.Form as shape_of
+use Rattle.lfs_file.specs.Form.{IsStorageFormOfWriterContents}
+use Rattle.lfs_file.specs.declared.contents.WriterContents.{WriterContents}
 use Rattle.lfs_fs.specs.WriterChanges.{CanOpenWriter, IsOpenedWriterSeenAs}
 use Rattle.lfs_fs.specs.FileView.{blocks_reserved_for_size}
 use Rattle.lfs_fs.specs.declared.files.Writer.{Writer}

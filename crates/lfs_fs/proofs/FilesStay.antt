@@ -13,9 +13,9 @@ use Rattle.lfs_model.specs.Tree.{Path}
 use Rattle.lfs_model.proofs.BlockCounts.{few_flying, in_flight-freed}
 use Rattle.lfs_tree.specs.OpenContents.{AreWriterContentsOverTreeFile, IsInMemoryExactlyUpToInlineLimit, bytes_of_writer_contents, kept_thread_of_tree_state}
 use Rattle.lfs_tree.specs.TreeState.{IsOperationAppliedToTree, IsSoundTreeState, TreeState, disk_summary_of_tree, tree_view}
-use Rattle.lfs_writer.specs.Contents.{storage_form_of_contents}
-use Rattle.lfs_writer.specs.Form.{ContentsStorageForm, IsStorageFormOfWriterContents, in_flight_block_limit_of_storage_form}
-use Rattle.lfs_writer.specs.declared.contents.WriterContents.{WriterContents}
+use Rattle.lfs_file.specs.Contents.{storage_form_of_contents}
+use Rattle.lfs_file.specs.Form.{ContentsStorageForm, IsStorageFormOfWriterContents, in_flight_block_limit_of_storage_form}
+use Rattle.lfs_file.specs.declared.contents.WriterContents.{WriterContents}
 use Rattle.lfs_fs.specs.FileView.{RuntimeOpenFilesByNumber, unsaved_or_tree_bytes_of_writer, last_change_end_of_unsaved, open_files_view, has_unsaved_writer, blocks_reserved_by_writers, blocks_reserved_by_writer, blocks_reserved_for_size, reader_view, readers_among, is_unsaved_nonsequential, writer_view, writers_among, paths_of_writers}
 use Rattle.lfs_fs.specs.SessionView.{AreUnsavedContentsOfWriter, IsSessionReadyForCalls, AreOptionalUnsavedContentsOfWriter, IsWriterOverWritableImage}
 use Rattle.lfs_model.specs.Keeping.{removes_or_moves_path_or_ancestor}

@@ -7,9 +7,9 @@ use Rattle.std.proofs.lemmas.Bool.{lt-ltb, ltb-true}
 use Rattle.std.proofs.lemmas.Option.{same_Some}
 use Rattle.lfs_model.specs.declared.limits.Profile.{Profile}
 use Rattle.lfs_model.specs.Disk.{inline_limit}
-use Rattle.lfs_writer.specs.Contents.{storage_form_of_contents}
-use Rattle.lfs_writer.specs.Form as form
-use Rattle.lfs_writer.specs.Form.{StorageFormFitsWriter, ContentsStorageForm, IsStorageFormOfWriterContents}
+use Rattle.lfs_file.specs.Contents.{storage_form_of_contents}
+use Rattle.lfs_file.specs.Form as form
+use Rattle.lfs_file.specs.Form.{StorageFormFitsWriter, ContentsStorageForm, IsStorageFormOfWriterContents}
 use Rattle.std.proofs.lemmas.Bool.Decides.{nat_tests}
 use Rattle.std.proofs.lemmas.List.{map-set, map-append}
 use Rattle.std.proofs.lemmas.Option.{slice_get-map}
@@ -23,7 +23,7 @@ use Rattle.lfs_model.specs.Operations.{path_of_bytes}
 use Rattle.lfs_model.specs.Disk.{block_count}
 use Rattle.lfs_model.specs.Session.{lacks_free_blocks}
 use Rattle.lfs_tree.specs.TreeState.{TreeState, WasTreeOnlyRead, disk_summary_of_tree}
-use Rattle.lfs_ctz.specs.declared.known.KnownBlocks.{KnownBlocks}
+use Rattle.lfs_file.specs.declared.known.KnownBlocks.{KnownBlocks}
 use Rattle.lfs_fs.specs.FileView.{RuntimeOpenFilesByNumber, prepended_if_some, open_files_selected_by, unsaved_or_tree_bytes_of_writer, open_file_at, open_file_view, open_files_view, lowest_free_number_of_runtime_files, has_unsaved_writer, is_open_at_matching_path, is_unsaved_writer, blocks_reserved_by_writers, blocks_reserved_by_writer, blocks_reserved_for_size, open_file_with_known, open_file_with_position, open_files_with_entry_at_number, reader_of_open_file_or_none, reader_view, readers_among, is_unsaved_nonsequential, writer_of_open_file_or_none, writer_view, writers_among, paths_of_writers}
 use Rattle.lfs_fs.specs.SessionView.{HasKnownListBlocks, IsReaderOfCurrentContentsWithoutWriter, IsSessionReadyForCalls, AreOptionalUnsavedContentsOfWriter, IsWriterOverWritableImage}
 use Rattle.lfs_fs.specs.declared.files.OpenFile.{OpenFile}

@@ -8,7 +8,7 @@ use Rattle.lfs_model.specs.Session.{Reading, open_files_with_file_at_number}
 use Rattle.lfs_model.specs.Refusals.{path_of_bytes_or_root}
 use Rattle.lfs_tree.specs.TreeState.{TreeState, WasTreeOnlyRead, tree_view}
 use Rattle.lfs_fs.specs.FileView.{RuntimeOpenFilesByNumber, open_files_view, lowest_free_number_of_runtime_files, open_files_with_entry_at_number}
-use Rattle.lfs_ctz.specs.Known.{no_known_blocks}
+use Rattle.lfs_file.specs.Known.{no_known_blocks}
 use Rattle.lfs_model.specs.Shown.{skip_list_blocks_of_struct}
 use Rattle.lfs_lookup.specs.FileContents.{struct_of_file_contents, IsInlineBytesOrSkipListOfFileAtPath}
 use Rattle.lfs_lookup.specs.declared.file_contents.FileContents.{FileContents}

@@ -1,8 +1,8 @@
 -- A session's read of an open file: what it comes to.
 use Rattle.std.proofs.Common.{ℕ, ◌≡◌, ◌∙◌, ◌+◌, true, false, List, drop, length, set, take, Some, is_some, Result, Ok, Err, refl, sym, ap, subst}
 use Rattle.std.specs.Option.{option_map}
-use Rattle.lfs_ctz.specs.Known.{AreKnownListBlocks}
-use Rattle.lfs_ctz.specs.declared.known.KnownBlocks.{KnownBlocks}
+use Rattle.lfs_file.specs.Known.{AreKnownListBlocks}
+use Rattle.lfs_file.specs.declared.known.KnownBlocks.{KnownBlocks}
 use Rattle.lfs_device.specs.declared.error.Error.{Error}
 use Rattle.lfs_lookup.specs.FileContents.{struct_of_file_contents}
 use Rattle.lfs_lookup.specs.Refusals.{refusal_of_error}

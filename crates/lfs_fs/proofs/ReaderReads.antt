@@ -9,8 +9,8 @@ use Rattle.lfs_model.specs.Effects.{open_file_at_position, read_effect, file_siz
 use Rattle.lfs_model.specs.Tree.{Node, FileNode, DirectoryNode}
 use Rattle.std.proofs.lemmas.List.{length-drop, length-take, take_all, take_at, take_min}
 use Rattle.std.proofs.lemmas.Option.{same_Some}
-use Rattle.lfs_ctz.specs.Known.{ReadsFewPointers, ReadsKnownList}
-use Rattle.lfs_ctz.specs.declared.known.KnownBlocks.{KnownBlocks}
+use Rattle.lfs_file.specs.Known.{ReadsFewPointers, ReadsKnownList}
+use Rattle.lfs_file.specs.declared.known.KnownBlocks.{KnownBlocks}
 use Rattle.lfs_lookup.specs.FileContents.{IsInlineBytesOrSkipListOfFileAtPath, struct_of_file_contents}
 use Rattle.lfs_model.specs.History.{DeviceCallEvent, read_count_of_history}
 use Rattle.lfs_model.specs.Keeping.{struct_of_path}

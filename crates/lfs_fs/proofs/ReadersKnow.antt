@@ -4,8 +4,8 @@ use Rattle.std.specs.List.{AllByRecursion, list_any}
 use Rattle.std.specs.Option.{option_map}
 use Rattle.std.proofs.lemmas.List.{get_or-replicate}
 use Rattle.std.proofs.lemmas.Option.{same_Some}
-use Rattle.lfs_ctz.specs.Known.{AreKnownListBlocks, no_known_blocks}
-use Rattle.lfs_ctz.specs.declared.known.KnownBlocks.{KnownBlocks}
+use Rattle.lfs_file.specs.Known.{AreKnownListBlocks, no_known_blocks}
+use Rattle.lfs_file.specs.declared.known.KnownBlocks.{KnownBlocks}
 use Rattle.lfs_model.specs.Disk.{Disk}
 use Rattle.lfs_model.specs.Keeping.{removes_or_moves_path_or_ancestor, struct_of_path}
 use Rattle.lfs_model.specs.Operations.{Operation}

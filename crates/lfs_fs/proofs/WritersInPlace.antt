@@ -11,8 +11,8 @@ use Rattle.lfs_fs.specs.declared.files.Writer.{Writer}
 use Rattle.lfs_fs.proofs.OpenFiles.{one_of}
 use Rattle.lfs_fs.proofs.Writing.{changed_in}
 use Rattle.lfs_tree.specs.TreeState.{TreeState}
-use Rattle.lfs_writer.specs.Contents.{storage_form_of_contents}
-use Rattle.lfs_writer.specs.declared.contents.WriterContents.{WriterContents}
+use Rattle.lfs_file.specs.Contents.{storage_form_of_contents}
+use Rattle.lfs_file.specs.declared.contents.WriterContents.{WriterContents}
 
 entry_at : (fs : RuntimeOpenFilesByNumber) (fd : ℕ) (x : OpenFile) (other : Option OpenFile) → open_file_at fs fd ≡ Some x → slice_index_or fs fd other ≡ Some x
 entry_at [] fd x other e = absurd (cc)

@@ -18,10 +18,10 @@ use Rattle.lfs_model.specs.Thread.{gstate_of_pairs}
 use Rattle.lfs_model.specs.Tree.{Node, FileNode, DirectoryNode, Path, Tree}
 use Rattle.lfs_tree.specs.OpenContents.{CanStoreContentsAt, StoresBytesKeepingOtherFilesAtPath, CanTruncateWriterContents, CanWriteWriterContents, AreWriterContentsOverTreeFile, IsInMemoryExactlyUpToInlineLimit, WritesOnlyUnusedBlocks, bytes_of_writer_contents, kept_thread_of_tree_state}
 use Rattle.lfs_tree.specs.TreeState.{TreeState, WasTreeOnlyRead, IsFailedTree, disk_summary_of_tree, tree_view}
-use Rattle.lfs_writer.specs.Contents.{ExceedsInlineLimitIfInFlight, block_room_for_finish, NeedsRoomToTruncate, storage_form_of_contents, block_room_for_truncation, block_room_for_write}
-use Rattle.lfs_writer.specs.Form as shape_of
-use Rattle.lfs_writer.specs.Form.{StorageFormFitsWriter, ContentsStorageForm, IsStorageFormOfWriterContents, contents_size_of_storage_form, storage_form_after_write_beginning_within_contents, storage_form_after_shortening, storage_form_after_truncate, storage_form_after_write}
-use Rattle.lfs_writer.specs.declared.contents.WriterContents.{WriterContents}
+use Rattle.lfs_file.specs.Contents.{ExceedsInlineLimitIfInFlight, block_room_for_finish, NeedsRoomToTruncate, storage_form_of_contents, block_room_for_truncation, block_room_for_write}
+use Rattle.lfs_file.specs.Form as shape_of
+use Rattle.lfs_file.specs.Form.{StorageFormFitsWriter, ContentsStorageForm, IsStorageFormOfWriterContents, contents_size_of_storage_form, storage_form_after_write_beginning_within_contents, storage_form_after_shortening, storage_form_after_truncate, storage_form_after_write}
+use Rattle.lfs_file.specs.declared.contents.WriterContents.{WriterContents}
 use Rattle.lfs_fs.specs.WriterChanges.{CanChangeWriter, CanSaveWriter, IsSavedWriterSeenAs, CanTruncateByWriter, CanWriteByWriter, HasRoomForWriter, IsStorageFormOfOptionalUnsavedContents, IsChangedWriterSeenAs}
 use Rattle.lfs_fs.specs.FileView.{unsaved_or_tree_bytes_of_writer, last_change_end_of_unsaved, blocks_reserved_by_writer, blocks_reserved_for_size, is_unsaved_nonsequential, writer_view}
 use Rattle.lfs_fs.specs.SessionView.{AreUnsavedContentsOfWriter, AreOptionalUnsavedContentsOfWriter, IsWriterOverWritableImage}

@@ -6,11 +6,11 @@ use Rattle.lfs_model.specs.declared.limits.Profile.{Profile}
 use Rattle.lfs_model.specs.TreeEdits.{file_bytes_of_node}
 use Rattle.lfs_model.specs.Session as session
 use Rattle.lfs_model.specs.Session.{skip_list_block_count_unless_inline}
-use Rattle.lfs_ctz.specs.declared.known.KnownBlocks.{KnownBlocks}
+use Rattle.lfs_file.specs.declared.known.KnownBlocks.{KnownBlocks}
 use Rattle.lfs_model.specs.Disk.{Disk}
 use Rattle.lfs_model.specs.Tree.{Path, Tree}
 use Rattle.lfs_tree.specs.TreeState.{TreeState, tree_view}
-use Rattle.lfs_writer.specs.Contents.{writer_contents_bytes_in_memory_or_blocks}
+use Rattle.lfs_file.specs.Contents.{writer_contents_bytes_in_memory_or_blocks}
 use Rattle.lfs_fs.specs.declared.files.Reader.{Reader}
 use Rattle.lfs_fs.specs.declared.files.Writer.{Writer}
 use Rattle.lfs_fs.specs.declared.files.UnsavedContents.{UnsavedContents}

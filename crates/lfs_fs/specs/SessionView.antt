@@ -22,15 +22,15 @@ use Rattle.lfs_model.specs.Refusals.{path_of_bytes_or_root, refusal_of_operation
 use Rattle.lfs_model.specs.Effects.{file_size_of_node}
 use Rattle.lfs_tree.specs.CreationPaths.{IsLookupResultAtCreationPath}
 use Rattle.lfs_tree.specs.OpenContents.{AreWriterContentsOverTreeFile, IsInMemoryExactlyUpToInlineLimit}
-use Rattle.lfs_writer.specs.Contents.{storage_form_of_contents}
-use Rattle.lfs_writer.specs.Form.{IsStorageFormOfWriterContents}
+use Rattle.lfs_file.specs.Contents.{storage_form_of_contents}
+use Rattle.lfs_file.specs.Form.{IsStorageFormOfWriterContents}
 use Rattle.lfs_fs.specs.declared.checks.WritableFile.{WritableFile}
 use Rattle.lfs_fs.specs.declared.files.UnsavedContents.{UnsavedContents}
 use Rattle.lfs_model.specs.TreeEdits.{is_file, same_path}
 use Rattle.lfs_model.specs.Run.{SystemState, IsTreeOfDiskOrNone, IsSessionStep}
 use Rattle.lfs_model.specs.Failure.{IsSessionFailureInOperation}
 use Rattle.lfs_model.specs.Performed.{IsRunEndedByError}
-use Rattle.lfs_ctz.specs.Known.{AreKnownListBlocks}
+use Rattle.lfs_file.specs.Known.{AreKnownListBlocks}
 use Rattle.lfs_model.specs.Shown.{skip_list_blocks_of_struct}
 use Rattle.lfs_lookup.specs.FileContents.{IsInlineBytesOrSkipListOfFileAtPath, struct_of_file_contents}
 use Rattle.lfs_lookup.specs.Refusals.{is_refusal, refusal_of_error}

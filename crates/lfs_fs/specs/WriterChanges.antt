@@ -11,8 +11,8 @@ use Rattle.lfs_model.specs.Effects.{file_size_of_node}
 use Rattle.lfs_model.specs.Tree.{Path}
 use Rattle.lfs_tree.specs.OpenContents.{IsFormOfOpenedContents, AreWriterContentsOverTreeFile}
 use Rattle.lfs_tree.specs.TreeState.{IsSoundTreeState, TreeState, disk_summary_of_tree, tree_view}
-use Rattle.lfs_writer.specs.Contents.{storage_form_of_contents}
-use Rattle.lfs_writer.specs.Form.{ContentsStorageForm}
+use Rattle.lfs_file.specs.Contents.{storage_form_of_contents}
+use Rattle.lfs_file.specs.Form.{ContentsStorageForm}
 use Rattle.lfs_fs.specs.FileView.{RuntimeOpenFilesByNumber, writer_view}
 use Rattle.lfs_fs.specs.SessionView.{IsWriterOverWritableImage}
 use Rattle.lfs_fs.specs.declared.files.OpenFile.TheVariants as file

@@ -8,7 +8,7 @@ ghost use Rattle.lfs_model.specs.Operations.{path_of_bytes};
 ghost use Rattle.lfs_model.specs.Session.{has_open_file_with_path_satisfying};
 ghost use Rattle.lfs_model.specs.Writers.{is_nonsequential_write, writer_after_write};
 ghost use Rattle.lfs_model.specs.Refusals.{path_of_bytes_or_root, is_root_or_invalid_path};
-ghost use Rattle.lfs_ctz.specs.Known.{no_known_blocks};
+ghost use Rattle.lfs_file.specs.Known.{no_known_blocks};
 ghost use Rattle.lfs_fs.specs.RenamePaths.{open_file_path_prevents_rename};
 ghost use Rattle.lfs_tree.specs.OpenContents.{WritesOnlyUnusedBlocks};
 ghost use Rattle.lfs_tree.specs.TreeState.{IsIoWithFaultOrNoMemory, IsFailedTree, IsSoundTreeState, SurvivesStopsInTreeCall, TreeState, tree_view};
@@ -18,11 +18,10 @@ ghost use Rattle.lfs_fs.specs.FileView.{last_change_end_of_unsaved, open_file_at
 
 use crate::owned_path::OwnedPath;
 use crate::writers::write_bytes_by_writer;
-use lfs_ctz::{KnownBlocks, blocks_for};
 use lfs_device::{BlockDevice, Error, Geometry};
+use lfs_file::{KnownBlocks, WriterContents, blocks_for};
 use lfs_lookup::FileContents;
 use lfs_tree::Tree;
-use lfs_writer::WriterContents;
 use std::alloc::Global;
 use std::marker::Model;
 

@@ -9,8 +9,8 @@ ghost use Rattle.lfs_fs.specs.FileView.{RuntimeOpenFilesByNumber, open_files_vie
 ghost use Rattle.lfs_fs.specs.SessionView.{IsSessionReadyForCalls};
 ghost use Rattle.lfs_fs.specs.OpenFilesStay.{OpenFilesStaySameAndReady, KeepsFilesOfWriters, OperationConcernsNoOpenFileAndHasRoom};
 
+use lfs_file::reserved_blocks_suffice_for_calls;
 use lfs_tree::{operations_leave_writer_contents_alone, operations_take_few_blocks};
-use lfs_writer::reserved_blocks_suffice_for_calls;
 
 // No more blocks are in flight than the session holds back. An operation that the tree applies
 // leaves the contents of a writer.

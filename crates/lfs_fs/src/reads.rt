@@ -4,15 +4,15 @@ ghost use Rattle.std.specs.Prelude.{◌≡◌, ◌+◌, ◌<◌, ◌^◌, ℕ, L
 ghost use Rattle.lfs_model.specs.Tree.{Path};
 ghost use Rattle.lfs_model.specs.TreeEdits.{file_bytes_of_node};
 ghost use Rattle.lfs_fs.specs.SessionView.{IsReaderOfCurrentContentsWithoutWriter};
-ghost use Rattle.lfs_ctz.specs.Known.{AreKnownListBlocks, ReadsKnownList};
+ghost use Rattle.lfs_file.specs.Known.{AreKnownListBlocks, ReadsKnownList};
 ghost use Rattle.lfs_lookup.specs.FileContents.{struct_of_file_contents};
 ghost use Rattle.lfs_model.specs.Shown.{skip_list_blocks_of_struct};
 ghost use Rattle.lfs_model.specs.Slots.{Ctz, Inline};
 ghost use Rattle.lfs_tree.specs.TreeState.{OnlyReadsTreeOrFails, tree_view};
 
 use crate::files::Reader;
-use lfs_ctz::KnownBlocks;
 use lfs_device::{BlockDevice, Error};
+use lfs_file::KnownBlocks;
 use lfs_tree::Tree;
 use std::alloc::Global;
 

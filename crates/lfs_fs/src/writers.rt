@@ -4,7 +4,7 @@ ghost use Rattle.std.specs.Prelude.{ℕ, List, [], true, ◌≡◌, length, IfEr
 ghost use Rattle.lfs_model.specs.Writers.{writer_after_open, writer_after_sync, writer_after_truncate, writer_after_write};
 ghost use Rattle.lfs_tree.specs.OpenContents.{AreWriterContentsOverTreeFile, StoresBytesKeepingOtherFilesAtPath, WritesOnlyUnusedBlocks, bytes_of_writer_contents, kept_thread_of_tree_state};
 ghost use Rattle.lfs_tree.specs.TreeState.{tree_view, WasTreeOnlyRead, IsFailedTree, IsOperationAppliedToTree, IsTreeFailedByRead, IsIoWithFaultOrNoMemory, IsSoundTreeState, LeavesUnconcernedBlocksAlone, SurvivesStopsInTreeCall};
-ghost use Rattle.lfs_writer.specs.Contents.{storage_form_of_contents};
+ghost use Rattle.lfs_file.specs.Contents.{storage_form_of_contents};
 ghost use Rattle.lfs_fs.specs.WriterChanges.{CanOpenWriter, IsOpenedWriterSeenAs, CanSaveWriter, CanTruncateByWriter, CanWriteByWriter, HasFileUnderUnsavedContents, IsStorageFormOfOptionalUnsavedContents, IsSavedWriterSeenAs, IsChangedWriterSeenAs};
 ghost use Rattle.lfs_fs.specs.FileView.{unsaved_or_tree_bytes_of_writer, writer_view};
 ghost use Rattle.lfs_fs.specs.FlagsView.{flags_view};
@@ -24,11 +24,11 @@ use crate::flags::OpenFlags;
 use crate::owned_path::OwnedPath;
 use bitflags::Flags;
 use lfs_device::{BlockDevice, Error};
-use lfs_lookup::PathLookup;
-use lfs_tree::{Tree, operations_leave_writer_contents_alone, operations_take_few_blocks};
-use lfs_writer::{
+use lfs_file::{
     WriterContents, contents_forms_fit_writer_after_calls, reserved_blocks_suffice_for_calls,
 };
+use lfs_lookup::PathLookup;
+use lfs_tree::{Tree, operations_leave_writer_contents_alone, operations_take_few_blocks};
 use std::alloc::Global;
 
 // Returns the contents of a writer of a file of that size: the changed ones, or else those of the file.

@@ -1,7 +1,7 @@
 // A device's image, where it is accepted.
 
 ghost use Rattle.std.specs.Prelude.{ℕ, Err, List, ◌≡◌, ◌≤◌, ◌<◌, ◌+◌, ◌%◌, ◌++◌, ◌∷◌, drop, length, sum_by, true, IfErr, IfNone, IfOk, IfSome, None, OnOk};
-ghost use Rattle.lfs_alloc.specs.Next.{IsNextFreeBlockInCircle};
+ghost use Rattle.lfs_blocks.specs.Next.{IsNextFreeBlockInCircle};
 ghost use Rattle.lfs_model.specs.Disk.{disk_in_order};
 ghost use Rattle.lfs_model.specs.BlockSets.{IsBlockFree};
 ghost use Rattle.lfs_model.specs.History.{read_count_of_history};
@@ -28,7 +28,7 @@ use crate::members::{first_pair_addresses_of_all_directories, make_directory_pai
 use crate::moves::check_move;
 use crate::orders::OrderViolations;
 use crate::superblock_chain::superblock_chain_length;
-use lfs_alloc::BlockMap;
+use lfs_blocks::BlockMap;
 use lfs_device::{BlockDevice, Error};
 use lfs_model::NameOrder;
 use lfs_pair::Pair;

@@ -17,7 +17,7 @@ ghost use Rattle.lfs_mount.specs.Reads.{pair_read_count};
 use crate::orders::OrderViolations;
 use crate::pass::{PairBeforeSlotsAreRead, scan_pairs_and_mark_lists};
 use crate::reachability::find_directory_violations;
-use lfs_alloc::BlockMap;
+use lfs_blocks::BlockMap;
 use lfs_device::BlockDevice;
 use lfs_thread::{MountError, PairAddressList};
 use std::alloc::Global;

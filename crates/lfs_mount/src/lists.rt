@@ -19,9 +19,9 @@ ghost use Rattle.lfs_tag.specs.ContentView.{slot_view};
 
 use crate::entry::file_or_directory_entry_in_slot;
 use crate::pass::PairBeforeSlotsAreRead;
-use lfs_alloc::BlockMap;
-use lfs_ctz::walk;
+use lfs_blocks::BlockMap;
 use lfs_device::BlockDevice;
+use lfs_file::walk;
 use lfs_model::Violation;
 use lfs_tag::{Slot, Struct};
 use lfs_thread::MountError;

@@ -26,7 +26,7 @@ use crate::directory_scan::ScannedDirectory;
 use crate::entry::{first_non_entry, is_file_or_directory_entry};
 use crate::lists::mark_lists_of_slots_used;
 use crate::reachability::Directory;
-use lfs_alloc::BlockMap;
+use lfs_blocks::BlockMap;
 use lfs_device::{BlockDevice, Error, read_block};
 use lfs_model::Violation;
 use lfs_tag::{Content, Log, Slot};

@@ -6,7 +6,7 @@ use Rattle.lfs_device.specs.Bytes.{AreAllNumbersBytes}
 use Rattle.lfs_device.specs.declared.device.BlockDevice.{Ghosts}
 use Rattle.lfs_device.specs.declared.error.Error.{Error}
 use Rattle.lfs_device.specs.declared.error.Error.TheVariants.{Io, NoMemory}
-use Rattle.lfs_cache.specs.Read.{ReadsBlockUnlessCached, whole_block_read_event}
+use Rattle.lfs_blocks.specs.Read.{ReadsBlockUnlessCached, whole_block_read_event}
 use Rattle.std.proofs.lemmas.List.{length-map, map-append}
 use Rattle.std.proofs.lemmas.List.Concat.{flat_map-append}
 use Rattle.lfs_model.specs.BlockSets.{BlockStateList, IsBlockMarkedUsedInMap}

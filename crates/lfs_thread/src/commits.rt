@@ -13,7 +13,7 @@ ghost use Rattle.lfs_thread.specs.CachedLog.{read_count_unless_cached};
 ghost use Rattle.lfs_thread.specs.Device.{PowerLossLeavesSuchBlocksAfterCleanErases, IoMeansFaultNoMemoryWritesNothing};
 ghost use Rattle.lfs_model.specs.Thread.{blocks_of_pair_address, blocks_of_two_pair_addresses};
 
-use lfs_cache::Cache;
+use lfs_blocks::Cache;
 use lfs_device::{BlockDevice, Error};
 use lfs_pair::{
     Change, Outcome, Pair, commit, commit_with_block_bytes, split, split_with_block_bytes,

@@ -10,8 +10,7 @@ ghost use Rattle.lfs_thread.specs.Steps.{CanDropNextPair, IsPairAfterIndexDroppe
 ghost use Rattle.lfs_model.specs.Thread.{blocks_of_pair_address};
 
 use crate::commits::commit_with_cache;
-use lfs_alloc::BlockMap;
-use lfs_cache::Cache;
+use lfs_blocks::{BlockMap, Cache};
 use lfs_device::{BlockDevice, Error};
 use lfs_pair::{Change, Outcome, Pair};
 use std::alloc::Global;

@@ -15,7 +15,7 @@ ghost use Rattle.lfs_thread.specs.MountErrors.{HasTrueThreadViolation, OnlyReads
 ghost use Rattle.lfs_thread.specs.Reading.{IsPairHeaderReadAndBlocksMarkedUsed};
 
 use crate::mount_error::MountError;
-use lfs_alloc::BlockMap;
+use lfs_blocks::BlockMap;
 use lfs_device::BlockDevice;
 use lfs_model::Violation;
 use lfs_pair::{Pair, fetch};

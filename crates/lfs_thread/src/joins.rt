@@ -13,8 +13,7 @@ ghost use Rattle.lfs_thread.specs.Steps.{CanThreadInFreshPair, IsThreadingInRefu
 ghost use Rattle.lfs_model.specs.Thread.{blocks_of_pair_address, blocks_of_two_pair_addresses};
 
 use crate::commits::{commit_with_cache, forget_cached_pair};
-use lfs_alloc::BlockMap;
-use lfs_cache::Cache;
+use lfs_blocks::{BlockMap, Cache};
 use lfs_device::{BlockDevice, Error};
 use lfs_pair::{Change, Outcome, Pair};
 use lfs_tag::Tail;

@@ -1,15 +1,15 @@
 // Parts of files' blocks that are read through the cache.
 
 ghost use Rattle.std.specs.Prelude.{◌≡◌, ◌≤◌, ◌<◌, ◌+◌, IfErr, IfOk, length, slice_range, take};
-ghost use Rattle.lfs_cache.specs.Read.{ReadsOnceUnlessCached};
+ghost use Rattle.lfs_blocks.specs.Read.{ReadsOnceUnlessCached};
 ghost use Rattle.lfs_device.specs.Calls.{ReadsOnly, ReportsFaults};
 ghost use Rattle.lfs_model.specs.Blocks.{block_bytes_by_number};
 ghost use Rattle.lfs_model.specs.Cache.{cached_bytes_of_block};
 ghost use Rattle.lfs_thread.specs.Kept.{IsCacheCurrent};
 
-use lfs_cache::Cache;
-use lfs_ctz::BlockPart;
+use lfs_blocks::Cache;
 use lfs_device::{BlockDevice, Error};
+use lfs_file::BlockPart;
 
 // Reads a part of a block to the beginning of the buffer, through the cache. Returns how many bytes
 // it has.

@@ -1,7 +1,6 @@
 // The parts of a thread.
 
-use lfs_alloc::BlockMap;
-use lfs_cache::Cache;
+use lfs_blocks::{BlockMap, Cache};
 use lfs_device::BlockDevice;
 use lfs_model::NameOrder;
 use lfs_pair::Pair;

@@ -11,8 +11,7 @@ ghost use Rattle.lfs_thread.specs.Steps.{CanSplitPairAtIndex, PowerLossLeavesPai
 ghost use Rattle.lfs_model.specs.Thread.{blocks_of_two_pair_addresses};
 
 use crate::commits::split_with_cache;
-use lfs_alloc::BlockMap;
-use lfs_cache::Cache;
+use lfs_blocks::{BlockMap, Cache};
 use lfs_device::{BlockDevice, Error};
 use lfs_pair::{Change, Pair};
 use std::alloc::Global;

@@ -21,9 +21,9 @@ use Rattle.lfs_model.specs.Cache.{CachedBlocks}
 use Rattle.lfs_model.specs.PowerLoss.{HasTreeBeforeOrAfterOperation, SurvivesPowerLossInCallsSince, disk_with_blocks}
 use Rattle.lfs_model.proofs.Changes.{IsImageAfterTreeChange}
 use Rattle.lfs_model.proofs.Histories.{IsTrueAfterAnyPowerLossSince-weaker, IsTrueAfterAnyPowerLossSince-worst}
-use Rattle.lfs_writer.specs.Hand.{KeepsBytesOfUsedBlocks}
+use Rattle.lfs_file.specs.Hand.{KeepsBytesOfUsedBlocks}
 use Rattle.lfs_model.proofs.Files.{HasSameFileBlocksOfStructOnDisks, file_blocks_same}
-use Rattle.lfs_writer.specs.ThreadContents.{CanTruncateContentsOnThread, CanWriteContentsOnThread, AreConsistentContentsWithBytesAndFormOnThread, LeavesPairsAndUsedBlocksUnchanged, ReportsFaultOrNoMemory, list_blocks_of_contents}
+use Rattle.lfs_tree.specs.ThreadContents.{CanTruncateContentsOnThread, CanWriteContentsOnThread, AreConsistentContentsWithBytesAndFormOnThread, LeavesPairsAndUsedBlocksUnchanged, ReportsFaultOrNoMemory, list_blocks_of_contents}
 use Rattle.lfs_thread.specs.Kept.{KeptThread, ThreadView}
 use Rattle.lfs_tree.specs.RootedThreads.{IsSoundThreadUnlessFailed, IsSoundThreadWithRootAtPairNumber, tree_state_of_kept_thread, tree_state_of_thread}
 use Rattle.lfs_tree.specs.OpenContents.{CanTruncateWriterContents, CanWriteWriterContents, AreWriterContentsOverFileOnThread, WritesOnlyUnusedBlocksOrFails, WritesOnlyUnusedBlocks, skip_list_blocks_of_slot, bytes_of_writer_contents, skip_list_blocks_at_path}
@@ -33,11 +33,11 @@ use Rattle.lfs_tree.proofs.SameErrors.{same_error}
 use Rattle.lfs_tree.proofs.Asking.{behind}
 use Rattle.lfs_tree.proofs.SlotsHave.{slot_has}
 use Rattle.lfs_tree.proofs.UsedBlocks.{count_is}
-use Rattle.lfs_writer.specs.Contents.{ExceedsInlineLimitIfInFlight, NeedsRoomToTruncate, writer_contents_bytes_in_memory_or_blocks, storage_form_of_contents, block_room_for_truncation, block_room_for_write}
-use Rattle.lfs_writer.specs.Form.{ContentsStorageForm, contents_size_of_storage_form}
-use Rattle.lfs_writer.specs.BlockOwners.{AreUsedBlocksOfListAmongOwnBlocks}
-use Rattle.lfs_writer.specs.declared.contents.WriterContents.{WriterContents}
-use Rattle.lfs_writer.proofs.Used.{used_back}
+use Rattle.lfs_file.specs.Contents.{ExceedsInlineLimitIfInFlight, NeedsRoomToTruncate, writer_contents_bytes_in_memory_or_blocks, storage_form_of_contents, block_room_for_truncation, block_room_for_write}
+use Rattle.lfs_file.specs.Form.{ContentsStorageForm, contents_size_of_storage_form}
+use Rattle.lfs_file.specs.BlockOwners.{AreUsedBlocksOfListAmongOwnBlocks}
+use Rattle.lfs_file.specs.declared.contents.WriterContents.{WriterContents}
+use Rattle.lfs_file.proofs.Used.{used_back}
 
 -- the bytes and the form of contents that stand on a thread's device
 pub bytes_of_held : (t : KeptThread) (c : WriterContents) (bytes : List ℕ) (shape : ContentsStorageForm) → AreConsistentContentsWithBytesAndFormOnThread t c bytes shape → bytes_of_writer_contents t c ≡ bytes

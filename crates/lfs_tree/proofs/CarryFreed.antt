@@ -4,7 +4,7 @@ use Rattle.std.specs.Prelude.{Contains, OnOk, ◌↔◌}
 use Rattle.std.proofs.lemmas.Bool.{cases_lt}
 use Rattle.std.proofs.lemmas.List.Elements.{All-from_recursion, recursion_from_All}
 use Rattle.std.proofs.lemmas.Option.{same_Some}
-use Rattle.lfs_writer.specs.SettledFiles.{CanMarkStoredListUsedAndOldFree, ChangesOnlyBlockMap, IsStoredListUsedAndOldListFree, blocks_of_list_on_thread}
+use Rattle.lfs_tree.specs.SettledFiles.{CanMarkStoredListUsedAndOldFree, ChangesOnlyBlockMap, IsStoredListUsedAndOldListFree, blocks_of_list_on_thread}
 use Rattle.lfs_model.specs.Blocks.{AreBlocksEqualExceptThese}
 use Rattle.lfs_model.specs.BlockSets.{AreExactlyTheUsedBlocks, BlockStateList, IsBlockInFlight, IsBlockMarkedUsedInMap}
 use Rattle.lfs_model.specs.BlockSets.BlockState.{Free, InFlight, Used}
@@ -33,8 +33,8 @@ use Rattle.lfs_lookup.specs.declared.entry.FileStorage.{FileStorage}
 use Rattle.lfs_lookup.specs.declared.entry.FileStorage.TheVariants as shown
 use Rattle.lfs_tree.proofs.Carried.{behind_below, pair_blocks}
 use Rattle.lfs_tree.proofs.KeptFiles.{among_files}
-use Rattle.lfs_writer.specs.Bases.{IsSkipListOnDiskUnlessEmpty}
-use Rattle.lfs_writer.specs.SettledMaps.{MarksNewListUsedAndOldFree}
+use Rattle.lfs_file.specs.Bases.{IsSkipListOnDiskUnlessEmpty}
+use Rattle.lfs_file.specs.SettledMaps.{MarksNewListUsedAndOldFree}
 use Rattle.lfs_tree.specs.Stores.{empty_stored_skip_list}
 
 -- a number that isn't in a list

@@ -8,8 +8,8 @@ use Rattle.std.proofs.lemmas.Option.{same_Some, slice_get_within}
 use Rattle.lfs_device.specs.Bytes.{AreAllBlockElementsBelow256}
 use Rattle.lfs_device.specs.declared.error.Error.{Error}
 use Rattle.lfs_device.specs.declared.error.Error.TheVariants.{Io, NoMemory}
-use Rattle.lfs_writer.specs.SettledFiles.{ChangesOnlyBlockMap}
-use Rattle.lfs_writer.specs.ThreadContents.{ReportsFaultOrNoMemory}
+use Rattle.lfs_tree.specs.SettledFiles.{ChangesOnlyBlockMap}
+use Rattle.lfs_tree.specs.ThreadContents.{ReportsFaultOrNoMemory}
 use Rattle.lfs_model.proofs.Orders.{length_in_order}
 use Rattle.lfs_model.specs.declared.order.NameOrder.TheVariants.{ShorterFirst}
 use Rattle.lfs_model.specs.TreeEdits.{names_of_directory_node, tree_after_removal}

@@ -1,7 +1,7 @@
 -- A removal leaves the blocks of files and of pairs alone that it doesn't concern.
 use Rattle.std.proofs.Common.{ℕ, ◌≡◌, ◌∙◌, ◌-◌, ◌<◌, ◌++◌, Bool, cond, true, false, List, [], ◌∷◌, length, inl, inr, refl, sym, subst, arith}
 use Rattle.std.specs.Prelude.{Any, Contains}
-use Rattle.lfs_writer.specs.SettledFiles.{ChangesOnlyBlockMap}
+use Rattle.lfs_tree.specs.SettledFiles.{ChangesOnlyBlockMap}
 use Rattle.lfs_model.specs.Frame.{IsPairWithSlotOfPath}
 use Rattle.lfs_model.specs.Operations as ops
 use Rattle.lfs_model.specs.Refusals.{path_of_bytes_or_root}

@@ -19,10 +19,10 @@ use Rattle.lfs_model.proofs.BlockCounts.{few_flying}
 use Rattle.lfs_model.proofs.BlockSets.{Contains-occurrence_count_of_number, occurrence_count_of_number-Contains}
 use Rattle.lfs_model.proofs.Counts.{Each, occurrence_count_of_number, count_append, each_from_counted, each_pieces, once_from_distinct}
 use Rattle.lfs_model.proofs.Files.{length_back}
-use Rattle.lfs_writer.specs.StructChanges.{IsStructOfContentsWithNewBlocksInFlight}
-use Rattle.lfs_writer.specs.SettledFiles.{blocks_of_list_on_thread}
-use Rattle.lfs_writer.specs.ThreadContents.{AreContentsConsistentWithThread}
-use Rattle.lfs_writer.proofs.Coming.{inline_comes, list_comes}
+use Rattle.lfs_tree.specs.StructChanges.{IsStructOfContentsWithNewBlocksInFlight}
+use Rattle.lfs_tree.specs.SettledFiles.{blocks_of_list_on_thread}
+use Rattle.lfs_tree.specs.ThreadContents.{AreContentsConsistentWithThread}
+use Rattle.lfs_tree.proofs.Coming.{inline_comes, list_comes}
 use Rattle.lfs_operations.specs.Making.{HasSoManyFreeBlocks}
 use Rattle.lfs_thread.specs.Kept.{KeptThread}
 use Rattle.lfs_tree.specs.OpenContents.{AreWriterContentsOverFileOnThread, skip_list_blocks_of_slot, bytes_of_writer_contents}
@@ -31,12 +31,12 @@ use Rattle.lfs_lookup.proofs.AtPaths.{SizedLists}
 use Rattle.lfs_tree.proofs.Carried.{with_history}
 use Rattle.lfs_tree.proofs.OpenedFiles.{marked_there, no_flight}
 use Rattle.lfs_tree.proofs.SlotsHave.{slot_has}
-use Rattle.lfs_writer.specs.Bases.{IsSkipListOnDiskUnlessEmpty}
-use Rattle.lfs_writer.specs.Contents.{storage_form_of_contents}
-use Rattle.lfs_writer.specs.Hand.{IsFinishedListConsistentWithMapAndDisk as IsStoredList}
-use Rattle.lfs_writer.specs.declared.contents.WriterContents.{WriterContents}
-use Rattle.lfs_writer.specs.declared.contents.WriterContents.TheVariants.{InMemory, Finished, InHand}
-use Rattle.lfs_writer.specs.declared.stored_list.StoredList.{StoredList}
+use Rattle.lfs_file.specs.Bases.{IsSkipListOnDiskUnlessEmpty}
+use Rattle.lfs_file.specs.Contents.{storage_form_of_contents}
+use Rattle.lfs_file.specs.Hand.{IsFinishedListConsistentWithMapAndDisk as IsStoredList}
+use Rattle.lfs_file.specs.declared.contents.WriterContents.{WriterContents}
+use Rattle.lfs_file.specs.declared.contents.WriterContents.TheVariants.{InMemory, Finished, InHand}
+use Rattle.lfs_file.specs.declared.stored_list.StoredList.{StoredList}
 
 -- ---- lists
 

@@ -10,14 +10,14 @@ use Rattle.lfs_model.proofs.Counts.{each_counted, each_from_counted}
 use Rattle.lfs_model.proofs.Files.{Same, back_same, bytes_same, chain_same, data_same, list_same}
 use Rattle.lfs_model.proofs.Counts.{Each}
 use Rattle.std.proofs.lemmas.List.Elements.{recursion_from_All}
-use Rattle.lfs_ctz.specs.Known.{AreKnownListBlocks}
-use Rattle.lfs_ctz.specs.Growing.{GrowingList, AreLastBytesAtLocation, IsSameListOnLaterDisk, bytes_of_growing_list, data_of_list_blocks, blocks_kept_when_growing, block_after_full_blocks, unwritten_block_after_full_blocks, unwritten_block_of_list, growing_list_size_with_block_size}
-use Rattle.lfs_ctz.specs.declared.rest.RestLocation.{RestLocation}
-use Rattle.lfs_ctz.specs.declared.rest.RestLocation.TheVariants.{Closed, Shared, Handed, Held}
-use Rattle.lfs_writer.specs.BlocksApart.{IsUsedOrInFlightButNotUnwritten}
-use Rattle.lfs_writer.specs.Bases.{IsSkipListOnDiskUnlessEmpty, list_blocks_by_head_and_size}
-use Rattle.lfs_writer.specs.Hand.{CanEndGrowingListOverBase, IsFinishedListConsistentWithMapAndDisk, list_bytes_then_rest_of_base, bytes_of_stored_list}
-use Rattle.lfs_writer.specs.declared.stored_list.StoredList.{StoredList}
+use Rattle.lfs_file.specs.Known.{AreKnownListBlocks}
+use Rattle.lfs_file.specs.Growing.{GrowingList, AreLastBytesAtLocation, IsSameListOnLaterDisk, bytes_of_growing_list, data_of_list_blocks, blocks_kept_when_growing, block_after_full_blocks, unwritten_block_after_full_blocks, unwritten_block_of_list, growing_list_size_with_block_size}
+use Rattle.lfs_file.specs.declared.rest.RestLocation.{RestLocation}
+use Rattle.lfs_file.specs.declared.rest.RestLocation.TheVariants.{Closed, Shared, Handed, Held}
+use Rattle.lfs_file.specs.BlocksApart.{IsUsedOrInFlightButNotUnwritten}
+use Rattle.lfs_file.specs.Bases.{IsSkipListOnDiskUnlessEmpty, list_blocks_by_head_and_size}
+use Rattle.lfs_file.specs.Hand.{CanEndGrowingListOverBase, IsFinishedListConsistentWithMapAndDisk, list_bytes_then_rest_of_base, bytes_of_stored_list}
+use Rattle.lfs_file.specs.declared.stored_list.StoredList.{StoredList}
 
 -- what holds of each member
 pub each_of : (P : ℕ → Type 0) (bs : List ℕ) → ((b : ℕ) → Contains bs b → P b) → Each P bs

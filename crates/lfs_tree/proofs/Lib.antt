@@ -49,3 +49,6 @@ pub mod TakenBlocks
 pub mod TakenEdits
 pub mod LeftAlone
 pub mod RenamePaths
+pub mod Standing
+pub mod Settled
+pub mod Coming

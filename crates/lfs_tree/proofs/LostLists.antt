@@ -8,7 +8,7 @@ use Rattle.std.specs.Prelude.{Contains, ◌↔◌, slice_index_or}
 use Rattle.std.proofs.lemmas.Bool.{cases_lt}
 use Rattle.std.proofs.lemmas.List.Elements.{All-from_recursion, recursion_from_All}
 use Rattle.std.proofs.lemmas.Option.{same_Some}
-use Rattle.lfs_writer.specs.SettledFiles.{CanMarkStoredListUsedAndOldFree, ChangesOnlyBlockMap, IsStoredListUsedAndOldListFree, blocks_of_list_on_thread}
+use Rattle.lfs_tree.specs.SettledFiles.{CanMarkStoredListUsedAndOldFree, ChangesOnlyBlockMap, IsStoredListUsedAndOldListFree, blocks_of_list_on_thread}
 use Rattle.lfs_model.specs.BlockSets.{AreExactlyTheUsedBlocks, BlockStateList, IsBlockInFlight}
 use Rattle.lfs_model.specs.Content.{RawSlot, slot_if_name_and_struct_present, slots_if_names_and_structs_present, kind_of_name_type, struct_of_type_and_bytes}
 use Rattle.lfs_model.specs.Disk.{Disk, SameGeometry}
@@ -33,9 +33,9 @@ use Rattle.lfs_thread.specs.Kept.{KeptThread}
 use Rattle.lfs_thread.specs.Steps.{empty_pair_at_anchor}
 use Rattle.lfs_tree.specs.LostLists.{CanFreeListsOfDroppedSlots, blocks_of_stored_skip_lists, skip_lists_named_by_struct, skip_lists_named_by_raw_struct, skip_lists_named_by_slots, skip_lists_named_by_raw_slots}
 use Rattle.lfs_tree.proofs.CarryFreed.{beside_is, none_there, not_both, not_free, with_map}
-use Rattle.lfs_writer.specs.Bases.{IsSkipListOnDiskUnlessEmpty}
-use Rattle.lfs_writer.specs.SettledMaps.{MarksNewListUsedAndOldFree}
-use Rattle.lfs_writer.specs.declared.stored_list.StoredList.{StoredList}
+use Rattle.lfs_file.specs.Bases.{IsSkipListOnDiskUnlessEmpty}
+use Rattle.lfs_file.specs.SettledMaps.{MarksNewListUsedAndOldFree}
+use Rattle.lfs_file.specs.declared.stored_list.StoredList.{StoredList}
 use Rattle.lfs_tree.specs.Stores.{empty_stored_skip_list}
 
 -- ---- which lists

@@ -24,7 +24,7 @@ use Rattle.lfs_model.specs.Shown.{all_slots_not_moved, skip_list_blocks_of_struc
 use Rattle.lfs_model.proofs.BlockCounts.{few_flying, in_flight-freed}
 use Rattle.lfs_model.proofs.BlockSets.{Contains-occurrence_count_of_number}
 use Rattle.lfs_model.proofs.Counts.{Each, count_append, each_from_counted, each_pieces}
-use Rattle.lfs_writer.specs.ThreadContents.{list_blocks_of_contents}
+use Rattle.lfs_tree.specs.ThreadContents.{list_blocks_of_contents}
 use Rattle.lfs_thread.specs.Beside.{DiskHasGeometry}
 use Rattle.lfs_thread.specs.Kept.{KeptThread}
 use Rattle.lfs_lookup.specs.FileBytes.{file_bytes_of_struct}
@@ -38,13 +38,13 @@ use Rattle.lfs_tree.proofs.BesideWritten.{bytes_of_held}
 use Rattle.lfs_lookup.proofs.BytesAtSlots.{IsFileOf, file_since}
 use Rattle.lfs_tree.proofs.Carried.{with_history}
 use Rattle.lfs_tree.proofs.SlotsHave.{slot_has}
-use Rattle.lfs_writer.specs.Contents.{AreConsistentContentsWithBytesAndForm, HasNoBlockInFlight, storage_form_of_contents}
-use Rattle.lfs_writer.specs.Form as form
-use Rattle.lfs_writer.specs.Form.{ContentsStorageForm}
-use Rattle.lfs_writer.specs.Hand.{IsFinishedListConsistentWithMapAndDisk}
-use Rattle.lfs_writer.specs.declared.contents.WriterContents.{WriterContents}
-use Rattle.lfs_writer.specs.declared.contents.WriterContents.TheVariants.{InMemory, Finished, InHand}
-use Rattle.lfs_writer.specs.declared.stored_list.StoredList.{StoredList}
+use Rattle.lfs_file.specs.Contents.{AreConsistentContentsWithBytesAndForm, HasNoBlockInFlight, storage_form_of_contents}
+use Rattle.lfs_file.specs.Form as form
+use Rattle.lfs_file.specs.Form.{ContentsStorageForm}
+use Rattle.lfs_file.specs.Hand.{IsFinishedListConsistentWithMapAndDisk}
+use Rattle.lfs_file.specs.declared.contents.WriterContents.{WriterContents}
+use Rattle.lfs_file.specs.declared.contents.WriterContents.TheVariants.{InMemory, Finished, InHand}
+use Rattle.lfs_file.specs.declared.stored_list.StoredList.{StoredList}
 
 -- ---- where no block is in flight
 

@@ -2,7 +2,7 @@
 use Rattle.std.proofs.Common.{ℕ, ◌≡◌, ◌≤◌, ◌+◌, ◌/◌, ◌∙◌, ne_eqb, true, List, [], ◌∷◌, ◌++◌, length, min, None, Result, Ok, Err, refl, sym, ap, subst, arith}
 use Rattle.std.proofs.Math.Nat.{min-le_right}
 use Rattle.std.specs.Prelude.{OnOk}
-use Rattle.lfs_ctz.specs.Growing.{GrowingList, HasAllBytesInBuffer}
+use Rattle.lfs_file.specs.Growing.{GrowingList, HasAllBytesInBuffer}
 use Rattle.lfs_device.specs.declared.error.Error.{Error}
 use Rattle.lfs_model.specs.TreeEdits.{is_file}
 use Rattle.lfs_model.specs.Changes.{PutStruct}
@@ -19,7 +19,7 @@ use Rattle.lfs_model.specs.Shown.{skip_list_blocks_of_struct, tree_on_disk}
 use Rattle.lfs_model.specs.WrittenContent.{bytes_of_pair_address}
 use Rattle.lfs_model.proofs.Counts.{occurrence_count_of_number}
 use Rattle.lfs_model.proofs.WrittenAnew.{type_of_tag-tag_of_type_id_and_length, length_of_tag-tag_of_type_id_and_length}
-use Rattle.lfs_writer.specs.ThreadContents.{AreContentsConsistentWithThread, ReportsFaultOrNoMemory}
+use Rattle.lfs_tree.specs.ThreadContents.{AreContentsConsistentWithThread, ReportsFaultOrNoMemory}
 use Rattle.lfs_operations.specs.Changing.{ReportsErrorsOfChangeOrSplit}
 use Rattle.lfs_operations.specs.Editing.{slot_of_editable_entry}
 use Rattle.lfs_operations.specs.Making.{HasSoManyFreeBlocks}
@@ -37,9 +37,9 @@ use Rattle.lfs_lookup.specs.declared.search.SlotPosition.{SlotPosition}
 use Rattle.lfs_tree.specs.declared.contents_at.FileSlot.{FileSlot}
 use Rattle.lfs_lookup.proofs.AtPaths.{directory_at_path, nothing_at, refused_none}
 use Rattle.lfs_tree.proofs.ReportedFaults.{reported_with_room}
-use Rattle.lfs_writer.specs.Contents.{storage_form_of_contents, bytes_in_buffer}
-use Rattle.lfs_writer.specs.declared.contents.WriterContents.{WriterContents}
-use Rattle.lfs_writer.specs.declared.contents.WriterContents.TheVariants.{InMemory}
+use Rattle.lfs_file.specs.Contents.{storage_form_of_contents, bytes_in_buffer}
+use Rattle.lfs_file.specs.declared.contents.WriterContents.{WriterContents}
+use Rattle.lfs_file.specs.declared.contents.WriterContents.TheVariants.{InMemory}
 
 -- ---- the slot of a file
 

@@ -5,8 +5,8 @@ use Rattle.std.proofs.lemmas.List.Elements.{All-from_recursion}
 use Rattle.std.proofs.lemmas.Option.{same_Some}
 use Rattle.lfs_device.specs.declared.error.Error.{Error}
 use Rattle.lfs_device.specs.declared.error.Error.TheVariants.{Io, NoMemory}
-use Rattle.lfs_writer.specs.SettledFiles.{ChangesOnlyBlockMap}
-use Rattle.lfs_writer.specs.ThreadContents.{ReportsFaultOrNoMemory}
+use Rattle.lfs_tree.specs.SettledFiles.{ChangesOnlyBlockMap}
+use Rattle.lfs_tree.specs.ThreadContents.{ReportsFaultOrNoMemory}
 use Rattle.lfs_model.specs.BlockSets.{AreExactlyTheUsedBlocks, IsBlockInFlight, IsBlockMarkedUsedInMap}
 use Rattle.lfs_model.specs.BlockSets.BlockState.{InFlight, Used}
 use Rattle.lfs_model.specs.Disk.{Disk}

@@ -32,9 +32,9 @@ use Rattle.lfs_model.proofs.BlockSets.{Contains-occurrence_count_of_number, occu
 use Rattle.lfs_model.proofs.Counts.{occurrence_count_of_number, count_append, each_from_counted, each_weaker, once_from_distinct}
 use Rattle.lfs_model.proofs.Files.{HasSameFileBlocksOfStructOnDisks, file_blocks_same, is_list_same}
 use Rattle.lfs_model.proofs.Histories.{IsTrueAfterAnyPowerLossSince-read_count_of_history, IsTrueAfterAnyPowerLossSince-trans, IsTrueAfterAnyPowerLossSince-weaker, IsTrueAfterAnyPowerLossSince-worst, AreBlocksLeftByPowerLossInCall-read}
-use Rattle.lfs_writer.specs.StructChanges.{IsStructOfContentsWithNewBlocksInFlight}
-use Rattle.lfs_writer.specs.SettledFiles.{CanMarkStoredListUsedAndOldFree, ChangesOnlyBlockMap, IsStoredListUsedAndOldListFree, blocks_of_list_on_thread}
-use Rattle.lfs_writer.proofs.Settlement.{settled_exactly}
+use Rattle.lfs_tree.specs.StructChanges.{IsStructOfContentsWithNewBlocksInFlight}
+use Rattle.lfs_tree.specs.SettledFiles.{CanMarkStoredListUsedAndOldFree, ChangesOnlyBlockMap, IsStoredListUsedAndOldListFree, blocks_of_list_on_thread}
+use Rattle.lfs_file.proofs.Settlement.{settled_exactly}
 use Rattle.lfs_operations.proofs.Held.{here}
 use Rattle.lfs_operations.specs.Changing.{WritesPairAndTwoFreeBlocks}
 use Rattle.lfs_operations.specs.Storing.{HasStoredContentsOfFile, tree_with_contents_at}
@@ -53,7 +53,7 @@ use Rattle.lfs_tree.proofs.CarryFreed.{none_there}
 use Rattle.lfs_tree.proofs.CarrySurvives.{survives_behind}
 use Rattle.lfs_tree.proofs.CommitContents.{base_before, base_now, blocks_before_is, blocks_now_is, can_read, coming_apart, coming_taken, distinct_list, flying_in, list_apart, list_there, list_used, may_come, over_read, room_there}
 use Rattle.lfs_tree.proofs.OpenedFiles.{no_flight, not_free}
-use Rattle.lfs_writer.specs.declared.contents.WriterContents.{WriterContents}
+use Rattle.lfs_file.specs.declared.contents.WriterContents.{WriterContents}
 
 not_there : (b : ℕ) (bs : List ℕ) → occurrence_count_of_number b bs ≤ 0 → All (λ x. x ≢ b) bs
 not_there b bs none = All-from_recursion (λ x. x ≢ b) bs (none_there b bs none)

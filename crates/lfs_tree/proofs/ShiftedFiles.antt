@@ -3,8 +3,8 @@ use Rattle.std.proofs.Common.{ℕ, ◌≡◌, ◌≢◌, ◌⊎◌, ◌<◌, ◌
 use Rattle.std.specs.Prelude.{IfErr, OnOk, is_err}
 use Rattle.lfs_device.specs.declared.error.Error.{Error}
 use Rattle.lfs_device.specs.declared.error.Error.TheVariants.{Io, NoMemory}
-use Rattle.lfs_writer.specs.SettledFiles.{ChangesOnlyBlockMap}
-use Rattle.lfs_writer.specs.ThreadContents.{ReportsFaultOrNoMemory}
+use Rattle.lfs_tree.specs.SettledFiles.{ChangesOnlyBlockMap}
+use Rattle.lfs_tree.specs.ThreadContents.{ReportsFaultOrNoMemory}
 use Rattle.lfs_model.specs.Frame.{LeavesUnrelatedBlocksUnchanged}
 use Rattle.lfs_model.specs.Thread.{pair_count_before_root, blocks_of_two_pair_addresses}
 use Rattle.lfs_model.specs.TreeEdits.{tree_after_rename, path_without_prefix}

@@ -22,7 +22,7 @@ use Rattle.lfs_model.proofs.AfterStops.{survives_then}
 use Rattle.lfs_model.proofs.Arranged.{arranged_after, recovered_stays}
 use Rattle.lfs_model.proofs.Committed.{recovered_from}
 use Rattle.lfs_model.proofs.Histories.{IsTrueAfterAnyPowerLossSince-weaker, IsTrueAfterAnyPowerLossSince-worst}
-use Rattle.lfs_writer.specs.ThreadContents.{CanFinishContentsOnThread, AreConsistentContentsWithBytesAndFormOnThread, LeavesPairsAndUsedBlocksUnchanged, list_blocks_of_contents}
+use Rattle.lfs_tree.specs.ThreadContents.{CanFinishContentsOnThread, AreConsistentContentsWithBytesAndFormOnThread, LeavesPairsAndUsedBlocksUnchanged, list_blocks_of_contents}
 use Rattle.lfs_thread.specs.Kept.{KeptThread, ThreadView}
 use Rattle.lfs_tree.proofs.LeftAlone.{files_of_alone, pair_of_alone}
 use Rattle.lfs_tree.specs.TreeChanges.{HasFurtherDeviceCalls, CanChangeRecoveredImage, SurvivesWithOldOrNewTree, ReportsIoWithFaultOrNoMemory}
@@ -35,11 +35,11 @@ use Rattle.lfs_tree.specs.TreeState.{IsSoundTreeState, TreeState, tree_view}
 use Rattle.lfs_tree.specs.Stores.{CanCommitContentsAtPath, HasCommittedBytesOfFile, StoresBytesKeepingOtherFilesOnThread, IsFinishedAndInlineExactlyUpToLimit, AreSlotsLaidOutByWriterOperation, ChangesOnlyPairOfPath}
 use Rattle.lfs_tree.proofs.BesideWritten.{accepted_beside, bytes_of_held, geometry_beside, left_beside, over_beside, rooted_beside, tree_beside}
 use Rattle.lfs_tree.proofs.UsedBlocks.{count_is}
-use Rattle.lfs_writer.specs.Contents.{writer_contents_bytes_in_memory_or_blocks, block_room_for_finish, storage_form_after_finish, storage_form_of_contents}
-use Rattle.lfs_writer.specs.Form as form
-use Rattle.lfs_writer.specs.Form.{ContentsStorageForm}
-use Rattle.lfs_writer.specs.BlockOwners.{AreUsedBlocksOfListAmongOwnBlocks}
-use Rattle.lfs_writer.specs.declared.contents.WriterContents.{WriterContents}
+use Rattle.lfs_file.specs.Contents.{writer_contents_bytes_in_memory_or_blocks, block_room_for_finish, storage_form_after_finish, storage_form_of_contents}
+use Rattle.lfs_file.specs.Form as form
+use Rattle.lfs_file.specs.Form.{ContentsStorageForm}
+use Rattle.lfs_file.specs.BlockOwners.{AreUsedBlocksOfListAmongOwnBlocks}
+use Rattle.lfs_file.specs.declared.contents.WriterContents.{WriterContents}
 
 -- ---- calls, one after another
 

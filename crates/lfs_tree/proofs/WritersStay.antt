@@ -4,8 +4,8 @@ use Rattle.std.specs.Prelude.{Contains}
 use Rattle.std.proofs.lemmas.List.Elements.{Contains-append_cases}
 use Rattle.std.proofs.lemmas.Option.{slice_get-get_or}
 use Rattle.lfs_device.specs.declared.geometry.Geometry.{Geometry}
-use Rattle.lfs_ctz.specs.Growing.{GrowingList, blocks_kept_when_growing as blocks_kept, unwritten_block_of_list, growing_list_size_with_block_size, size_of_growing_list}
-use Rattle.lfs_writer.specs.ThreadContents.{list_blocks_of_contents}
+use Rattle.lfs_file.specs.Growing.{GrowingList, blocks_kept_when_growing as blocks_kept, unwritten_block_of_list, growing_list_size_with_block_size, size_of_growing_list}
+use Rattle.lfs_tree.specs.ThreadContents.{list_blocks_of_contents}
 use Rattle.lfs_model.specs.Blocks.{Blocks, block_bytes_by_number}
 use Rattle.lfs_model.specs.BlockSets.{BlockStateList, BlockState, IsBlockFree, IsBlockInFlight, IsBlockMarkedUsedInMap, in_flight_block_count}
 use Rattle.lfs_model.specs.BlockSets.BlockState.{Free, InFlight, Used}
@@ -20,17 +20,17 @@ use Rattle.lfs_tree.specs.OpenContents.{AreWriterContentsOverTreeFile, bytes_of_
 use Rattle.lfs_tree.specs.TreeState.{IsOperationAppliedToTree, IsSoundTreeState, KeepsBlocksInFlightUnchanged, TreeState, tree_state_without_cache, kept_thread_of_tree_state}
 use Rattle.lfs_tree.proofs.ContentsStay.{StayAs, base_list, bytes_stay, hand_bytes_stay, hand_stays, hand_still, list_stays, of_all, stored_stays}
 use Rattle.lfs_tree.proofs.KeptFiles.{list_used}
-use Rattle.lfs_writer.specs.BlocksApart.{IsUsedOrInFlightButNotUnwritten}
-use Rattle.lfs_writer.specs.Bases.{IsSkipListOnDiskUnlessEmpty, list_blocks_by_head_and_size}
-use Rattle.lfs_writer.specs.Contents.{AreContentsConsistentWithMapAndDisk, writer_contents_bytes_in_memory_or_blocks, storage_form_of_contents}
-use Rattle.lfs_writer.specs.Form.{in_flight_block_limit_of_storage_form}
-use Rattle.lfs_writer.specs.Hand.{CanEndGrowingListOverBase, list_bytes_then_rest_of_base}
-use Rattle.lfs_writer.specs.BlockOwners.{blocks_of_contents}
-use Rattle.lfs_writer.specs.declared.contents.WriterContents.{WriterContents}
-use Rattle.lfs_writer.specs.declared.contents.WriterContents.TheVariants.{InMemory, Finished, InHand}
-use Rattle.lfs_writer.specs.declared.stored_list.StoredList.{StoredList}
-use Rattle.lfs_writer.specs.declared.writes.PendingList.{PendingList}
-use Rattle.lfs_writer.proofs.Flights.{begun_flying, stored_flying}
+use Rattle.lfs_file.specs.BlocksApart.{IsUsedOrInFlightButNotUnwritten}
+use Rattle.lfs_file.specs.Bases.{IsSkipListOnDiskUnlessEmpty, list_blocks_by_head_and_size}
+use Rattle.lfs_file.specs.Contents.{AreContentsConsistentWithMapAndDisk, writer_contents_bytes_in_memory_or_blocks, storage_form_of_contents}
+use Rattle.lfs_file.specs.Form.{in_flight_block_limit_of_storage_form}
+use Rattle.lfs_file.specs.Hand.{CanEndGrowingListOverBase, list_bytes_then_rest_of_base}
+use Rattle.lfs_file.specs.BlockOwners.{blocks_of_contents}
+use Rattle.lfs_file.specs.declared.contents.WriterContents.{WriterContents}
+use Rattle.lfs_file.specs.declared.contents.WriterContents.TheVariants.{InMemory, Finished, InHand}
+use Rattle.lfs_file.specs.declared.stored_list.StoredList.{StoredList}
+use Rattle.lfs_file.specs.declared.writes.PendingList.{PendingList}
+use Rattle.lfs_file.proofs.Flights.{begun_flying, stored_flying}
 
 -- ---- contents in each form
 

@@ -17,3 +17,6 @@ pub mod Orphans
 pub mod Recoveries
 pub mod Reads
 pub mod RenamePaths
+pub mod ThreadContents
+pub mod SettledFiles
+pub mod StructChanges

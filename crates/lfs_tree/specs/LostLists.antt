@@ -1,15 +1,15 @@
 -- The skip lists of slots that are dropped. Their blocks are freed after that.
 use Rattle.std.specs.Prelude.{ℕ, ◌≤◌, ◌+◌, false, List, [], ◌∷◌, Option, Some, None}
 use Rattle.std.specs.List.{AllByRecursion, flat_map}
-use Rattle.lfs_writer.specs.SettledFiles.{blocks_of_list_on_thread}
+use Rattle.lfs_tree.specs.SettledFiles.{blocks_of_list_on_thread}
 use Rattle.lfs_model.specs.Content.{RawSlot, struct_of_type_and_bytes}
 use Rattle.lfs_model.specs.Slots.{Slot, Struct, Inline, Ctz, Branch}
 use Rattle.lfs_model.specs.Shown.{used_blocks}
 use Rattle.lfs_model.specs.Steps.{occurrence_count_of_number}
 use Rattle.lfs_operations.specs.Ready.{IsImageReadyOnceMapIsUpdated}
 use Rattle.lfs_thread.specs.Kept.{KeptThread}
-use Rattle.lfs_writer.specs.Bases.{IsSkipListOnDiskUnlessEmpty}
-use Rattle.lfs_writer.specs.declared.stored_list.StoredList.{StoredList}
+use Rattle.lfs_file.specs.Bases.{IsSkipListOnDiskUnlessEmpty}
+use Rattle.lfs_file.specs.declared.stored_list.StoredList.{StoredList}
 
 -- ---- which lists
 

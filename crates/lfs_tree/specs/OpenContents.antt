@@ -18,17 +18,17 @@ use Rattle.lfs_model.specs.Thread.{gstate_of_pairs}
 use Rattle.lfs_model.specs.Tree.{Path}
 use Rattle.lfs_model.specs.Profile.{IsWritableImage}
 use Rattle.lfs_model.specs.Shown.{tree_on_disk, used_blocks}
-use Rattle.lfs_writer.specs.ThreadContents.{AreContentsConsistentWithThread, list_blocks_of_contents}
+use Rattle.lfs_tree.specs.ThreadContents.{AreContentsConsistentWithThread, list_blocks_of_contents}
 use Rattle.lfs_operations.specs.Storing.{IsDirtyWriterOfContents}
 use Rattle.lfs_thread.specs.Kept.{KeptThread}
 pub use Rattle.lfs_tree.specs.KeptFiles.{KeepsStructsOfOtherFiles, skip_list_blocks_of_slot, skip_list_blocks_at_path}
 pub use Rattle.lfs_tree.specs.TreeState.{kept_thread_of_tree_state}
 use Rattle.lfs_tree.specs.TreeState.{IsFailedTree, IsIoWithFaultOrNoMemory, TreeState, IsSoundTreeState, SurvivesStopsInTreeCall, disk_summary_of_tree, tree_state_without_cache, tree_view}
-use Rattle.lfs_writer.specs.Contents.{ExceedsInlineLimitIfInFlight, NeedsRoomToTruncate, writer_contents_bytes_in_memory_or_blocks, block_room_for_finish, storage_form_of_contents, block_room_for_truncation, block_room_for_write}
-use Rattle.lfs_writer.specs.Form as form
-use Rattle.lfs_writer.specs.Form.{ContentsStorageForm, contents_size_of_storage_form}
-use Rattle.lfs_writer.specs.BlockOwners.{AreUsedBlocksOfListAmongOwnBlocks}
-use Rattle.lfs_writer.specs.declared.contents.WriterContents.{WriterContents}
+use Rattle.lfs_file.specs.Contents.{ExceedsInlineLimitIfInFlight, NeedsRoomToTruncate, writer_contents_bytes_in_memory_or_blocks, block_room_for_finish, storage_form_of_contents, block_room_for_truncation, block_room_for_write}
+use Rattle.lfs_file.specs.Form as form
+use Rattle.lfs_file.specs.Form.{ContentsStorageForm, contents_size_of_storage_form}
+use Rattle.lfs_file.specs.BlockOwners.{AreUsedBlocksOfListAmongOwnBlocks}
+use Rattle.lfs_file.specs.declared.contents.WriterContents.{WriterContents}
 
 -- the bytes of a writer's contents
 abbrev pub bytes_of_writer_contents : KeptThread → WriterContents → List ℕ

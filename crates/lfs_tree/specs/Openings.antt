@@ -3,18 +3,18 @@ use Rattle.std.specs.Prelude.{All, false}
 use Rattle.lfs_model.specs.BlockSets.{IsBlockFree}
 use Rattle.lfs_model.specs.Slots.{Slot, Struct}
 use Rattle.lfs_model.specs.Shown.{skip_list_blocks_of_struct}
-use Rattle.lfs_writer.specs.ThreadContents.{AreConsistentContentsWithBytesAndFormOnThread, list_blocks_of_contents}
+use Rattle.lfs_tree.specs.ThreadContents.{AreConsistentContentsWithBytesAndFormOnThread, list_blocks_of_contents}
 use Rattle.lfs_thread.specs.Kept.{KeptThread}
 use Rattle.lfs_lookup.specs.BytesAt.{IsFileSlotAtSpot}
 use Rattle.lfs_lookup.specs.FileBytes.{file_bytes_of_struct}
 use Rattle.lfs_lookup.specs.declared.entry.FileStorage.{FileStorage}
 use Rattle.lfs_lookup.specs.declared.entry.FileStorage.TheVariants as entry
 use Rattle.lfs_lookup.specs.declared.search.SlotPosition.{SlotPosition}
-use Rattle.lfs_writer.specs.Contents.{HasNoBlockInFlight}
-use Rattle.lfs_writer.specs.Form as form
-use Rattle.lfs_writer.specs.Form.{ContentsStorageForm}
-use Rattle.lfs_writer.specs.BlockOwners.{AreUsedBlocksOfListAmongOwnBlocks}
-use Rattle.lfs_writer.specs.declared.contents.WriterContents.{WriterContents}
+use Rattle.lfs_file.specs.Contents.{HasNoBlockInFlight}
+use Rattle.lfs_file.specs.Form as form
+use Rattle.lfs_file.specs.Form.{ContentsStorageForm}
+use Rattle.lfs_file.specs.BlockOwners.{AreUsedBlocksOfListAmongOwnBlocks}
+use Rattle.lfs_file.specs.declared.contents.WriterContents.{WriterContents}
 
 -- a file's slot is there, no block is in flight, and the blocks of the file's list aren't free
 pub record CanOpenSlotFileWithNothingInFlight (t : KeptThread) (slot : SlotPosition) (contents : FileStorage) (held : Slot) : Type 0 where

@@ -1,6 +1,6 @@
 -- An entry that is removed from its directory.
 use Rattle.std.specs.Prelude.{ℕ, ◌≡◌, ◌≤◌, ◌+◌, true, false, List, [], ◌∷◌, ◌++◌}
-use Rattle.lfs_writer.specs.SettledFiles.{blocks_of_list_on_thread}
+use Rattle.lfs_tree.specs.SettledFiles.{blocks_of_list_on_thread}
 use Rattle.lfs_model.specs.declared.order.NameOrder.{NameOrder}
 use Rattle.lfs_model.specs.Frame.{LeavesUnrelatedBlocksUnchanged}
 use Rattle.lfs_model.specs.Operations as ops
@@ -24,8 +24,8 @@ use Rattle.lfs_lookup.specs.declared.entry.FileStorage.TheVariants as contents
 use Rattle.lfs_lookup.specs.declared.paths.PathLookup.{PathLookup}
 use Rattle.lfs_lookup.specs.declared.paths.PathLookup.TheVariants as found
 use Rattle.lfs_lookup.specs.declared.search.SlotPosition.{SlotPosition}
-use Rattle.lfs_writer.specs.Bases.{IsSkipListOnDiskUnlessEmpty}
-use Rattle.lfs_writer.specs.declared.stored_list.StoredList.{StoredList}
+use Rattle.lfs_file.specs.Bases.{IsSkipListOnDiskUnlessEmpty}
+use Rattle.lfs_file.specs.declared.stored_list.StoredList.{StoredList}
 use Rattle.lfs_tree.specs.Stores.{empty_stored_skip_list}
 
 -- an entry is found for the path

@@ -15,8 +15,8 @@ use Rattle.lfs_model.specs.Tree.{Path, branch_address_of_struct}
 use Rattle.lfs_model.specs.Profile.{IsWritableImage}
 use Rattle.lfs_model.specs.Shown.{tree_on_disk, used_blocks}
 use Rattle.lfs_operations.specs.Ready.{KeepsPairCountBeforeRoot}
-use Rattle.lfs_writer.specs.StructChanges.{IsStructOfContentsWithNewBlocksInFlight}
-use Rattle.lfs_writer.specs.ThreadContents.{AreContentsConsistentWithThread}
+use Rattle.lfs_tree.specs.StructChanges.{IsStructOfContentsWithNewBlocksInFlight}
+use Rattle.lfs_tree.specs.ThreadContents.{AreContentsConsistentWithThread}
 use Rattle.lfs_operations.specs.Editing.{CanEditEntryOfPair, slot_of_editable_entry}
 use Rattle.lfs_operations.specs.Making.{HasSoManyFreeBlocks}
 use Rattle.lfs_operations.specs.Storing.{IsDirtyWriterOfContents}
@@ -32,12 +32,12 @@ use Rattle.lfs_lookup.specs.declared.paths.PathLookup.{PathLookup}
 use Rattle.lfs_lookup.specs.declared.paths.PathLookup.TheVariants as found
 use Rattle.lfs_lookup.specs.declared.search.SlotPosition.{SlotPosition}
 use Rattle.lfs_tree.specs.declared.contents_at.FileSlot.{FileSlot}
-use Rattle.lfs_writer.specs.Contents.{storage_form_of_contents, bytes_in_buffer}
-use Rattle.lfs_writer.specs.Form as form
-use Rattle.lfs_writer.specs.Form.{ContentsStorageForm}
-use Rattle.lfs_writer.specs.declared.contents.WriterContents.{WriterContents}
-use Rattle.lfs_writer.specs.declared.contents.WriterContents.TheVariants.{InMemory, Finished, InHand}
-use Rattle.lfs_writer.specs.declared.stored_list.StoredList.{StoredList}
+use Rattle.lfs_file.specs.Contents.{storage_form_of_contents, bytes_in_buffer}
+use Rattle.lfs_file.specs.Form as form
+use Rattle.lfs_file.specs.Form.{ContentsStorageForm}
+use Rattle.lfs_file.specs.declared.contents.WriterContents.{WriterContents}
+use Rattle.lfs_file.specs.declared.contents.WriterContents.TheVariants.{InMemory, Finished, InHand}
+use Rattle.lfs_file.specs.declared.stored_list.StoredList.{StoredList}
 
 -- a list of no bytes, which has no block
 abbrev pub empty_stored_skip_list : StoredList

@@ -1,7 +1,7 @@
 // Files that get the contents of a writer, in a thread that has nothing to recover.
 
 ghost use Rattle.std.specs.Prelude.{◌≡◌, ◌∷◌, [], false, true, IfErr, OnOk};
-ghost use Rattle.lfs_writer.specs.ThreadContents.{ReportsFaultOrNoMemory};
+ghost use Rattle.lfs_tree.specs.ThreadContents.{ReportsFaultOrNoMemory};
 ghost use Rattle.lfs_model.specs.TreeEdits.{tree_after_change_of_node};
 ghost use Rattle.lfs_model.specs.History.{fault_count_of_history};
 ghost use Rattle.lfs_model.specs.Effects.{node_with_bytes};
@@ -14,13 +14,14 @@ ghost use Rattle.lfs_tree.specs.OpenContents.{CanStoreContentsAt, bytes_of_write
 ghost use Rattle.lfs_tree.specs.Stores.{CanCommitContentsAtPath, CanPutFinishedContentsInSlot, HasCommittedBytesOfFile, StoresBytesKeepingOtherFilesOnThread, IsFileSlotOfFound, is_file_found, stored_skip_list_of_finished_contents, skip_list_in_file_storage, empty_stored_skip_list};
 
 use crate::entries_at::{find_at_path, show_block_facts_to_proof};
+use crate::files::{finish_file, settle_file};
 use lfs_device::{BlockDevice, Error};
+use lfs_file::{StoredList, WriterContents};
 use lfs_lookup::{Path, PathLookup, SlotPosition};
 use lfs_operations::set_struct;
 use lfs_tag::ctz_bytes;
 use lfs_tag::kinds::{CTZ_STRUCT, INLINE_STRUCT};
 use lfs_thread::Thread;
-use lfs_writer::{StoredList, WriterContents, finish_file, settle_file};
 use std::alloc::Global;
 
 // The slot of a file, and its list. Inline bytes have a list without bytes.

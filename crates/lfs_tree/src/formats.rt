@@ -10,8 +10,7 @@ ghost use Rattle.lfs_thread.specs.Kept.{disk_of_device, kept_thread_in_order};
 ghost use Rattle.lfs_thread.specs.Steps.{ThreadChangesOnlyTheseBlocks};
 ghost use Rattle.lfs_tree.specs.Formats.{FailedFormatSparesOtherBlocks, ErasesTwoBlocks, IsBlockMapAfterFormat, IsHeaderOfEmptyRoot, IsThreadOfEmptyRoot, IsFreshlyFormatted, IsWritableImageWithEmptyRoot, superblock_slot_changes};
 
-use lfs_alloc::BlockMap;
-use lfs_cache::Cache;
+use lfs_blocks::{BlockMap, Cache};
 use lfs_device::{BlockDevice, Error};
 use lfs_model::NameOrder;
 use lfs_pair::{Change, Pair};

@@ -8,9 +8,9 @@ ghost use Rattle.lfs_model.specs.Tree.{Path};
 ghost use Rattle.lfs_tree.specs.KeptFiles.{blocks_taken_by_operation};
 ghost use Rattle.lfs_tree.specs.OpenContents.{AreWriterContentsOverTreeFile, bytes_of_writer_contents};
 ghost use Rattle.lfs_tree.specs.TreeState.{IsOperationAppliedToTree, IsSoundTreeState, TreeState, disk_summary_of_tree, kept_thread_of_tree_state};
-ghost use Rattle.lfs_writer.specs.Contents.{storage_form_of_contents};
-ghost use Rattle.lfs_writer.specs.Form.{in_flight_block_limit_of_storage_form};
-ghost use Rattle.lfs_writer.specs.declared.contents.WriterContents.{WriterContents};
+ghost use Rattle.lfs_file.specs.Contents.{storage_form_of_contents};
+ghost use Rattle.lfs_file.specs.Form.{in_flight_block_limit_of_storage_form};
+ghost use Rattle.lfs_file.specs.declared.contents.WriterContents.{WriterContents};
 
 /// An operation that neither removes nor moves an open file leaves the contents of its writer. So
 /// it is also with bytes that aren't in the tree yet. No more blocks are in flight than contents in

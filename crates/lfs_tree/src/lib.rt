@@ -8,6 +8,7 @@ mod attributes_at;
 mod contents_at;
 mod creation_paths;
 mod entries_at;
+mod files;
 mod formats;
 mod laws;
 mod lost_lists;

@@ -2,8 +2,8 @@
 
 ghost use Rattle.std.specs.Prelude.{◌≡◌, ◌++◌, ◌<◌, IfErr, IfOk, OnOk, false, is_err, length, map};
 ghost use Rattle.std.specs.Option.{option_to_list};
-ghost use Rattle.lfs_writer.specs.SettledFiles.{ChangesOnlyBlockMap};
-ghost use Rattle.lfs_writer.specs.ThreadContents.{ReportsFaultOrNoMemory};
+ghost use Rattle.lfs_tree.specs.SettledFiles.{ChangesOnlyBlockMap};
+ghost use Rattle.lfs_tree.specs.ThreadContents.{ReportsFaultOrNoMemory};
 ghost use Rattle.lfs_model.specs.LoggedContent.{IsWellFormedRawSlot, AreWellFormedRawSlots};
 ghost use Rattle.lfs_model.specs.Slots.{PairContent as ModelContent};
 ghost use Rattle.lfs_operations.specs.Dropping.{HasSameBlocksInFlight};
@@ -16,11 +16,12 @@ ghost use Rattle.lfs_tree.specs.LostLists.{CanFreeListsOfDroppedSlots, skip_list
 ghost use Rattle.lfs_lookup.specs.Reading.{OnlyReadsThreadAndReportsErrors};
 ghost use Rattle.lfs_lookup.specs.Search.{HasLogWhoseSlotsHaveNameAndStruct};
 
+use crate::files::settle_file;
 use lfs_device::{BlockDevice, Error};
+use lfs_file::{StoredList, settled_map_has_exactly_image_blocks};
 use lfs_lookup::{FileOrDirectory, FileStorage, entry_of_struct};
 use lfs_tag::{Content, Log, Slot};
 use lfs_thread::Thread;
-use lfs_writer::{StoredList, settle_file, settled_map_has_exactly_image_blocks};
 use std::alloc::{AllocError, Global};
 
 // Returns the list that a slot names, if it names one.

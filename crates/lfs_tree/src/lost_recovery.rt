@@ -16,9 +16,9 @@ use crate::entries_at::show_block_facts_to_proof;
 use crate::lost_lists::{free_blocks_of_skip_lists, skip_lists_of_pairs};
 use crate::orphans::find_unreached_pair_numbers;
 use lfs_device::{BlockDevice, Error};
+use lfs_file::StoredList;
 use lfs_operations::{drop_unreached_pairs, end_move};
 use lfs_thread::Thread;
-use lfs_writer::StoredList;
 use std::alloc::Global;
 
 // Drops the pairs of these numbers, which no path leads to, and frees the lists that their slots

@@ -12,15 +12,15 @@ ghost use Rattle.lfs_tree.specs.Openings.{CanOpenSlotFileWithNothingInFlight, Ar
 ghost use Rattle.lfs_lookup.specs.Reading.{OnlyReadsThreadAndReportsErrors};
 ghost use Rattle.lfs_lookup.specs.declared.entry.FileStorage.TheVariants as entry_contents;
 ghost use Rattle.lfs_lookup.specs.declared.search.SlotPosition.{SlotPosition as SpotSeen};
-ghost use Rattle.lfs_writer.specs.Contents.{HasNoBlockInFlight, storage_form_of_contents};
-ghost use Rattle.lfs_writer.specs.Form as form;
+ghost use Rattle.lfs_file.specs.Contents.{HasNoBlockInFlight, storage_form_of_contents};
+ghost use Rattle.lfs_file.specs.Form as form;
 
 use lfs_device::{BlockDevice, Error, Geometry};
+use lfs_file::{StoredList, WriterContents, make_contents_in_memory};
 use lfs_lookup::{
     Path, SlotPosition, lookup_result_at_path, read_inline_bytes_at, spot_and_storage_of_file,
 };
 use lfs_thread::Thread;
-use lfs_writer::{StoredList, WriterContents, make_contents_in_memory};
 use std::alloc::Global;
 
 // Returns the geometry of a thread's device.

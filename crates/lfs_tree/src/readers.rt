@@ -7,7 +7,7 @@ ghost use Rattle.lfs_model.specs.Slots.{Ctz, Inline};
 ghost use Rattle.lfs_model.specs.Tree.{Path as ModelPath};
 ghost use Rattle.lfs_model.specs.TreeEdits.{file_bytes_of_node};
 ghost use Rattle.lfs_model.specs.View.{IsSkipListIfCtzStruct};
-ghost use Rattle.lfs_ctz.specs.Known.{AreKnownListBlocks, ReadsKnownList};
+ghost use Rattle.lfs_file.specs.Known.{AreKnownListBlocks, ReadsKnownList};
 ghost use Rattle.lfs_lookup.specs.Reading.{OnlyReadsThreadAndReportsErrors};
 ghost use Rattle.lfs_lookup.specs.FileContents.{AreInlineContentsShorterThanTagLength, IsInlineBytesOrSkipListOfFileAtPath, AreContentsOfFileAtPathOrNone, struct_of_file_contents};
 ghost use Rattle.lfs_lookup.specs.Finds.{IsFoundNodeAtPath};
@@ -16,8 +16,8 @@ ghost use Rattle.lfs_tree.specs.TreeState.{OnlyReadsTreeOrFails, kept_thread_of_
 
 use crate::answers::mark_thread_failed_on_error;
 use crate::tree::Tree;
-use lfs_ctz::KnownBlocks;
 use lfs_device::{BlockDevice, Error};
+use lfs_file::KnownBlocks;
 use lfs_lookup::{FileContents, FoundFile, Path, find_file_contents_at_path};
 use lfs_thread::Thread;
 use std::alloc::Global;

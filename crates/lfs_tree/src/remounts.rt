@@ -4,8 +4,7 @@ ghost use Rattle.std.specs.Prelude.{◌≡◌, IfErr, OnErr, OnOk};
 ghost use Rattle.lfs_tree.specs.TreeState.{IsTreeFailedByRead, IsMountErrorWithCause, IsRemountedTree};
 
 use crate::tree::Tree;
-use lfs_alloc::BlockMap;
-use lfs_cache::Cache;
+use lfs_blocks::{BlockMap, Cache};
 use lfs_device::{BlockDevice, Error};
 use lfs_thread::{Thread, ThreadParts};
 use std::alloc::Global;

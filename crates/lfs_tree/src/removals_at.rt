@@ -1,8 +1,8 @@
 // Entries at paths that are removed, in a thread that has nothing to recover.
 
 ghost use Rattle.std.specs.Prelude.{◌≡◌, true, false, is_err, OnOk};
-ghost use Rattle.lfs_writer.specs.SettledFiles.{ChangesOnlyBlockMap};
-ghost use Rattle.lfs_writer.specs.ThreadContents.{ReportsFaultOrNoMemory};
+ghost use Rattle.lfs_tree.specs.SettledFiles.{ChangesOnlyBlockMap};
+ghost use Rattle.lfs_tree.specs.ThreadContents.{ReportsFaultOrNoMemory};
 ghost use Rattle.lfs_model.specs.TreeEdits.{tree_after_removal};
 ghost use Rattle.lfs_model.specs.Tree.{Path as TreePath};
 ghost use Rattle.lfs_model.specs.Shown.{tree_on_disk};
@@ -17,11 +17,12 @@ ghost use Rattle.lfs_tree.specs.Removals.{CanFreeListOfFile, CanRemoveFoundEntry
 ghost use Rattle.lfs_tree.specs.RootedThreads.{tree_state_of_kept_thread};
 
 use crate::entries_at::{find_at_path, show_block_facts_to_proof};
+use crate::files::settle_file;
 use lfs_device::{BlockDevice, Error};
+use lfs_file::{StoredList, settled_map_has_exactly_image_blocks};
 use lfs_lookup::{FileStorage, Path, PathLookup, SlotPosition};
 use lfs_operations::{remove_directory, remove_file};
 use lfs_thread::Thread;
-use lfs_writer::{StoredList, settle_file, settled_map_has_exactly_image_blocks};
 use std::alloc::Global;
 
 // Frees the blocks of a file's list in the map, after no pair names it any more. Nothing is

@@ -9,17 +9,18 @@ ghost use Rattle.lfs_model.specs.Effects.{node_with_bytes};
 ghost use Rattle.lfs_model.specs.Tree.{Path as ModelPath};
 ghost use Rattle.lfs_tree.specs.OpenContents.{CanOpenFileWriterWithNothingInFlight, CanStoreContentsAt, CanTruncateWriterContents, CanWriteWriterContents, HasWriterBytesInForm, IsFormOfOpenedContents, AreWriterContentsOverTreeFile, StoresBytesKeepingOtherFilesAtPath, WritesOnlyUnusedBlocksOrFails, bytes_of_writer_contents, kept_thread_of_tree_state};
 ghost use Rattle.lfs_tree.specs.TreeState.{OnlyReadsTreeOrFails, IsFailedTree, IsTreeFailedByRead, IsIoWithFaultOrNoMemory, SurvivesStopsInTreeCall, tree_view};
-ghost use Rattle.lfs_writer.specs.Contents.{storage_form_of_contents};
-ghost use Rattle.lfs_writer.specs.Form as form;
-ghost use Rattle.lfs_writer.specs.Form.{storage_form_after_truncate, storage_form_after_write};
+ghost use Rattle.lfs_file.specs.Contents.{storage_form_of_contents};
+ghost use Rattle.lfs_file.specs.Form as form;
+ghost use Rattle.lfs_file.specs.Form.{storage_form_after_truncate, storage_form_after_write};
 
 use crate::answers::mark_thread_failed_on_error;
 use crate::contents_at::store_contents_at_path;
+use crate::files::{truncate_file, write_file};
 use crate::opened_contents::{contents_of_no_bytes, open_contents_at_path};
 use crate::tree::Tree;
 use lfs_device::{BlockDevice, Error};
+use lfs_file::WriterContents;
 use lfs_lookup::Path;
-use lfs_writer::{WriterContents, truncate_file, write_file};
 use std::alloc::Global;
 
 impl<D: BlockDevice> Tree<D> {

@@ -1,5 +1,5 @@
 use Rattle.std.proofs.Common.{sym, subst}
-use Rattle.lfs_writer.specs.SettledFiles.{CanMarkStoredListUsedAndOldFree, IsStoredListUsedAndOldListFree}
+use Rattle.lfs_tree.specs.SettledFiles.{CanMarkStoredListUsedAndOldFree, IsStoredListUsedAndOldListFree}
 use Rattle.lfs_operations.specs.Changing.{WritesPairAndTwoFreeBlocks}
 use Rattle.lfs_operations.specs.Storing.{HasStoredContentsOfFile, tree_with_contents_at}
 use Rattle.lfs_thread.specs.Kept.{KeptThread}

@@ -1,5 +1,5 @@
 use Rattle.std.proofs.Common.{◌≡◌, drop, false}
-use Rattle.lfs_writer.specs.SettledFiles.{ChangesOnlyBlockMap}
+use Rattle.lfs_tree.specs.SettledFiles.{ChangesOnlyBlockMap}
 use Rattle.lfs_model.specs.History.{fault_count_of_history}
 use Rattle.lfs_operations.specs.Dropping.{HasSameBlocksInFlight}
 use Rattle.lfs_tree.specs.LostLists.{CanFreeListsOfDroppedSlots}

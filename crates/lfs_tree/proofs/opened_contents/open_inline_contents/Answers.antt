@@ -2,7 +2,7 @@ use Rattle.std.proofs.Common.{◌∙◌, arith, ap, length, sym, subst}
 use Rattle.lfs_model.specs.BlockSets.{BlockStateList}
 use Rattle.lfs_model.specs.Disk.{Disk}
 use Rattle.lfs_thread.specs.Beside.{DiskHasGeometry}
-use Rattle.lfs_writer.specs.Contents.{HasNoBlockInFlight}
+use Rattle.lfs_file.specs.Contents.{HasNoBlockInFlight}
 use Rattle.lfs_tree.proofs.OpenedFiles.{all_taken, opened_in_memory}
 use Rattle.lfs_tree.proofs.opened_contents.open_inline_contents.Goals as goal
 

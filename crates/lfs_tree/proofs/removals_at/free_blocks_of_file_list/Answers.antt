@@ -1,6 +1,6 @@
 use Rattle.std.proofs.Common.{ap, subst, sym}
 use Rattle.std.specs.Prelude.{OnOk}
-use Rattle.lfs_writer.specs.SettledFiles.{CanMarkStoredListUsedAndOldFree, IsStoredListUsedAndOldListFree, blocks_of_list_on_thread}
+use Rattle.lfs_tree.specs.SettledFiles.{CanMarkStoredListUsedAndOldFree, IsStoredListUsedAndOldListFree, blocks_of_list_on_thread}
 use Rattle.lfs_operations.specs.Dropping.{HasSameBlocksInFlight}
 use Rattle.lfs_operations.specs.Ready.{IsImageReadyForChange}
 use Rattle.lfs_tree.specs.Removals.{skip_list_named_by_file_storage}

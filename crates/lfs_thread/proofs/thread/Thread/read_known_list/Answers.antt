@@ -1,7 +1,7 @@
 use Rattle.std.proofs.Common.{ℕ, ◌+◌, List, Result, Ok, Err, ap₂, length, sym, subst}
 use Rattle.std.specs.Prelude.{OnOk}
-use Rattle.lfs_ctz.specs.declared.known.KnownBlocks.{KnownBlocks}
-use Rattle.lfs_ctz.specs.Known.{ReadsKnownList}
+use Rattle.lfs_file.specs.declared.known.KnownBlocks.{KnownBlocks}
+use Rattle.lfs_file.specs.Known.{ReadsKnownList}
 use Rattle.lfs_device.specs.Shown.{disk_of_geometry_and_blocks}
 use Rattle.lfs_model.specs.History.{DeviceCallEvent}
 use Rattle.lfs_thread.specs.Kept.{IsCacheCurrent, IsKeptThreadOnDisk, ThreadView}

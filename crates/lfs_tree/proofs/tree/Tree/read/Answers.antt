@@ -1,7 +1,7 @@
 use Rattle.std.proofs.Common.{◌≡◌, ap, drop, length, subst, sym, take}
 use Rattle.std.specs.Prelude.{IfOk, OnOk}
 use Rattle.lfs_model.specs.TreeEdits.{file_bytes_of_node}
-use Rattle.lfs_ctz.specs.Known.{AreKnownListBlocks, ReadsKnownList}
+use Rattle.lfs_file.specs.Known.{AreKnownListBlocks, ReadsKnownList}
 use Rattle.lfs_model.specs.Shown.{skip_list_blocks_of_struct}
 use Rattle.lfs_thread.specs.Kept.{ThreadView}
 use Rattle.lfs_lookup.specs.FileContents.{IsInlineBytesOrSkipListOfFileAtPath, struct_of_file_contents}

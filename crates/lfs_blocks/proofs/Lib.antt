@@ -1,0 +1,3 @@
+pub mod EntryLemmas
+pub mod MarkLemmas
+pub mod SetLemmas

@@ -1,0 +1,5 @@
+use Rattle.lfs_blocks.proofs.EntryLemmas.{HasAtMostEightDistinctBlocks-none}
+use Rattle.lfs_blocks.proofs.cache.Cache.clear.Goals as goal
+
+pub invariant_of-self : goal.invariant_of-self
+invariant_of-self c = rw c.clear.ensures (HasAtMostEightDistinctBlocks-none c.self.inside.recent c.self.invariant)

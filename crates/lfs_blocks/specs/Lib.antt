@@ -1,0 +1,5 @@
+pub mod BlockMap
+pub mod Cache
+pub mod Marks
+pub mod Next
+pub mod Read

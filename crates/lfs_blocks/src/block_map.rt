@@ -1,0 +1,223 @@
+ghost use Rattle.std.specs.Prelude.{◌≡◌, ◌≤◌, ◌<◌, ◌↔◌, ◌%◌, ℕ, Some, length, replicate, slice_get, slice_set, IsTrue, IfErr, IfNone, IfOk, IfSome};
+ghost use Rattle.std.specs.Bool.{OnFalse, OnTrue};
+ghost use Rattle.lfs_model.specs.BlockSets.{IsBlockFree, IsBlockInFlight, IsBlockMarkedUsedInMap, used_count};
+ghost use Rattle.lfs_model.specs.BlockSets.BlockState.{Free, InFlight, Used};
+ghost use Rattle.lfs_blocks.specs.Marks.{block_state_of_block_use};
+ghost use Rattle.lfs_blocks.specs.Next.{IsNextFreeBlockInCircle};
+
+use crate::marks::{BlockUse, Marks};
+use lfs_device::Error;
+use std::alloc::Global;
+use std::marker::Model;
+
+/// A map of the blocks of a device: each is free, used, or in flight. A block in flight was taken,
+/// and isn't settled yet. littlefs's lookahead buffer has the same purpose (DESIGN.md of littlefs,
+/// "The block allocator").
+///
+/// A contract sees the state of each block, by its number.
+#[derive(Drop)]
+pub struct BlockMap {
+    marks: Vec<Marks>,
+    block_count: u32,
+    used_count: u32,
+    // where the search for a free block continues
+    next: u32,
+}
+
+impl Model for BlockMap {
+    ghost use Rattle.std.specs.Prelude.{List};
+    ghost use Rattle.lfs_model.specs.BlockSets.{BlockState};
+    ghost use Rattle.lfs_blocks.specs.BlockMap.{MarksCoverBlocksAndCountUsed, block_states_of_marks};
+
+    ghost Value = { List BlockState };
+
+    ghost view = { λ map. block_states_of_marks map.marks.items map.block_count };
+
+    ghost invariant = { λ map. MarksCoverBlocksAndCountUsed map.marks.items map.block_count map.used_count };
+}
+
+impl BlockMap {
+    /// Makes a map of the blocks below `block_count`, all of them free. It takes 16 bytes for each
+    /// 64 blocks. No other call takes memory.
+    ///
+    /// Errors: `NoMemory` where that memory isn't granted.
+    ///
+    /// `NoMemory` where its memory isn't granted, 16 bytes for each 64 blocks.
+    pub fn new(alloc: Global, block_count: u32) -> Result<BlockMap, Error>
+        ensures free { IfOk result (λ map. map ≡ replicate block_count Free) }
+        ensures error { IfErr result (λ e. e ≡ Error.NoMemory) }
+    {
+        let marks = Vec::from_elem(
+            alloc,
+            Marks::with_all_blocks_free(),
+            block_count.div_ceil(64) as usize,
+        )?;
+        Ok(BlockMap {
+            marks,
+            block_count,
+            used_count: 0,
+            next: 0,
+        })
+    }
+
+    /// Returns how many blocks the map has.
+    pub fn block_count(&self) -> u32
+        ensures { result ≡ length self.now }
+    {
+        self.block_count
+    }
+
+    /// Returns whether a block is used. A block in flight isn't.
+    pub fn is_used(&self, block: u32) -> bool
+        requires { block < length self.now }
+        ensures { IsTrue result ↔ IsBlockMarkedUsedInMap self.now block }
+    {
+        self.state(block).is_used()
+    }
+
+    /// Returns whether a block is in flight.
+    pub fn is_in_flight(&self, block: u32) -> bool
+        requires { block < length self.now }
+        ensures { IsTrue result ↔ IsBlockInFlight self.now block }
+    {
+        self.state(block).is_in_flight()
+    }
+
+    /// Returns how many blocks are used.
+    pub fn used_count(&self) -> u32
+        ensures { result ≡ used_count self.now }
+    {
+        self.used_count
+    }
+
+    /// Makes a free block used. Returns whether the block was free; where it wasn't, nothing
+    /// changes.
+    pub fn mark(&mut self, block: u32) -> bool
+        requires { block < length self.old }
+        ensures free { IsTrue result ↔ IsBlockFree self.old block }
+        ensures marked { OnTrue result (self.new ≡ slice_set self.old block Used) }
+        ensures same { OnFalse result (self.new ≡ self.old) }
+    {
+        let is_free = self.state(block) == BlockUse::Free;
+        if is_free {
+            self.set_block_state(block, BlockUse::Used);
+        }
+        is_free
+    }
+
+    /// Takes a free block, which is then in flight until it is settled or released. Returns None
+    /// exactly where no block is free.
+    ///
+    /// The search begins after the block that was taken last, or where
+    /// [`set_search_start_to_first_free_from`](BlockMap::set_search_start_to_first_free_from) left it. So the blocks are taken in a circle.
+    pub fn take(&mut self) -> Option<u32>
+        ensures was_free { IfSome result (IsBlockFree self.old) }
+        ensures taken { IfSome result (λ block. self.new ≡ slice_set self.old block InFlight) }
+        ensures none { IfNone result ((block : ℕ) → ¬ (IsBlockFree self.old block)) }
+        ensures same { IfNone result (self.new ≡ self.old) }
+    {
+        let number = self.next;
+        self.take_first_free_in_circle_from(number)
+    }
+
+    /// Takes the first free block from `number` on, modulo the number of blocks. The first block
+    /// follows the last one. Returns None exactly where no block is free.
+    pub fn take_first_free_in_circle_from(&mut self, number: u32) -> Option<u32>
+        ensures next { IfSome result (IsNextFreeBlockInCircle self.old (number % length self.old)) }
+        ensures taken { IfSome result (λ block. self.new ≡ slice_set self.old block InFlight) }
+        ensures none { IfNone result ((block : ℕ) → ¬ (IsBlockFree self.old block)) }
+        ensures same { IfNone result (self.new ≡ self.old) }
+    {
+        let block = self.next_free_block_in_circle(number)?;
+        self.set_block_state(block, BlockUse::InFlight);
+        self.next = block + 1;
+        Some(block)
+    }
+
+    /// Sets where the search of [`take`](BlockMap::take) begins: at the first free block from
+    /// `number` on. Returns that block, which [`take_first_free_in_circle_from`](BlockMap::take_first_free_in_circle_from) would take. The
+    /// states of the blocks stay. Returns None exactly where no block is free.
+    pub fn set_search_start_to_first_free_from(&mut self, number: u32) -> Option<u32>
+        ensures next { IfSome result (IsNextFreeBlockInCircle self.old (number % length self.old)) }
+        ensures none { IfNone result ((block : ℕ) → ¬ (IsBlockFree self.old block)) }
+        ensures same { self.new ≡ self.old }
+    {
+        let block = self.next_free_block_in_circle(number)?;
+        self.next = block;
+        Some(block)
+    }
+
+    /// Makes a block free, whether it was used or in flight.
+    pub fn release(&mut self, block: u32)
+        requires { block < length self.old }
+        ensures { self.new ≡ slice_set self.old block Free }
+    {
+        self.set_block_state(block, BlockUse::Free);
+    }
+
+    /// Makes a block in flight used, after a commit that names it.
+    pub fn settle(&mut self, block: u32)
+        requires { IsBlockInFlight self.old block }
+        ensures { self.new ≡ slice_set self.old block Used }
+    {
+        self.set_block_state(block, BlockUse::Used);
+    }
+
+    fn state(&self, block: u32) -> BlockUse
+        requires { block < length self.now }
+        ensures { slice_get self.now block ≡ Some (block_state_of_block_use result) }
+    {
+        self.marks[block as usize / 64].state(block % 64)
+    }
+
+    fn set_block_state(&mut self, block: u32, state: BlockUse)
+        requires { block < length self.old }
+        ensures { self.new ≡ slice_set self.old block (block_state_of_block_use state) }
+    {
+        let marks = &mut self.marks[block as usize / 64];
+        let was = marks.state(block % 64);
+        *marks = marks.with_state_at_bit(block % 64, state);
+        self.used_count -= u32::from(was.is_used());
+        self.used_count += u32::from(state.is_used());
+    }
+
+    // Returns the first free block from a number on, in a circle.
+    fn next_free_block_in_circle(&self, number: u32) -> Option<u32>
+        ensures next { IfSome result (IsNextFreeBlockInCircle self.now (number % length self.now)) }
+        ensures not_last { IfSome result (λ block. block < u32.MAX) }
+        ensures none { IfNone result ((block : ℕ) → ¬ (IsBlockFree self.now block)) }
+    {
+        if self.block_count == 0 {
+            return None;
+        }
+        match self.first_free_block_from(number % self.block_count) {
+            Some(block) => Some(block),
+            None => self.first_free_block_from(0),
+        }
+    }
+
+    // Returns the first free block from a block on.
+    fn first_free_block_from(&self, start: u32) -> Option<u32>
+        requires { start ≤ length self.now }
+        ensures found { IfSome result (IsBlockFree self.now) }
+        ensures behind { IfSome result (λ found. start ≤ found) }
+        ensures first { IfSome result (λ found. (block : ℕ) → start ≤ block → block < found → ¬ (IsBlockFree self.now block)) }
+        ensures not_last { IfSome result (λ block. block < u32.MAX) }
+        ensures none { IfNone result ((block : ℕ) → start ≤ block → ¬ (IsBlockFree self.now block)) }
+    {
+        let block_count = self.block_count as usize;
+        let mut place = start % 64;
+        for index in start as usize / 64..self.marks.len() {
+            if let Some(free) = self.marks[index].first_free(place) {
+                let block = index * 64 + free as usize;
+                return if block < block_count {
+                    Some(block as u32)
+                } else {
+                    None
+                };
+            }
+            place = 0;
+        }
+        None
+    }
+}

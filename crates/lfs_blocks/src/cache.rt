@@ -1,0 +1,213 @@
+ghost use Rattle.std.specs.Prelude.{◌≡◌, ◌⊎◌, ◌<◌, ◌≤◌, ◌+◌, ℕ, List, ◌∷◌, [], is_some, length, slice_range, unwrap_or, IfErr, IfOk, IfSome, None, OnErr, OnOk, option_copied, option_map};
+ghost use Rattle.std.specs.Bool.{OnFalse, OnTrue};
+ghost use Rattle.lfs_model.specs.Blocks.{block_bytes_by_number};
+ghost use Rattle.lfs_model.specs.Cache.{cached_block_limit, cached_bytes_of_block, cache_with_block_first, cache_without_block};
+ghost use Rattle.lfs_device.specs.Calls.{ReadsOnly, ReportsFaults};
+ghost use Rattle.lfs_model.specs.History.{read_count_of_history};
+ghost use Rattle.lfs_blocks.specs.Read.{ReadsBlockUnlessCached, ReadsOnceUnlessCached};
+
+use lfs_device::{BlockDevice, Error, read_block};
+use lru::LruCache;
+use std::alloc::Global;
+use std::marker::Model;
+use std::num::NonZeroUsize;
+
+/// A cache of at most eight blocks of a device, each with its bytes as they were when it was read.
+///
+/// A contract sees the cache as a list of block numbers with their bytes. The block that was filled
+/// last comes first. The cache doesn't notice that the device changes a block. So the caller calls
+/// [`Cache::forget`] for a block before it programs or erases that block.
+#[derive(Drop)]
+pub struct Cache {
+    alloc: Global,
+    recent: LruCache<u32, Vec<u8>>,
+}
+
+impl Model for Cache {
+    ghost use Rattle.std.specs.Prelude.{ℕ, List};
+    ghost use Rattle.lfs_blocks.specs.Cache.{HasAtMostEightDistinctBlocks, cached_blocks_view};
+
+    ghost Value = { List (ℕ × List ℕ) };
+
+    ghost view = { λ cache. cached_blocks_view cache.recent.entries };
+
+    ghost invariant = { λ cache. HasAtMostEightDistinctBlocks cache.recent };
+}
+
+impl Cache {
+    /// Makes an empty cache.
+    ///
+    /// Errors: `NoMemory` where the room for eight entries isn't granted.
+    pub fn new(alloc: Global) -> Result<Cache, Error>
+        ensures empty { IfOk result (λ cache. cache ≡ []) }
+        ensures error { IfErr result (λ e. e ≡ Error.NoMemory) }
+    {
+        let capacity = NonZeroUsize::new(8).unwrap();
+        let recent = LruCache::new(alloc, capacity)?;
+        Ok(Cache { alloc, recent })
+    }
+
+    /// Makes `block` the most recent block of the cache. A block that isn't cached is read whole,
+    /// by one read of the device. The least recent block is dropped then, where there were eight. A
+    /// cached block takes no call of the device and no memory. `block` is below the number of
+    /// blocks.
+    ///
+    /// Errors: `Io` where the read fails, and `NoMemory` where memory for the block isn't granted.
+    /// The cache is as it was after either.
+    pub fn fill<D: BlockDevice>(&mut self, device: &mut D, block: u32) -> Result<(), Error>
+        requires { block < (D.geometry device.old).block_count }
+        ensures filled { OnOk result (self.new
+            ≡ cache_with_block_first self.old block (unwrap_or (cached_bytes_of_block self.old block) (block_bytes_by_number (D.blocks device.old) block))) }
+        ensures err { OnErr result (self.new ≡ self.old) }
+        ensures few { length self.new ≤ cached_block_limit }
+        ensures calls { ReadsBlockUnlessCached D.BlockDevice (cached_bytes_of_block self.old block) block device.old device.new result }
+        ensures device { ReadsOnly D.BlockDevice device.old device.new }
+        ensures faults { ReportsFaults D.BlockDevice device.old device.new result }
+        ensures errors { IfErr result (λ e. (e ≡ Error.Io) ⊎ (e ≡ Error.NoMemory)) }
+    {
+        if self.promote(block) {
+            return Ok(());
+        }
+        let bytes = read_block(self.alloc, device, block)?;
+        self.add_uncached_block(block, bytes)?;
+        Ok(())
+    }
+
+    /// Reads bytes of a block into the buffer, from an offset on. A cached block takes no call of
+    /// the device, and the cache stays as it is. Another block is read whole, by one read, and
+    /// becomes the most recent block of the cache. Where memory for that isn't granted, the cache
+    /// stays as it is. `block` is below the number of blocks, and the bytes are within the block.
+    /// The caller's condition is that a cached block has the device's bytes.
+    ///
+    /// Errors: `Io` where the read fails.
+    pub fn read<D: BlockDevice>(
+        &mut self,
+        device: &mut D,
+        block: u32,
+        offset: u32,
+        buf: &mut [u8],
+    ) -> Result<(), Error>
+        requires inside { (block < (D.geometry device.old).block_count) × (offset + length buf.old ≤ (D.geometry device.old).block_size) }
+        requires current { IfSome (cached_bytes_of_block self.old block) (λ bytes. bytes ≡ block_bytes_by_number (D.blocks device.old) block) }
+        ensures bytes { OnOk result (buf.new ≡ slice_range (block_bytes_by_number (D.blocks device.old) block) offset (offset + length buf.old)) }
+        ensures cached { (self.new ≡ self.old) ⊎ (self.new ≡ cache_with_block_first self.old block (block_bytes_by_number (D.blocks device.old) block)) }
+        ensures few { ReadsOnceUnlessCached D.BlockDevice (cached_bytes_of_block self.old block) device.old device.new }
+        ensures device { ReadsOnly D.BlockDevice device.old device.new }
+        ensures faults { ReportsFaults D.BlockDevice device.old device.new result }
+        ensures errors { IfErr result (λ e. e ≡ Error.Io) }
+    {
+        if let Some(bytes) = self.lend(block) {
+            copy_range(bytes, offset, buf);
+            return Ok(());
+        }
+        match read_block(self.alloc, device, block) {
+            Ok(bytes) => {
+                copy_range(&bytes, offset, buf);
+                self.keep_if_granted(block, bytes);
+                Ok(())
+            }
+            Err(Error::NoMemory) => read_range(device, block, offset, buf),
+            Err(error) => Err(error),
+        }
+    }
+
+    /// Returns the bytes of a block, without a copy. Returns None where the block isn't cached.
+    /// The order of the blocks stays as it is.
+    pub fn lend(&self, block: u32) -> Option<&[u8]>
+        ensures { option_copied result ≡ cached_bytes_of_block self.now block }
+    {
+        match self.recent.peek(&block) {
+            Some(bytes) => Some(bytes.as_slice()),
+            None => None,
+        }
+    }
+
+    /// Takes a block out of the cache and returns its bytes. Returns None where the block isn't at
+    /// hand.
+    ///
+    /// The call takes no memory and makes no call of the device.
+    pub fn take(&mut self, block: u32) -> Option<Vec<u8>>
+        ensures bytes { option_map (λ bytes. bytes.items) result ≡ cached_bytes_of_block self.old block }
+        ensures others { self.new ≡ cache_without_block self.old block }
+    {
+        self.recent.pop(&block)
+    }
+
+    /// Takes a block out of the cache and drops its bytes. Nothing changes where the block isn't at
+    /// hand. The call takes no memory and makes no call of the device.
+    pub fn forget(&mut self, block: u32)
+        ensures { self.new ≡ cache_without_block self.old block }
+    {
+        self.take(block);
+    }
+
+    /// Takes all blocks out of the cache and drops their bytes. The call takes no memory and makes
+    /// no call of the device.
+    pub fn clear(&mut self)
+        ensures { self.new ≡ [] }
+    {
+        self.recent.clear();
+    }
+
+    // Makes a cached block the most recent one. Returns whether the block is cached.
+    fn promote(&mut self, block: u32) -> bool
+        ensures cached_log { result ≡ is_some (cached_bytes_of_block self.old block) }
+        ensures first { OnTrue result ((other : List ℕ) → self.new ≡ cache_with_block_first self.old block (unwrap_or (cached_bytes_of_block self.old block) other)) }
+        ensures same { OnFalse result (self.new ≡ self.old) }
+        ensures few { length self.new ≤ cached_block_limit }
+    {
+        self.recent.promote(&block)
+    }
+
+    // Adds a block that isn't cached as the most recent one. The least recent block is dropped
+    // where there were eight.
+    fn add_uncached_block(&mut self, block: u32, bytes: Vec<u8>) -> Result<(), Error>
+        requires { cached_bytes_of_block self.old block ≡ None }
+        ensures first { OnOk result (self.new ≡ cache_with_block_first self.old block bytes.items) }
+        ensures err { OnErr result (self.new ≡ self.old) }
+        ensures few { length self.new ≤ cached_block_limit }
+        ensures error { IfErr result (λ e. e ≡ Error.NoMemory) }
+    {
+        self.recent.put(block, bytes)?;
+        Ok(())
+    }
+
+    // Adds a block that isn't cached as the most recent one, where memory for that is granted.
+    fn keep_if_granted(&mut self, block: u32, bytes: Vec<u8>)
+        requires { cached_bytes_of_block self.old block ≡ None }
+        ensures { (self.new ≡ self.old) ⊎ (self.new ≡ cache_with_block_first self.old block bytes.items) }
+    {
+        match self.add_uncached_block(block, bytes) {
+            Ok(()) => {}
+            Err(_) => {}
+        }
+    }
+}
+
+// Copies bytes from an offset on into the buffer.
+fn copy_range(bytes: &[u8], offset: u32, buf: &mut [u8])
+    requires { offset + length buf.old ≤ length bytes.now }
+    ensures { buf.new ≡ slice_range bytes.now offset (offset + length buf.old) }
+{
+    let start = offset as usize;
+    let end = start + buf.len();
+    buf.copy_from_slice(&bytes[start..end]);
+}
+
+// Reads bytes of a block into the buffer, from an offset on.
+fn read_range<D: BlockDevice>(
+    device: &mut D,
+    block: u32,
+    offset: u32,
+    buf: &mut [u8],
+) -> Result<(), Error>
+    requires inside { (block < (D.geometry device.old).block_count) × (offset + length buf.old ≤ (D.geometry device.old).block_size) }
+    ensures bytes { OnOk result (buf.new ≡ slice_range (block_bytes_by_number (D.blocks device.old) block) offset (offset + length buf.old)) }
+    ensures few { read_count_of_history (D.history device.new) ≡ read_count_of_history (D.history device.old) + 1 }
+    ensures device { ReadsOnly D.BlockDevice device.old device.new }
+    ensures faults { ReportsFaults D.BlockDevice device.old device.new result }
+    ensures errors { IfErr result (λ e. e ≡ Error.Io) }
+{
+    device.read(block, offset, buf)?;
+    Ok(())
+}

@@ -1,0 +1,100 @@
+//! The states of 64 blocks in two words.
+
+ghost use Rattle.std.specs.Prelude.{◌≡◌, ◌≢◌, ℕ, ◌<◌, ◌≤◌, IfNone, IfSome};
+ghost use Rattle.lfs_model.specs.BlockSets.{is_block_state_in_flight, is_used};
+ghost use Rattle.lfs_model.specs.BlockSets.BlockState.{Free};
+ghost use Rattle.lfs_blocks.specs.Marks.{block_state_of_block_use, block_state_at_bit};
+
+/// The state of a block in the map.
+#[derive(Clone, Copy, PartialEq, Eq)]
+pub enum BlockUse {
+    Free,
+    InFlight,
+    Used,
+}
+
+impl BlockUse {
+    pub fn is_used(self) -> bool
+        ensures { result ≡ is_used (block_state_of_block_use self) }
+    {
+        matches!(self, BlockUse::Used)
+    }
+
+    pub fn is_in_flight(self) -> bool
+        ensures { result ≡ is_block_state_in_flight (block_state_of_block_use self) }
+    {
+        matches!(self, BlockUse::InFlight)
+    }
+}
+
+/// The states of 64 consecutive blocks. Bit `k` of each word is for the block at place `k`.
+#[derive(Clone, Copy)]
+pub struct Marks {
+    used: u64,
+    in_flight: u64,
+}
+
+impl Marks {
+    /// Makes marks of 64 free blocks.
+    pub fn with_all_blocks_free() -> Marks
+        ensures { (place : ℕ) → block_state_at_bit result place ≡ Free }
+    {
+        Marks {
+            used: 0,
+            in_flight: 0,
+        }
+    }
+
+    pub fn state(self, place: u32) -> BlockUse
+        requires { place < 64 }
+        ensures { block_state_of_block_use result ≡ block_state_at_bit self place }
+    {
+        let bit = 1u64 << place;
+        if self.used & bit != 0 {
+            BlockUse::Used
+        } else if self.in_flight & bit != 0 {
+            BlockUse::InFlight
+        } else {
+            BlockUse::Free
+        }
+    }
+
+    /// Returns the same marks with one block in another state.
+    pub fn with_state_at_bit(self, place: u32, state: BlockUse) -> Marks
+        requires { place < 64 }
+        ensures here { block_state_at_bit result place ≡ block_state_of_block_use state }
+        ensures others { (other : ℕ) → other < 64 → other ≢ place → block_state_at_bit result other ≡ block_state_at_bit self other }
+    {
+        let bit = 1u64 << place;
+        let used = self.used & !bit;
+        let in_flight = self.in_flight & !bit;
+        match state {
+            BlockUse::Free => Marks { used, in_flight },
+            BlockUse::InFlight => Marks {
+                used,
+                in_flight: in_flight | bit,
+            },
+            BlockUse::Used => Marks {
+                used: used | bit,
+                in_flight,
+            },
+        }
+    }
+
+    /// Returns the place of the first free block from a place on.
+    pub fn first_free(self, start: u32) -> Option<u32>
+        requires { start < 64 }
+        ensures found { IfSome result (λ place. block_state_at_bit self place ≡ Free) }
+        ensures within { IfSome result (λ place. (start ≤ place) × (place < 64)) }
+        ensures first { IfSome result (λ found. (place : ℕ) → start ≤ place → place < found → block_state_at_bit self place ≢ Free) }
+        ensures none { IfNone result ((place : ℕ) → start ≤ place → place < 64 → block_state_at_bit self place ≢ Free) }
+    {
+        let passed = (1u64 << start) - 1;
+        let taken = self.used | self.in_flight | passed;
+        if taken == u64::MAX {
+            None
+        } else {
+            Some(taken.trailing_ones())
+        }
+    }
+}

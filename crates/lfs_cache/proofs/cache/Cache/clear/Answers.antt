@@ -1,5 +1,0 @@
-use Rattle.lfs_cache.proofs.EntryLemmas.{HasAtMostEightDistinctBlocks-none}
-use Rattle.lfs_cache.proofs.cache.Cache.clear.Goals as goal
-
-pub invariant_of-self : goal.invariant_of-self
-invariant_of-self c = rw c.clear.ensures (HasAtMostEightDistinctBlocks-none c.self.inside.recent c.self.invariant)

@@ -1,0 +1,118 @@
+-- What calls of a device one behind the other say of its faults and of what they leave alone.
+use Rattle.std.proofs.Common.{ℕ, ◌≡◌, Bool, List, ◌∷◌, Result, Ok, Err, refl, sym, subst, ◌∙◌, arith}
+use Rattle.lfs_device.specs.Calls.{ReadsOnly, ChangesOnlyTheseBlocks, ReportsFaults}
+use Rattle.lfs_device.specs.declared.device.BlockDevice.{Ghosts}
+use Rattle.lfs_device.specs.declared.error.Error.{Error}
+use Rattle.lfs_model.specs.Blocks.{Blocks}
+use Rattle.lfs_model.specs.BlockSets.{BlockStateList}
+use Rattle.lfs_model.specs.History.{device_call_event_with_blocks, fault_count_of_history}
+use Rattle.lfs_model.specs.History.DeviceCall.{Read}
+use Rattle.lfs_model.proofs.Histories.{ArePossibleBlocksAfterPowerLossInCall-read, IsTrueAfterAnyPowerLossSince-read_count_of_history, AreCallsSinceOnlyReads-trans, began, goes_on, is_byte_unprogrammed-read_count_of_history}
+use Rattle.lfs_file.specs.Growing.{GrowingList, unwritten_block_of_list}
+use Rattle.lfs_file.specs.BlocksApart.{IsUsedOrInFlightButNotUnwritten, HasGrowingListBlocksTaken, KeepsBytesOfTakenBlocksExceptUnwritten}
+use Rattle.lfs_file.specs.ContentsCalls.{CallKeepsTakenBlocksExceptUnwritten, CallKeepsUsedBlocks}
+use Rattle.lfs_file.specs.Hand.{KeepsUsedBlocksInMap, KeepsBytesOfUsedBlocks}
+use Rattle.lfs_file.proofs.Growth.{Spares-refl, Spares-trans, KeepsUnprogrammedInTakenBlocksExceptUnwritten-trans, stops_trans}
+use Rattle.lfs_file.proofs.Spared.{KeepsBytesOfUsedBlocks-refl, KeepsBytesOfUsedBlocks-trans, KeepsUnprogrammedInUsedBlocks-trans, pages_end, spares_end, stops_end, to_used, to_used_pages, to_used_stops, used_stops_trans}
+
+module _ {D : Type 0} (g : Ghosts D) where
+  -- a call that succeeds has no fault
+  pub quiet : {X : Type 0} {old new : D} {x : X} → ReportsFaults g old new (Ok x) → fault_count_of_history (g.history new) ≡ fault_count_of_history (g.history old)
+  quiet reported = reported.no_fault (λ is. absurd (cc))
+
+  -- after calls without a fault
+  pub reported_on : {X : Type 0} {old mid new : D} {result : Result X Error} → fault_count_of_history (g.history mid) ≡ fault_count_of_history (g.history old) → ReportsFaults g mid new result → ReportsFaults g old new result
+  reported_on none reported = record {
+    fault = λ is. (let more = reported.fault is in omega arith);
+    no_fault = λ other. reported.no_fault other ∙ none;
+  }
+
+  -- the same error of a call with another result
+  pub reported_as : {X Y : Type 0} {old new : D} {e : Error} → ReportsFaults {X = X} g old new (Err e) → ReportsFaults {X = Y} g old new (Err e)
+  reported_as {X} {Y} {e = e} reported = record {
+    fault = λ is. reported.fault (again is);
+    no_fault = λ other. reported.no_fault (λ is. other (back is));
+  }
+    where
+      again : {f : Error} → ◌≡◌ {A = Result Y Error} (Err e) (Err f) → ◌≡◌ {A = Result X Error} (Err e) (Err f)
+      again {f} is = let same : e ≡ f = cc in subst (λ z. ◌≡◌ {A = Result X Error} (Err e) (Err z)) same refl
+
+      back : {f : Error} → ◌≡◌ {A = Result X Error} (Err e) (Err f) → ◌≡◌ {A = Result Y Error} (Err e) (Err f)
+      back {f} is = let same : e ≡ f = cc in subst (λ z. ◌≡◌ {A = Result Y Error} (Err e) (Err z)) same refl
+
+  -- ---- reads
+
+  pub not_read : (d : D) → ReadsOnly g d d
+  not_read d = record { same = refl; geometry = refl; reads = began }
+
+  pub read_on : {old mid new : D} → ReadsOnly g old mid → ReadsOnly g mid new → ReadsOnly g old new
+  read_on first second = record {
+    same = second.same ∙ first.same;
+    geometry = second.geometry ∙ first.geometry;
+    reads = AreCallsSinceOnlyReads-trans first.reads second.reads first.same;
+  }
+
+  pub read_once : {old new : D} {block off len : ℕ} {failed : Bool} → g.history new ≡ device_call_event_with_blocks (Read block off len) (g.blocks old) (g.blocks new) failed ∷ g.history old
+      → g.blocks new ≡ g.blocks old → g.geometry new ≡ g.geometry old → ReadsOnly g old new
+  read_once called same geometry = record { same = same; geometry = geometry; reads = goes_on began called (record { reads = refl; before = refl; after = same }) }
+
+  -- ---- blocks that stand apart
+
+  pub apart_reads : {old new : D} (map : BlockStateList) (pending : List ℕ) → ReadsOnly g old new → CallKeepsTakenBlocksExceptUnwritten g map pending old new
+  apart_reads {old} {new} map pending only = record {
+    spared = subst (KeepsBytesOfTakenBlocksExceptUnwritten map pending (g.blocks old)) (sym only.same) (Spares-refl map pending (g.blocks old));
+    pages = record { stays = λ k i apart was. is_byte_unprogrammed-read_count_of_history k i only.reads ∙ was };
+    geometry = only.geometry;
+    at_worst = IsTrueAfterAnyPowerLossSince-read_count_of_history ArePossibleBlocksAfterPowerLossInCall-read only.reads (Spares-refl map pending (g.blocks old));
+  }
+
+  -- the list's last block is written
+  pub apart_end : {old new : D} {pending : List ℕ} (map : BlockStateList) → ChangesOnlyTheseBlocks g pending old new → CallKeepsTakenBlocksExceptUnwritten g map pending old new
+  apart_end {old} {new} {pending} map changes = record {
+    spared = spares_end map pending (g.blocks old) (g.blocks new) changes.others;
+    pages = pages_end map pending (g.history old) (g.history new) changes.elsewhere;
+    geometry = changes.geometry;
+    at_worst = stops_end map pending (g.blocks old) (g.history old) (g.history new) changes.at_worst;
+  }
+
+  pub apart_on : {map later : BlockStateList} {pending then : List ℕ} {old mid new : D} → ((k : ℕ) → IsUsedOrInFlightButNotUnwritten map pending k → IsUsedOrInFlightButNotUnwritten later then k) → CallKeepsTakenBlocksExceptUnwritten g map pending old mid → CallKeepsTakenBlocksExceptUnwritten g later then mid new
+      → CallKeepsTakenBlocksExceptUnwritten g map pending old new
+  apart_on {map} {later} {pending} {then} {old} {mid} {new} apart first second = record {
+    spared = Spares-trans map later pending then (g.blocks old) (g.blocks mid) (g.blocks new) apart first.spared second.spared;
+    pages = KeepsUnprogrammedInTakenBlocksExceptUnwritten-trans map later pending then (g.history old) (g.history mid) (g.history new) apart first.pages second.pages;
+    geometry = second.geometry ∙ first.geometry;
+    at_worst = stops_trans map later pending then (g.blocks old) (g.blocks mid) (g.history old) (g.history mid) (g.history new) apart first.at_worst first.spared second.at_worst;
+  }
+
+  pub apart_read : {map : BlockStateList} {pending : List ℕ} {old mid new : D} → CallKeepsTakenBlocksExceptUnwritten g map pending old mid → ReadsOnly g mid new → CallKeepsTakenBlocksExceptUnwritten g map pending old new
+  apart_read {map} {pending} first only = apart_on (λ k apart. apart) first (apart_reads map pending only)
+
+  -- ---- used blocks
+
+  pub used_reads : {old new : D} (map : BlockStateList) → ReadsOnly g old new → CallKeepsUsedBlocks g map old new
+  used_reads {old} {new} map only = record {
+    spared = subst (KeepsBytesOfUsedBlocks map (g.blocks old)) (sym only.same) (KeepsBytesOfUsedBlocks-refl map (g.blocks old));
+    pages = record { stays = λ k i used was. is_byte_unprogrammed-read_count_of_history k i only.reads ∙ was };
+    geometry = only.geometry;
+    at_worst = IsTrueAfterAnyPowerLossSince-read_count_of_history ArePossibleBlocksAfterPowerLossInCall-read only.reads (KeepsBytesOfUsedBlocks-refl map (g.blocks old));
+  }
+
+  pub used_on : {map later : BlockStateList} {old mid new : D} → KeepsUsedBlocksInMap map later → CallKeepsUsedBlocks g map old mid → CallKeepsUsedBlocks g later mid new → CallKeepsUsedBlocks g map old new
+  used_on {map} {later} {old} {mid} {new} keeps first second = record {
+    spared = KeepsBytesOfUsedBlocks-trans map later (g.blocks old) (g.blocks mid) (g.blocks new) keeps first.spared second.spared;
+    pages = KeepsUnprogrammedInUsedBlocks-trans map later (g.history old) (g.history mid) (g.history new) keeps first.pages second.pages;
+    geometry = second.geometry ∙ first.geometry;
+    at_worst = used_stops_trans map later (g.blocks old) (g.blocks mid) (g.history old) (g.history mid) (g.history new) keeps first.at_worst first.spared second.at_worst;
+  }
+
+  pub used_read : {map : BlockStateList} {old mid new : D} → CallKeepsUsedBlocks g map old mid → ReadsOnly g mid new → CallKeepsUsedBlocks g map old new
+  used_read {map} first only = used_on (record { count = refl; used = refl; stays = λ b used. used }) first (used_reads map only)
+
+  -- used blocks stand apart
+  pub used_of : {map : BlockStateList} {d : Blocks} {old new : D} (list : GrowingList) → HasGrowingListBlocksTaken map d list → CallKeepsTakenBlocksExceptUnwritten g map (unwritten_block_of_list list) old new → CallKeepsUsedBlocks g map old new
+  used_of {map} {d} {old} {new} list marked leaves = record {
+    spared = to_used map d list marked (g.blocks old) (g.blocks new) leaves.spared;
+    pages = to_used_pages map d list marked (g.history old) (g.history new) leaves.pages;
+    geometry = leaves.geometry;
+    at_worst = to_used_stops map d list marked (g.blocks old) (g.history old) (g.history new) leaves.at_worst;
+  }

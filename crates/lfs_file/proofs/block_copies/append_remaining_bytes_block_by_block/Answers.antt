@@ -1,0 +1,221 @@
+use Rattle.std.proofs.Common.{ℕ, ◌≡◌, ◌+◌, ◌-◌, ◌<◌, ◌≤◌, get_or, List, ◌++◌, length, min, take, drop, slice_index, refl, sym, ap, ◌∙◌, subst, arith}
+use Rattle.std.proofs.lemmas.List.{get_or_read, length-take-le}
+use Rattle.lfs_device.specs.declared.geometry.Geometry.{Geometry}
+use Rattle.lfs_model.specs.Blocks.{Blocks, HasBlocksOfCountAndSize}
+use Rattle.lfs_model.specs.SkipLists.{IsPlaceOfByteInList, IsSkipList, list_blocks_from_head, list_block_count_for_size, bytes_of_skip_list}
+use Rattle.lfs_model.proofs.ListSizes.{list_block_count_for_size-more}
+use Rattle.lfs_file.specs.Growing.{HasGrowingListOnDisk, bytes_of_growing_list, blocks_kept_when_growing, growing_list_size_with_block_size}
+use Rattle.lfs_file.specs.BlocksApart.{GrowsListInFreeBlocks, HasGrowingListBlocksTaken}
+use Rattle.lfs_file.specs.Bases.{list_blocks_by_head_and_size}
+use Rattle.lfs_file.specs.Extensions.{CanEndGrowingListInOwnBlocks}
+use Rattle.lfs_file.proofs.ContentsCalled.{apart_on, apart_read, apart_reads, quiet}
+use Rattle.lfs_file.proofs.Copies.{base_list, grown_on, copied, none_behind, sized}
+use Rattle.lfs_file.proofs.Growth.{GrowsListInFreeBlocks-refl, Keeps-refl, Keeps-trans}
+use Rattle.lfs_model.proofs.ListParts.{place-lt}
+use Rattle.lfs_file.proofs.Pieces.{among, is_there, on_device, piece, placed_by}
+use Rattle.lfs_file.proofs.block_copies.append_remaining_bytes_block_by_block.Goals as goal
+
+pub list_blocks_from_index-requires-clause-within : goal.list_blocks_from_index-requires-clause-within
+list_blocks_from_index-requires-clause-within g c =
+    let behind = c.requires.behind in
+    let lt = place-lt c.geometry-block_size.result.block_size c.args.size _ _ _ c.geometry-block_size.result.valid.no_smaller c.place-from.ensures (omega (arith, c.size.ensures)) in
+    omega (arith, lt, c.blocks_for.ensures)
+
+pub returns-in_err-blocks-clause-device : goal.returns-in_err-blocks-clause-device
+returns-in_err-blocks-clause-device g c = apart_reads g.D.BlockDevice _ _ c.list_blocks_from_index.ensures.device
+
+pub copying-init : goal.copying-init
+copying-init g c =
+    let was = c.args.list.now in
+    let map = c.args.map.now in
+    let d : Blocks = g.D.BlockDevice.blocks c.args.dev.now in
+    let block_size : ℕ = c.args.list.now.geometry.block_size in
+    let same = c.list_blocks_from_index.ensures.device.same in
+    record {
+      growing = subst (λ x. HasGrowingListOnDisk x was) (sym same) c.requires.growing;
+      same = refl;
+      grown = subst (λ x. GrowsListInFreeBlocks map d was map x was) (sym same) (GrowsListInFreeBlocks-refl _ _ _);
+      marked = subst (λ x. HasGrowingListBlocksTaken map x was) (sym same) c.requires.marked;
+      map = Keeps-refl _;
+      device = apart_reads g.D.BlockDevice _ _ c.list_blocks_from_index.ensures.device;
+      own = subst (λ x. CanEndGrowingListInOwnBlocks x was) (sym same) c.requires.own;
+      some = omega arith;
+      top = omega arith;
+      bytes = ap (λ (x : Blocks). bytes_of_growing_list x was ++ drop (growing_list_size_with_block_size block_size was) (bytes_of_skip_list d block_size c.args.head c.args.size)) same;
+      quiet = quiet g.D.BlockDevice c.in_ok-blocks.ensures.reports.faults;
+    }
+
+-- the blocks that were collected, by the geometry of the list
+collected : (d : Blocks) (geometry made : Geometry) (head size n from : ℕ) (items : List ℕ) → made ≡ geometry → n ≡ list_block_count_for_size made.block_size size → items ≡ drop from (list_blocks_from_head d n head)
+    → items ≡ drop from (list_blocks_by_head_and_size d geometry.block_size head size)
+collected d geometry made head size n from items same count is = is ∙ ap (λ k. drop from (list_blocks_from_head d k head)) (count ∙ ap (λ (k : Geometry). list_block_count_for_size k.block_size size) same)
+
+pub overflow_sub-index : goal.overflow_sub-index
+overflow_sub-index g c =
+    let inv = c.copying.invariant in
+    let d : Blocks = g.D.BlockDevice.blocks c.args.dev.now in
+    let geometry : Geometry = c.args.list.now.geometry in
+    let made = c.geometry-block_size.ensures ∙ c.requires.geometry in
+    let here = sized geometry c.copying.list.geometry c.copying.list inv.same in
+    let some = inv.some in
+    let start = c.size.ensures in
+    let at = c.size-pos.ensures in
+    let test = c.copying-test.true in
+    let len = c.size-in-copying.ensures in
+    (among d geometry.block_size c.args.head c.args.size c.size.result c.place-from.result.0 c.place-from.result.1 c.in_ok-blocks.blocks.items geometry.valid.no_smaller
+    (placed_by geometry _ _ _ _ made c.place-from.ensures) (collected d geometry _ c.args.head c.args.size _ _ _ made c.blocks_for.ensures c.in_ok-blocks.ensures.blocks)
+    c.size-pos.result c.place-index.result.0 c.place-index.result.1 (placed_by geometry _ _ _ _ made c.place-index.ensures) (omega arith) (omega arith)).0
+
+pub index-block-requires : goal.index-block-requires
+index-block-requires g c =
+    let inv = c.copying.invariant in
+    let d : Blocks = g.D.BlockDevice.blocks c.args.dev.now in
+    let geometry : Geometry = c.args.list.now.geometry in
+    let made = c.geometry-block_size.ensures ∙ c.requires.geometry in
+    let here = sized geometry c.copying.list.geometry c.copying.list inv.same in
+    let some = inv.some in
+    let start = c.size.ensures in
+    let at = c.size-pos.ensures in
+    let test = c.copying-test.true in
+    let len = c.size-in-copying.ensures in
+    let lt = (among d geometry.block_size c.args.head c.args.size c.size.result c.place-from.result.0 c.place-from.result.1 c.in_ok-blocks.blocks.items geometry.valid.no_smaller
+    (placed_by geometry _ _ _ _ made c.place-from.ensures) (collected d geometry _ c.args.head c.args.size _ _ _ made c.blocks_for.ensures c.in_ok-blocks.ensures.blocks)
+    c.size-pos.result c.place-index.result.0 c.place-index.result.1 (placed_by geometry _ _ _ _ made c.place-index.ensures) (omega arith) (omega arith)).1 in
+    omega (arith, lt, c.in_ok-blocks.blocks.ok.0)
+
+-- the block that was read of those that were collected
+read_of : (d : Blocks) (geometry made : Geometry) (head size n start from skip pos i off block : ℕ) (items : List ℕ) → made ≡ geometry → n ≡ list_block_count_for_size made.block_size size → items ≡ drop from (list_blocks_from_head d n head)
+    → IsPlaceOfByteInList made.block_size start from skip → IsPlaceOfByteInList made.block_size pos i off → start ≤ pos → pos < size → ((i - from < length items) → block ≡ get_or items (i - from) 0)
+    → block ≡ slice_index (list_blocks_by_head_and_size d geometry.block_size head size) i
+read_of d geometry made head size n start from skip pos i off block items same count is begins place le lt read =
+    let whole = collected d geometry made head size n from items same count is in
+    let first = placed_by geometry made start from skip same begins in
+    let there = placed_by geometry made pos i off same place in
+    let large = geometry.valid.no_smaller in
+    let both = among d geometry.block_size head size start from skip items large first whole pos i off there le lt in
+    is_there d geometry.block_size head size start from skip items large first whole i block both.0 (read both.1)
+
+shaped : (d : Blocks) (geometry now : Geometry) → now ≡ geometry → HasBlocksOfCountAndSize now.block_size now.block_count d → HasBlocksOfCountAndSize geometry.block_size geometry.block_count d
+shaped d geometry now same shape = subst (λ (k : Geometry). HasBlocksOfCountAndSize k.block_size k.block_count d) same shape
+
+pub read_bytes_of_block_from-requires-clause-in_device : goal.read_bytes_of_block_from-requires-clause-in_device
+read_bytes_of_block_from-requires-clause-in_device g c =
+    let inv = c.copying.invariant in
+    let d : Blocks = g.D.BlockDevice.blocks c.args.dev.now in
+    let geometry : Geometry = c.args.list.now.geometry in
+    let made = c.geometry-block_size.ensures ∙ c.requires.geometry in
+    let here = sized geometry c.copying.list.geometry c.copying.list inv.same in
+    let some = inv.some in
+    let start = c.size.ensures in
+    let at = c.size-pos.ensures in
+    let test = c.copying-test.true in
+    let len = c.size-in-copying.ensures in
+    let list : IsSkipList d geometry.block_size c.args.head c.args.size = base_list d geometry.block_size c.args.head c.args.size (omega arith) c.requires.base.base in
+    let is = read_of d geometry _ c.args.head c.args.size _ c.size.result c.place-from.result.0 c.place-from.result.1 c.size-pos.result c.place-index.result.0 c.place-index.result.1 c.index-block.result.now c.in_ok-blocks.blocks.items
+    made c.blocks_for.ensures c.in_ok-blocks.ensures.blocks c.place-from.ensures c.place-index.ensures (omega arith) (omega arith) (λ lt. get_or_read c.in_ok-blocks.blocks.items _ _ lt c.index-block.ensures 0) in
+    let lt = on_device d geometry.block_size geometry.block_count c.args.head c.args.size geometry.valid.no_smaller (shaped d geometry _ c.requires.geometry (g.met.D.BlockDevice.shape c.args.dev.now)) list
+    c.size-pos.result c.place-index.result.0 c.place-index.result.1 c.index-block.result.now (placed_by geometry _ _ _ _ made c.place-index.ensures) (omega arith) is in
+    subst (λ (k : Geometry). c.index-block.result.now < k.block_count) (sym (inv.device.geometry ∙ c.requires.geometry)) lt
+
+pub returns-in_err-count-clause-device : goal.returns-in_err-count-clause-device
+returns-in_err-count-clause-device g c = apart_read g.D.BlockDevice c.copying.invariant.device c.read_bytes_of_block_from.ensures.device
+
+pub returns-in_err-extend_list_in_free_blocks-clause-map : goal.returns-in_err-extend_list_in_free_blocks-clause-map
+returns-in_err-extend_list_in_free_blocks-clause-map g c = Keeps-trans c.copying.invariant.map c.extend_list_in_free_blocks.ensures.map
+
+pub returns-in_err-extend_list_in_free_blocks-clause-device : goal.returns-in_err-extend_list_in_free_blocks-clause-device
+returns-in_err-extend_list_in_free_blocks-clause-device g c =
+    let inv = c.copying.invariant in
+    apart_on g.D.BlockDevice inv.grown.apart (apart_read g.D.BlockDevice inv.device c.read_bytes_of_block_from.ensures.device) c.extend_list_in_free_blocks.ensures.device
+
+pub extend_list_in_free_blocks-requires-clause-room : goal.extend_list_in_free_blocks-requires-clause-room
+extend_list_in_free_blocks-requires-clause-room g c =
+    let inv = c.copying.invariant in
+    let geometry : Geometry = c.args.list.now.geometry in
+    let block_size : ℕ = geometry.block_size in
+    let now = c.copying.list in
+    let n : ℕ = c.in_ok-count.count in
+    let at = c.size-pos.ensures in
+    let test = c.copying-test.true in
+    let len = c.size-in-copying.ensures in
+    let here = sized geometry c.copying.list.geometry now inv.same in
+    let few = c.in_ok-count.ensures.count in
+    let long : length (take n c.read_bytes_of_block_from.new.buf) ≡ n = length-take-le n c.read_bytes_of_block_from.new.buf (omega (arith, c.read_bytes_of_block_from.auto.buf, few)) in
+    let more = list_block_count_for_size-more block_size (growing_list_size_with_block_size block_size now + length (take n c.read_bytes_of_block_from.new.buf)) c.args.size (omega arith) in
+    let same = ap (λ (k : Geometry). list_block_count_for_size k.block_size (growing_list_size_with_block_size k.block_size now + length (take n c.read_bytes_of_block_from.new.buf))) inv.same in
+    let kept = ap (λ (x : Blocks). length (blocks_kept_when_growing x now)) c.read_bytes_of_block_from.ensures.device.same in
+    let count = inv.grown.count in
+    let states = inv.map.count in
+    let used = inv.map.used in
+    let room = c.requires.room in
+    omega arith
+
+pub copying-preserved : goal.copying-preserved
+copying-preserved g c =
+    let inv = c.copying.invariant in
+    let geometry : Geometry = c.args.list.now.geometry in
+    let block_size : ℕ = geometry.block_size in
+    let d : Blocks = g.D.BlockDevice.blocks c.args.dev.now in
+    let base : List ℕ = bytes_of_skip_list d block_size c.args.head c.args.size in
+    let now = c.copying.list in
+    let new = c.extend_list_in_free_blocks.new.list in
+    let n : ℕ = c.in_ok-count.count in
+    let pos : ℕ = c.size-pos.result in
+    let made = c.geometry-block_size.ensures ∙ c.requires.geometry in
+    let more = c.in_ok-extend_list_in_free_blocks.ensures.extended in
+    let here = sized geometry c.copying.list.geometry now inv.same in
+    let there = sized geometry c.extend_list_in_free_blocks.new.list.geometry new (more.geometry ∙ inv.same) in
+    let start = c.size.ensures in
+    let at = c.size-pos.ensures in
+    let test = c.copying-test.true in
+    let len = c.size-in-copying.ensures in
+    let sum = more.sum in
+    let few = c.in_ok-count.ensures.count in
+    let long : length (take n c.read_bytes_of_block_from.new.buf) ≡ n = length-take-le n c.read_bytes_of_block_from.new.buf (omega (arith, c.read_bytes_of_block_from.auto.buf, few)) in
+    let some = inv.some in
+    let list : IsSkipList d block_size c.args.head c.args.size = base_list d block_size c.args.head c.args.size (omega arith) c.requires.base.base in
+    let is = read_of d geometry _ c.args.head c.args.size _ c.size.result c.place-from.result.0 c.place-from.result.1 pos c.place-index.result.0 c.place-index.result.1 c.index-block.result.now c.in_ok-blocks.blocks.items
+    made c.blocks_for.ensures c.in_ok-blocks.ensures.blocks c.place-from.ensures c.place-index.ensures (omega arith) (omega arith) (λ lt. get_or_read c.in_ok-blocks.blocks.items _ _ lt c.index-block.ensures 0) in
+    let many = few.2 ∙ ap (λ (k : Geometry). min (k.block_size - c.place-index.result.1) (c.args.size - pos)) (inv.device.geometry ∙ c.requires.geometry) in
+    let chunk = piece d block_size geometry.block_count c.args.head c.args.size geometry.valid.no_smaller (shaped d geometry _ c.requires.geometry (g.met.D.BlockDevice.shape c.args.dev.now)) list
+    _ _ _ pos n c.place-index.result.0 c.place-index.result.1 c.index-block.result.now (take n c.read_bytes_of_block_from.new.buf) inv.device.spared c.requires.base.apart
+    (placed_by geometry _ _ _ _ made c.place-index.ensures) (omega arith) many is c.in_ok-count.ensures.bytes in
+    record {
+      growing = more.growing;
+      same = more.geometry ∙ inv.same;
+      grown = grown_on _ _ _ _ _ _ _ _ _ _ c.read_bytes_of_block_from.ensures.device.same inv.map inv.grown more.grown;
+      marked = more.marked;
+      map = Keeps-trans inv.map c.extend_list_in_free_blocks.ensures.map;
+      device = apart_on g.D.BlockDevice inv.grown.apart (apart_read g.D.BlockDevice inv.device c.read_bytes_of_block_from.ensures.device) c.extend_list_in_free_blocks.ensures.device;
+      own = more.own;
+      some = omega arith;
+      top = omega arith;
+      bytes = ap (λ (l : List ℕ). l ++ drop (growing_list_size_with_block_size block_size new) base) (more.content ∙ ap (λ (x : Blocks). bytes_of_growing_list x now ++ take n c.read_bytes_of_block_from.new.buf) c.read_bytes_of_block_from.ensures.device.same)
+          ∙ ap (λ k. bytes_of_growing_list (g.D.BlockDevice.blocks c.copying.dev) now ++ take n c.read_bytes_of_block_from.new.buf ++ drop k base) (let k : growing_list_size_with_block_size block_size new ≡ pos + n = omega arith in k)
+          ∙ copied (bytes_of_growing_list (g.D.BlockDevice.blocks c.copying.dev) now) (take n c.read_bytes_of_block_from.new.buf) base pos n chunk
+          ∙ ap (λ k. bytes_of_growing_list (g.D.BlockDevice.blocks c.copying.dev) now ++ drop k base) (let k : pos ≡ growing_list_size_with_block_size block_size now = omega arith in k)
+          ∙ inv.bytes;
+      quiet = quiet g.D.BlockDevice c.in_ok-extend_list_in_free_blocks.ensures.reports.faults ∙ quiet g.D.BlockDevice c.in_ok-count.ensures.reports.faults ∙ inv.quiet;
+    }
+
+pub returns-clause-extended : goal.returns-clause-extended
+returns-clause-extended g c =
+    let inv = c.copying.invariant in
+    let geometry : Geometry = c.args.list.now.geometry in
+    let block_size : ℕ = geometry.block_size in
+    let d : Blocks = g.D.BlockDevice.blocks c.args.dev.now in
+    let now = c.copying.list in
+    let here = sized geometry c.copying.list.geometry now inv.same in
+    let test = c.copying-test.false in
+    let len = c.size-in-copying.ensures in
+    let some = inv.some in
+    let top = inv.top in
+    record {
+      geometry = inv.same;
+      growing = inv.growing;
+      content = sym (none_behind d block_size c.args.head c.args.size (growing_list_size_with_block_size block_size now) (bytes_of_growing_list (g.D.BlockDevice.blocks c.copying.dev) now) (omega arith)) ∙ inv.bytes;
+      sum = omega arith;
+      own = inv.own;
+      grown = inv.grown;
+      marked = inv.marked;
+    }

@@ -1,0 +1,27 @@
+use Rattle.std.proofs.Common.{ℕ, ◌≡◌, ◌+◌, List, length, max, sym, ap, ◌∙◌, arith}
+use Rattle.lfs_model.specs.Blocks.{Blocks}
+use Rattle.lfs_file.specs.Contents.{bytes_in_buffer}
+use Rattle.lfs_file.specs.Form.{InMemory}
+use Rattle.lfs_file.proofs.Forms.{length-written, written_few}
+use Rattle.lfs_file.proofs.ContentsMemories.{held_size}
+use Rattle.lfs_file.proofs.contents.write_contents_in_memory.Goals as goal
+
+pub returns-then-size-limit-clause-written : goal.returns-then-size-limit-clause-written
+returns-then-size-limit-clause-written g c =
+    let d : Blocks = g.D.BlockDevice.blocks c.args.dev.now in
+    let old : List ℕ = bytes_in_buffer c.args.list in
+    let n : ℕ = length c.args.bytes.now in
+    let quiet = c.requires.quiet in
+    let m = c.max-size.ensures in
+    let size = c.size.ensures in
+    let all = held_size c.args.list quiet.resting.held in
+    let test = c.if-size-limit.true in
+    let long : length (bytes_in_buffer c.write_buffered_content_at.new.self) ≡ max (length old) (c.args.place + n) = ap length c.write_buffered_content_at.ensures.rest ∙ length-written old c.args.place c.args.bytes.now in
+    record {
+      stands = record {
+        idle = quiet.idle;
+        resting = record { geometry = quiet.resting.geometry ∙ sym ((c.write_buffered_content_at.ensures.holds d).geometry); held = c.write_buffered_content_at.ensures.held };
+      };
+      has = c.write_buffered_content_at.ensures.rest;
+      form = ap InMemory long ∙ sym (written_few c.args.limit c.args.place n (InMemory (length old)) (omega arith));
+    }

@@ -1,0 +1,34 @@
+use Rattle.std.proofs.Common.{ℕ, ◌≡◌, ◌≤◌, ◌<◌, ◌+◌, ◌-◌, ◌*◌, ◌++◌, min, length, drop, slice_index, slice_range}
+use Rattle.lfs_device.specs.Calls.{ReadsOnly}
+use Rattle.lfs_model.specs.History.{fault_count_of_history}
+use Rattle.lfs_model.specs.SkipLists.{IsSkipList, IsPlaceOfByteInList, list_blocks_from_head, list_block_count_for_size, bytes_of_skip_list}
+use Rattle.lfs_file.specs.Known.{AreKnownListBlocks}
+use Rattle.lfs_file.proofs.Recalled.{FindsWithMoreReads}
+use Rattle.lfs_file.proofs.known.KnownBlocks.read_at.Given as goal
+
+abbrev pub invariant-blocks-2 : goal.invariant-blocks-2
+invariant-blocks-2 g l =
+    let geometry = g.D.BlockDevice.geometry in
+    let blocks = g.D.BlockDevice.blocks in
+    let history = g.D.BlockDevice.history in
+    let old = l.fn.dev in
+    let len = min (length l.fn.buf) (l.fn.size - l.fn.pos) in
+    record {
+      some : 1 ≤ l.left;
+      high : l.left ≤ len;
+      in_range : l.block < (geometry old).block_count;
+      found : IsSkipList (blocks old) l.block_size l.fn.head l.fn.size → AreKnownListBlocks (list_blocks_from_head (blocks old) (list_block_count_for_size l.block_size l.fn.size) l.fn.head) l.fn.self → (i off : ℕ) → IsPlaceOfByteInList l.block_size (l.fn.pos + l.left - 1) i off
+          → l.block ≡ slice_index (list_blocks_from_head (blocks old) (list_block_count_for_size l.block_size l.fn.size) l.fn.head) i;
+      known : IsSkipList (blocks old) l.block_size l.fn.head l.fn.size → AreKnownListBlocks (list_blocks_from_head (blocks old) (list_block_count_for_size l.block_size l.fn.size) l.fn.head) l.fn.self
+          → AreKnownListBlocks (list_blocks_from_head (blocks old) (list_block_count_for_size l.block_size l.fn.size) l.fn.head) l.self;
+      bytes : IsSkipList (blocks old) l.block_size l.fn.head l.fn.size → AreKnownListBlocks (list_blocks_from_head (blocks old) (list_block_count_for_size l.block_size l.fn.size) l.fn.head) l.fn.self
+          → drop l.left l.buf ≡ slice_range (bytes_of_skip_list (blocks old) l.block_size l.fn.head l.fn.size) (l.fn.pos + l.left) (l.fn.pos + len) ++ drop len l.fn.buf;
+      rest : drop len l.buf ≡ drop len l.fn.buf;
+      device : ReadsOnly g.D.BlockDevice old l.dev;
+      quiet : fault_count_of_history (history l.dev) ≡ fault_count_of_history (history old);
+      few : (i last off end : ℕ) → IsPlaceOfByteInList l.block_size (l.fn.pos + l.left - 1) i off → IsPlaceOfByteInList l.block_size (l.fn.pos + len - 1) last end
+          → FindsWithMoreReads l.fn.self (list_block_count_for_size l.block_size l.fn.size) last l.self (history old) (history l.dev) (2 * (last - i));
+    }
+
+abbrev pub decreases-blocks-2 : goal.decreases-blocks-2
+decreases-blocks-2 g l = l.left

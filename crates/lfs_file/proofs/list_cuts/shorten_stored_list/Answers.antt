@@ -1,0 +1,65 @@
+use Rattle.std.proofs.Common.{ℕ, [], ◌≡◌, take, refl, sym, ap, ◌∙◌, subst, arith}
+use Rattle.std.specs.Prelude.{Contains, List}
+use Rattle.lfs_device.specs.declared.geometry.Geometry.{Geometry}
+use Rattle.lfs_model.specs.Blocks.{Blocks}
+use Rattle.lfs_model.specs.SkipLists.{list_block_count_for_size, bytes_of_skip_list}
+use Rattle.lfs_model.proofs.ListSizes.{list_block_count_for_size-more}
+use Rattle.lfs_model.proofs.Overwrites.{AreBlocksEqualExceptThese-refl}
+use Rattle.lfs_file.specs.Bases.{list_blocks_by_head_and_size}
+use Rattle.lfs_file.specs.Hand.{IsFinishedListConsistentWithMapAndDisk}
+use Rattle.lfs_file.specs.Releases.{ReleasesBlocksInFlight}
+use Rattle.lfs_file.proofs.Hands.{Contains-take}
+use Rattle.lfs_file.proofs.ContentsCalled.{read_on}
+use Rattle.lfs_file.proofs.Copies.{base_list}
+use Rattle.lfs_file.proofs.Cuts.{cuts}
+use Rattle.lfs_file.proofs.Ends.{gone_of}
+use Rattle.lfs_file.proofs.list_cuts.shorten_stored_list.Goals as goal
+
+pub release_base_list_blocks_from_index-requires-clause-within : goal.release_base_list_blocks_from_index-requires-clause-within
+release_base_list_blocks_from_index-requires-clause-within g c =
+    let n : ℕ = (g.D.BlockDevice.geometry c.list_head_for_first_bytes.new.dev).block_size in
+    let more = list_block_count_for_size-more n c.args.keep c.args.stored.size c.requires.within in
+    let same = c.blocks_for-count.ensures ∙ ap (λ (k : Geometry). list_block_count_for_size k.block_size c.args.keep) c.geometry.ensures in
+    omega arith
+
+pub returns-in_err-release_base_list_blocks_from_index-clause-device : goal.returns-in_err-release_base_list_blocks_from_index-clause-device
+returns-in_err-release_base_list_blocks_from_index-clause-device g c = read_on g.D.BlockDevice c.list_head_for_first_bytes.ensures.reading.device c.release_base_list_blocks_from_index.ensures.device
+
+pub returns-clause-device : goal.returns-clause-device
+returns-clause-device g c = read_on g.D.BlockDevice c.list_head_for_first_bytes.ensures.reading.device c.release_base_list_blocks_from_index.ensures.device
+
+pub returns-clause-cut : goal.returns-clause-cut
+returns-clause-cut g c =
+    let now : Geometry = g.D.BlockDevice.geometry c.args.dev.now in
+    let stored = c.args.stored in
+    let d : Blocks = g.D.BlockDevice.blocks c.args.dev.now in
+    let read = c.list_head_for_first_bytes.ensures.reading.device in
+    let all = c.release_base_list_blocks_from_index.ensures.device.same ∙ read.same in
+    let some = c.requires.some in
+    let within = c.requires.within in
+    let front = c.in_ok-head.ensures.front (base_list d now.block_size stored.head stored.size (omega arith) c.requires.stored.base) in
+    let count : c.blocks_for-count.result ≡ list_block_count_for_size now.block_size c.args.keep = c.blocks_for-count.ensures ∙ ap (λ (k : Geometry). list_block_count_for_size k.block_size c.args.keep) (c.geometry.ensures ∙ read.geometry) in
+    let released = subst (λ (k : Geometry). ReleasesBlocksInFlight c.args.map.now c.release_base_list_blocks_from_index.new.map (gone_of stored.in_flight c.blocks_for-count.result (list_blocks_by_head_and_size d k.block_size stored.head stored.size))) read.geometry
+    (subst (λ (x : Blocks). ReleasesBlocksInFlight c.args.map.now c.release_base_list_blocks_from_index.new.map (gone_of stored.in_flight c.blocks_for-count.result (list_blocks_by_head_and_size x (g.D.BlockDevice.geometry c.list_head_for_first_bytes.new.dev).block_size stored.head stored.size))) read.same c.in_ok-release_base_list_blocks_from_index.ensures.released) in
+    let blocks = front.blocks ∙ ap (λ n. take n (list_blocks_by_head_and_size d now.block_size stored.head stored.size)) (sym count) in
+    let at : Blocks → Type 0 = λ x. IsFinishedListConsistentWithMapAndDisk c.release_base_list_blocks_from_index.new.map x now.block_size (record { head = c.in_ok-head.head; size = c.args.keep; in_flight = stored.in_flight }) in
+    record {
+      stored = subst at (sym all) (cuts c.args.map.now d d now.block_size stored [] c.requires.stored refl (AreBlocksEqualExceptThese-refl [] d) c.release_base_list_blocks_from_index.new.map c.blocks_for-count.result c.in_ok-head.head c.args.keep front.list blocks released);
+      count = refl;
+      bytes = ap (λ x. bytes_of_skip_list x now.block_size c.in_ok-head.head c.args.keep) all ∙ front.bytes;
+    }
+
+pub returns-clause-front : goal.returns-clause-front
+returns-clause-front g c =
+    let now : Geometry = g.D.BlockDevice.geometry c.args.dev.now in
+    let stored = c.args.stored in
+    let d : Blocks = g.D.BlockDevice.blocks c.args.dev.now in
+    let all = c.release_base_list_blocks_from_index.ensures.device.same ∙ c.list_head_for_first_bytes.ensures.reading.device.same in
+    let some = c.requires.some in
+    let within = c.requires.within in
+    let front = c.in_ok-head.ensures.front (base_list d now.block_size stored.head stored.size (omega arith) c.requires.stored.base) in
+    record {
+      flying = refl;
+      among = λ b has. Contains-take _ (list_blocks_by_head_and_size d now.block_size stored.head stored.size) b
+          (subst (λ (l : List ℕ). Contains l b) (ap (λ x. list_blocks_by_head_and_size x now.block_size c.in_ok-head.head c.args.keep) all ∙ front.blocks) has);
+    }

@@ -1,0 +1,51 @@
+use Rattle.std.proofs.Common.{◌≡◌, ◌+◌, ◌-◌, length, replicate, refl, ap, ◌∙◌, arith}
+use Rattle.lfs_device.specs.declared.geometry.Geometry.{Geometry}
+use Rattle.lfs_model.specs.Blocks.{Blocks}
+use Rattle.lfs_model.specs.Writers.{contents_after_write}
+use Rattle.lfs_file.specs.Growing.{size_of_growing_list}
+use Rattle.lfs_file.specs.Contents.{bytes_in_buffer}
+use Rattle.lfs_file.specs.HandWrites.{contents_bytes_of_unfinished_list}
+use Rattle.lfs_file.proofs.ContentsMemories.{held_size, lengthened, no_base_fits}
+use Rattle.lfs_file.proofs.new_sizes.fill_up_memory_contents_into_unfinished_list.Goals as goal
+
+pub write_zeros-requires-clause-begun : goal.write_zeros-requires-clause-begun
+write_zeros-requires-clause-begun g c = (c.unfinished_list_without_base_list-hand.ensures.begun c.args.map.now (g.D.BlockDevice.blocks c.args.dev.now) (g.D.BlockDevice.geometry c.args.dev.now) c.requires.quiet).begun
+
+pub write_zeros-requires-clause-small : goal.write_zeros-requires-clause-small
+write_zeros-requires-clause-small g c =
+    let at = (c.unfinished_list_without_base_list-hand.ensures.begun c.args.map.now (g.D.BlockDevice.blocks c.args.dev.now) (g.D.BlockDevice.geometry c.args.dev.now) c.requires.quiet).size in
+    let all = held_size c.args.list c.requires.quiet.resting.held in
+    let longer = c.requires.longer in
+    let small = c.requires.small in
+    let size = c.size.ensures in
+    omega arith
+
+pub write_zeros-requires-clause-room : goal.write_zeros-requires-clause-room
+write_zeros-requires-clause-room g c =
+    let now : Geometry = g.D.BlockDevice.geometry c.args.dev.now in
+    let hand = c.unfinished_list_without_base_list-hand.result in
+    let at = (c.unfinished_list_without_base_list-hand.ensures.begun c.args.map.now (g.D.BlockDevice.blocks c.args.dev.now) now c.requires.quiet).size in
+    let all = held_size c.args.list c.requires.quiet.resting.held in
+    let longer = c.requires.longer in
+    let size = c.size.ensures in
+    no_base_fits now now hand.base _ _ _ _ (size_of_growing_list hand.list + (c.args.size - c.size.result)) c.args.size refl c.unfinished_list_without_base_list-hand.ensures.base.1 (omega arith) refl refl c.requires.room
+
+pub returns-clause-filled : goal.returns-clause-filled
+returns-clause-filled g c =
+    let d : Blocks = g.D.BlockDevice.blocks c.args.dev.now in
+    let hand = c.unfinished_list_without_base_list-hand.result in
+    let old = bytes_in_buffer c.args.list in
+    let at = c.unfinished_list_without_base_list-hand.ensures.begun c.args.map.now d (g.D.BlockDevice.geometry c.args.dev.now) c.requires.quiet in
+    let all = held_size c.args.list c.requires.quiet.resting.held in
+    let longer = c.requires.longer in
+    let size = c.size.ensures in
+    let sum = at.size in
+    let zeroed = c.in_ok-write_zeros.ensures.zeroed in
+    let end = zeroed.at.size in
+    let gap : c.args.size - c.size.result ≡ c.args.size - length old = omega arith in
+    record {
+      going = zeroed.going (omega arith);
+      size = omega arith;
+      bytes = lengthened old (contents_bytes_of_unfinished_list d hand) _ (length old) (size_of_growing_list hand.list) c.args.size refl (omega arith) at.bytes sum
+          (zeroed.at.bytes ∙ ap (λ n. contents_after_write (contents_bytes_of_unfinished_list d hand) (size_of_growing_list hand.list) (replicate n 0)) gap);
+    }

@@ -1,0 +1,29 @@
+use Rattle.std.proofs.Common.{length, ◌≡◌, ◌≤◌, ◌+◌, drop, reverse, slice_index}
+use Rattle.std.specs.List.{FoldsTo}
+use Rattle.lfs_device.specs.Calls.{ReadsOnly}
+use Rattle.lfs_model.specs.History.{fault_count_of_history, read_count_of_history}
+use Rattle.lfs_model.specs.SkipLists.{AreListBlocks, list_blocks_from_head}
+use Rattle.lfs_file.specs.Way.{count_of_highest_pointer_visits_up_to_index}
+use Rattle.lfs_file.proofs.Walked.{IsChecked}
+use Rattle.lfs_file.proofs.visits.walk.Given as goal
+
+abbrev pub invariant-loop-index : goal.invariant-loop-index
+invariant-loop-index g l =
+    let geometry = g.D.BlockDevice.geometry in
+    let blocks = g.D.BlockDevice.blocks in
+    let history = g.D.BlockDevice.history in
+    let old = l.fn.dev in
+    record {
+      low : l.index ≤ l.last;
+      at : l.block ≡ slice_index (list_blocks_from_head (blocks old) (l.last + 1) l.fn.head) l.index;
+      checked : IsChecked (blocks old) l.last l.fn.head l.first (geometry old).block_count l.index l.words;
+      room : length l.words ≡ 128;
+      visited : FoldsTo (λ p x q. goal.F-step g p x tt q) l.fn.visit (reverse (drop (l.index + 1) (list_blocks_from_head (blocks old) (l.last + 1) l.fn.head))) l.visit;
+      callable : goal.F-IsAlwaysCallable g l.visit;
+      device : ReadsOnly g.D.BlockDevice old l.dev;
+      few : AreListBlocks (blocks old) (l.last + 1) l.fn.head → read_count_of_history (history l.dev) + l.index ≤ read_count_of_history (history old) + l.last + count_of_highest_pointer_visits_up_to_index l.last l.index;
+      quiet : fault_count_of_history (history l.dev) ≡ fault_count_of_history (history old);
+    }
+
+abbrev pub decreases-loop-index : goal.decreases-loop-index
+decreases-loop-index g l = l.index

@@ -1,0 +1,123 @@
+ghost use Rattle.std.specs.Prelude.{[], ◌∷◌, ◌≡◌, ◌≤◌, ◌<◌, ◌+◌, ◌-◌, ◌*◌, ◌%◌, ◌^◌, ◌++◌, ℕ, List, length, take, drop, OnOk, slice_index};
+ghost use Rattle.byteorder.specs.Endian.{little_bytes};
+ghost use Rattle.lfs_file.specs.Appended.{IsBlockAppendedToList};
+ghost use Rattle.lfs_file.specs.Calls.{ReportsNoErrorButIo};
+ghost use Rattle.lfs_file.specs.Counts.{AddsOneEraseAndProgramPerBlock};
+ghost use Rattle.lfs_file.specs.Extending.{IsDeviceBlockOutsideFullBlocksOfList};
+ghost use Rattle.lfs_file.specs.Front.{KeepsFullBlocks, ReadsOnlyUnknownPointers};
+ghost use Rattle.lfs_file.specs.Known.{AreKnownIndicesBelow, AreKnownListBlocks, ArePointedBlocksKnown};
+ghost use Rattle.lfs_device.specs.Calls.{ChangesOnlyThisBlock, ReadsOnly};
+ghost use Rattle.lfs_model.specs.Blocks.{block_bytes_by_number};
+ghost use Rattle.lfs_model.specs.SkipLists.{AreListBlocks, list_blocks_from_head, pointer_count_of_list_block, word_at_offset};
+
+use crate::known::KnownBlocks;
+use byteorder::{ByteOrder, LittleEndian};
+use lfs_device::{BlockDevice, Error};
+
+/// The full blocks of a list that grows.
+#[derive(Clone, Copy)]
+pub(crate) struct FullBlocks {
+    pub count: u32,
+    /// The last of them, where there is one.
+    pub head: u32,
+    /// Those that later blocks have pointers to, as far as they are known.
+    pub known: KnownBlocks,
+}
+
+impl FullBlocks {
+    // Makes the full blocks of a list by their number and the last one.
+    pub(crate) fn new(count: u32, head: u32) -> FullBlocks
+        ensures made { result ≡ record { count = count; head = head; known = result.known } }
+        ensures known { (all : List ℕ) → AreKnownListBlocks all result.known }
+        ensures below { (n : ℕ) → AreKnownIndicesBelow n result.known }
+    {
+        FullBlocks {
+            count,
+            head,
+            known: KnownBlocks::new(),
+        }
+    }
+
+    // Adds a block after them.
+    pub(crate) fn add(&mut self, block: u32)
+        requires few { self.old.count < 2 ^ 31 }
+        requires below { AreKnownIndicesBelow self.old.count self.old.known }
+        ensures added { self.new ≡ record { count = self.old.count + 1; head = block; known = self.new.known } }
+        ensures below { AreKnownIndicesBelow self.new.count self.new.known }
+        ensures known { (all : List ℕ) → length all ≡ self.old.count → AreKnownListBlocks all self.old.known → AreKnownListBlocks (all ++ block ∷ []) self.new.known }
+        ensures later { ArePointedBlocksKnown self.old.count self.old.known → ArePointedBlocksKnown self.new.count self.new.known }
+    {
+        self.known.note(self.count, block);
+        self.count += 1;
+        self.head = block;
+    }
+}
+
+// Writes a word over four bytes.
+fn put_word(buf: &mut [u8], at: usize, word: u32)
+    requires { at + 4 ≤ length buf.old }
+    ensures { buf.new ≡ take at buf.old ++ (little_bytes 4 word ++ drop (at + 4) buf.old) }
+{
+    LittleEndian::write_u32(&mut buf[at..], word);
+}
+
+// Writes the pointers of the block after the full ones of a list to the beginning of the buffer.
+// The blocks that are read for that are known afterwards.
+fn write_pointers_of_block_to_buffer<D: BlockDevice>(
+    dev: &mut D,
+    front: &mut FullBlocks,
+    buf: &mut [u8],
+) -> Result<(), Error>
+    requires chain { AreListBlocks (D.blocks dev.old) front.old.count front.old.head }
+    requires known { AreKnownListBlocks (list_blocks_from_head (D.blocks dev.old) front.old.count front.old.head) front.old.known }
+    requires room { 1024 ≤ length buf.old }
+    ensures pointers { OnOk result ((k : ℕ) → k < pointer_count_of_list_block front.old.count → word_at_offset buf.new (4 * k) ≡ slice_index (list_blocks_from_head (D.blocks dev.old) front.old.count front.old.head) (front.old.count - 2 ^ k)) }
+    ensures rest { drop (4 * pointer_count_of_list_block front.old.count) buf.new ≡ drop (4 * pointer_count_of_list_block front.old.count) buf.old }
+    ensures front { KeepsFullBlocks (list_blocks_from_head (D.blocks dev.old) front.old.count front.old.head) front.old front.new }
+    ensures few { OnOk result (ReadsOnlyUnknownPointers front.old front.new (D.history dev.old) (D.history dev.new)) }
+    ensures device { ReadsOnly D.BlockDevice dev.old dev.new }
+    ensures io { ReportsNoErrorButIo D.BlockDevice dev.old dev.new result }
+{
+    let index = front.count;
+    if index == 0 {
+        return Ok(());
+    }
+    let mut to = front.head;
+    put_word(buf, 0, to);
+    for k in 0..index.trailing_zeros() {
+        to = front.known.block_at_pointer(dev, to, k, index - (2 << k))?;
+        put_word(buf, 4 * (k + 1) as usize, to);
+    }
+    Ok(())
+}
+
+// Erases a block and writes the buffer up to `end` to it. Before the bytes are the pointers of the
+// block after the full ones of a list.
+pub(crate) fn write_block<D: BlockDevice>(
+    dev: &mut D,
+    front: &mut FullBlocks,
+    block: u32,
+    buf: &mut [u8],
+    end: u32,
+) -> Result<(), Error>
+    requires follows { IsDeviceBlockOutsideFullBlocksOfList D.BlockDevice dev.old front.old.count front.old.head block }
+    requires known { AreKnownListBlocks (list_blocks_from_head (D.blocks dev.old) front.old.count front.old.head) front.old.known }
+    requires size { length buf.old ≡ (D.geometry dev.old).block_size }
+    requires large { 1024 ≤ length buf.old }
+    requires pages { end % (D.geometry dev.old).page ≡ 0 }
+    requires room { end ≤ (D.geometry dev.old).block_size }
+    requires pointers { 4 * pointer_count_of_list_block front.old.count ≤ end }
+    ensures appended { OnOk result (IsBlockAppendedToList (D.blocks dev.old) (D.blocks dev.new) front.old.count front.old.head block) }
+    ensures bytes { OnOk result (take (end - 4 * pointer_count_of_list_block front.old.count) (drop (4 * pointer_count_of_list_block front.old.count) (block_bytes_by_number (D.blocks dev.new) block))
+        ≡ take (end - 4 * pointer_count_of_list_block front.old.count) (drop (4 * pointer_count_of_list_block front.old.count) buf.old)) }
+    ensures front { KeepsFullBlocks (list_blocks_from_head (D.blocks dev.old) front.old.count front.old.head) front.old front.new }
+    ensures writes { OnOk result (AddsOneEraseAndProgramPerBlock 0 1 (D.history dev.old) (D.history dev.new)) }
+    ensures few { OnOk result (ReadsOnlyUnknownPointers front.old front.new (D.history dev.old) (D.history dev.new)) }
+    ensures device { ChangesOnlyThisBlock D.BlockDevice block dev.old dev.new }
+    ensures io { ReportsNoErrorButIo D.BlockDevice dev.old dev.new result }
+{
+    write_pointers_of_block_to_buffer(dev, front, buf)?;
+    dev.erase(block)?;
+    dev.prog(block, 0, &buf[..end as usize])?;
+    Ok(())
+}

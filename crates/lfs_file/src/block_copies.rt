@@ -1,0 +1,145 @@
+// Copies of the bytes of a base that follow those in hand.
+
+ghost use Rattle.std.specs.Prelude.{◌≡◌, ◌≤◌, ◌<◌, ◌+◌, ◌-◌, ◌++◌, length, max, min, take, drop, slice_range, IfOk, OnOk};
+ghost use Rattle.lfs_device.specs.Calls.{ReadsOnly};
+ghost use Rattle.lfs_model.specs.Blocks.{block_bytes_by_number};
+ghost use Rattle.lfs_model.specs.BlockSets.{in_flight_block_count, used_count};
+ghost use Rattle.lfs_model.specs.History.{read_count_of_history};
+ghost use Rattle.lfs_model.specs.SkipLists.{AreListBlocks, list_blocks_from_head, list_block_count_for_size, bytes_of_skip_list};
+ghost use Rattle.lfs_file.specs.Calls.{ReportsNoErrorButIo, ReportsIoOrNoMemory};
+ghost use Rattle.lfs_file.specs.Growing.{HasGrowingListOnDisk, blocks_kept_when_growing, unwritten_block_of_list, bytes_of_growing_list, size_of_growing_list};
+ghost use Rattle.lfs_file.specs.BlocksApart.{HasGrowingListBlocksTaken};
+ghost use Rattle.lfs_file.specs.Bases.{IsListApartFromFreeAndUnwrittenBlocks};
+ghost use Rattle.lfs_file.specs.ContentsCalls.{CallKeepsTakenBlocksExceptUnwritten};
+ghost use Rattle.lfs_file.specs.Extensions.{IsGrowingListExtended, CanEndGrowingListInOwnBlocks};
+ghost use Rattle.lfs_file.specs.TakenBlocks.{ChangesOnlyFreeBlocksInMap};
+
+use crate::extensions::extend_list_in_free_blocks;
+use crate::{Extender, blocks_for, head_of_list_before_block, place};
+use lfs_blocks::BlockMap;
+use lfs_device::{BlockDevice, Error};
+use std::alloc::Global;
+
+/// Appends to a list in hand the bytes that another list has after those in hand.
+///
+/// The caller's condition is that the list in hand changes no block of the other list.
+///
+/// Errors: `Io` where the device failed. `NoMemory` where memory isn't granted. After either the
+/// list in hand can only be dropped.
+pub(crate) fn append_remaining_bytes_of_base_list<D: BlockDevice>(
+    alloc: Global,
+    dev: &mut D,
+    map: &mut BlockMap,
+    list: &mut Extender,
+    head: u32,
+    size: u32,
+) -> Result<(), Error>
+    requires growing { HasGrowingListOnDisk (D.blocks dev.old) list.old }
+    requires geometry { D.geometry dev.old ≡ list.old.geometry }
+    requires marked { HasGrowingListBlocksTaken map.old (D.blocks dev.old) list.old }
+    requires own { CanEndGrowingListInOwnBlocks (D.blocks dev.old) list.old }
+    requires base { IsListApartFromFreeAndUnwrittenBlocks map.old (unwritten_block_of_list list.old) (D.blocks dev.old) list.old.geometry.block_size head size }
+    requires room { used_count map.old + in_flight_block_count map.old + list_block_count_for_size list.old.geometry.block_size size ≤ length map.old + length (blocks_kept_when_growing (D.blocks dev.old) list.old) }
+    ensures extended { OnOk result (IsGrowingListExtended map.old (D.blocks dev.old) list.old
+        (bytes_of_growing_list (D.blocks dev.old) list.old ++ drop (size_of_growing_list list.old) (bytes_of_skip_list (D.blocks dev.old) list.old.geometry.block_size head size))
+        (max (size_of_growing_list list.old) size) map.new (D.blocks dev.new) list.new) }
+    ensures map { ChangesOnlyFreeBlocksInMap map.old map.new }
+    ensures device { CallKeepsTakenBlocksExceptUnwritten D.BlockDevice map.old (unwritten_block_of_list list.old) dev.old dev.new }
+    ensures reports { ReportsIoOrNoMemory D.BlockDevice dev.old dev.new result }
+{
+    if list.size() >= size {
+        return Ok(());
+    }
+    let block_size = dev.geometry().block_size;
+    let mut chunk = Vec::from_elem(alloc, 0u8, block_size as usize)?;
+    append_remaining_bytes_block_by_block(alloc, dev, map, list, head, size, chunk.as_mut_slice())?;
+    Ok(())
+}
+
+// Appends to a list in hand the bytes that another list has after those in hand, a block at a time.
+fn append_remaining_bytes_block_by_block<D: BlockDevice>(
+    alloc: Global,
+    dev: &mut D,
+    map: &mut BlockMap,
+    list: &mut Extender,
+    head: u32,
+    size: u32,
+    chunk: &mut [u8],
+) -> Result<(), Error>
+    requires chunk { length chunk.old ≡ list.old.geometry.block_size }
+    requires behind { size_of_growing_list list.old < size }
+    requires growing { HasGrowingListOnDisk (D.blocks dev.old) list.old }
+    requires geometry { D.geometry dev.old ≡ list.old.geometry }
+    requires marked { HasGrowingListBlocksTaken map.old (D.blocks dev.old) list.old }
+    requires own { CanEndGrowingListInOwnBlocks (D.blocks dev.old) list.old }
+    requires base { IsListApartFromFreeAndUnwrittenBlocks map.old (unwritten_block_of_list list.old) (D.blocks dev.old) list.old.geometry.block_size head size }
+    requires room { used_count map.old + in_flight_block_count map.old + list_block_count_for_size list.old.geometry.block_size size ≤ length map.old + length (blocks_kept_when_growing (D.blocks dev.old) list.old) }
+    ensures extended { OnOk result (IsGrowingListExtended map.old (D.blocks dev.old) list.old
+        (bytes_of_growing_list (D.blocks dev.old) list.old ++ drop (size_of_growing_list list.old) (bytes_of_skip_list (D.blocks dev.old) list.old.geometry.block_size head size))
+        (max (size_of_growing_list list.old) size) map.new (D.blocks dev.new) list.new) }
+    ensures map { ChangesOnlyFreeBlocksInMap map.old map.new }
+    ensures device { CallKeepsTakenBlocksExceptUnwritten D.BlockDevice map.old (unwritten_block_of_list list.old) dev.old dev.new }
+    ensures reports { ReportsIoOrNoMemory D.BlockDevice dev.old dev.new result }
+{
+    let block_size = dev.geometry().block_size;
+    let (from, _) = place(block_size, list.size());
+    let blocks = list_blocks_from_index(alloc, dev, head, blocks_for(block_size, size), from)?;
+    'copying: while list.size() < size {
+        let pos = list.size();
+        let (index, off) = place(block_size, pos);
+        let block = blocks[(index - from) as usize];
+        let count = read_bytes_of_block_from(dev, block, off, size - pos, chunk)?;
+        extend_list_in_free_blocks(alloc, dev, map, list, &chunk[..count])?;
+    }
+    Ok(())
+}
+
+// Returns the blocks of a list from an index on. `count` is how many blocks the list has.
+fn list_blocks_from_index<D: BlockDevice>(
+    alloc: Global,
+    dev: &mut D,
+    head: u32,
+    count: u32,
+    from: u32,
+) -> Result<Vec<u32>, Error>
+    requires chain { AreListBlocks (D.blocks dev.old) count head }
+    requires within { from ≤ count }
+    ensures blocks { IfOk result (λ v. v.items ≡ drop from (list_blocks_from_head (D.blocks dev.old) count head)) }
+    ensures device { ReadsOnly D.BlockDevice dev.old dev.new }
+    ensures reports { ReportsIoOrNoMemory D.BlockDevice dev.old dev.new result }
+    // The list is walked once: one read for each of them.
+    ensures few { OnOk result (read_count_of_history (D.history dev.new) ≤ read_count_of_history (D.history dev.old) + (count - from)) }
+{
+    let mut blocks = Vec::from_elem(alloc, 0u32, (count - from) as usize)?;
+    let mut block = head;
+    let mut index = count;
+    'going: while index > from {
+        index -= 1;
+        blocks[(index - from) as usize] = block;
+        block = head_of_list_before_block(dev, block, index - from)?;
+    }
+    Ok(blocks)
+}
+
+// Reads the bytes of a block from an offset on, at most `most` of them.
+fn read_bytes_of_block_from<D: BlockDevice>(
+    dev: &mut D,
+    block: u32,
+    off: u32,
+    most: u32,
+    buf: &mut [u8],
+) -> Result<usize, Error>
+    requires in_device { block < (D.geometry dev.old).block_count }
+    requires in_block { off < (D.geometry dev.old).block_size }
+    requires some { 1 ≤ most }
+    requires room { length buf.old ≡ (D.geometry dev.old).block_size }
+    ensures count { IfOk result (λ n. (1 ≤ n) × (n ≤ length buf.old) × (n ≡ min ((D.geometry dev.old).block_size - off) most)) }
+    ensures bytes { IfOk result (λ n. take n buf.new ≡ slice_range (block_bytes_by_number (D.blocks dev.old) block) off (off + n)) }
+    ensures device { ReadsOnly D.BlockDevice dev.old dev.new }
+    ensures reports { ReportsNoErrorButIo D.BlockDevice dev.old dev.new result }
+    ensures few { read_count_of_history (D.history dev.new) ≡ read_count_of_history (D.history dev.old) + 1 }
+{
+    let count = (buf.len() - off as usize).min(most as usize);
+    dev.read(block, off, &mut buf[..count])?;
+    Ok(count)
+}

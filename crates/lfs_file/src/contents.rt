@@ -1,0 +1,212 @@
+// The contents of an open writer, and writes to them.
+
+ghost use Rattle.std.specs.Prelude.{◌≡◌, ◌≤◌, ◌<◌, ◌+◌, ◌^◌, length, max, true, IfOk, IfErr};
+ghost use Rattle.lfs_model.specs.Blocks.{Blocks};
+ghost use Rattle.lfs_model.specs.BlockSets.{BlockStateList, used_count};
+ghost use Rattle.lfs_model.specs.SkipLists.{list_block_count_for_size};
+ghost use Rattle.lfs_model.specs.Writers.{contents_after_write};
+ghost use Rattle.lfs_file.specs.Calls.{ReportsIoOrNoMemory};
+ghost use Rattle.lfs_file.specs.ContentsCalls.{CallKeepsUsedBlocks};
+ghost use Rattle.lfs_file.specs.Contents.{CanWriteContents, AreConsistentContentsWithBytesAndForm, HasNoBlockInFlight, IsInMemoryWithNoBlockInFlight, writer_contents_bytes_in_memory_or_blocks, storage_form_of_contents, bytes_in_buffer, block_room_for_write};
+ghost use Rattle.lfs_file.specs.Form as form;
+ghost use Rattle.lfs_file.specs.Form.{storage_form_after_write};
+ghost use Rattle.lfs_file.specs.Hand.{IsFinishedListConsistentWithMapAndDisk, KeepsUsedBlocksInMap, bytes_of_stored_list};
+ghost use Rattle.lfs_file.specs.BaseRoom.{in_flight_block_limit_of_stored_list};
+ghost use Rattle.lfs_file.specs.HandWrites.{IsWrittenUnfinishedListOfContentsEndingAt, IsUnfinishedListWithAtLeastOneByte, contents_bytes_of_unfinished_list, contents_length_of_unfinished_list};
+ghost use Rattle.lfs_file.specs.BlockOwners.{AreUsedBlocksOfListAmongOwnBlocks, KeepsBlocksOfStoredList, blocks_of_contents};
+
+use crate::Extender;
+use crate::list_starts::begin_list_over_finished_list;
+use crate::memory::{load_first_bytes_of_list_into_memory, move_memory_contents_to_list_and_write};
+use crate::other_places::write_to_unfinished_list_at_position;
+use crate::stored_list::StoredList;
+use crate::writes::{PendingList, fill_gap_and_write_bytes};
+use lfs_blocks::BlockMap;
+use lfs_device::{BlockDevice, Error, Geometry};
+use std::alloc::Global;
+
+/// Where the contents of an open writer are.
+#[derive(Drop)]
+pub enum WriterContents {
+    /// The contents are in the buffer of an extender and in no block. They are at most as long as
+    /// the limit of inline contents.
+    InMemory(Extender),
+    /// The contents are in a finished list.
+    Finished(StoredList),
+    /// The first bytes are in a list in hand, and the bytes after them in its base.
+    InHand(PendingList),
+}
+
+/// Makes contents in memory: the inline bytes of a file, or no bytes for a new file.
+///
+/// The caller's condition is that there are fewer bytes than a block has.
+///
+/// Errors: `NoMemory` where memory for a block isn't granted.
+pub fn make_contents_in_memory(
+    alloc: Global,
+    geometry: Geometry,
+    bytes: &[u8],
+) -> Result<WriterContents, Error>
+    requires { length bytes.now < geometry.block_size }
+    ensures holds { IfOk result (λ c. (map : BlockStateList) (disk : Blocks) → HasNoBlockInFlight map disk → AreConsistentContentsWithBytesAndForm map disk geometry c bytes.now (form.InMemory (length bytes.now))) }
+    ensures errors { IfErr result (λ e. e ≡ Error.NoMemory) }
+{
+    let mut list = Extender::start_with_empty_list(alloc, geometry)?;
+    list.replace_buffered_content(bytes);
+    Ok(WriterContents::InMemory(list))
+}
+
+// Writes bytes to contents in memory.
+fn write_contents_in_memory<D: BlockDevice>(
+    alloc: Global,
+    dev: &mut D,
+    map: &mut BlockMap,
+    list: Extender,
+    limit: u32,
+    place: u32,
+    bytes: &[u8],
+) -> Result<WriterContents, Error>
+    requires quiet { IsInMemoryWithNoBlockInFlight map.old (D.blocks dev.old) (D.geometry dev.old) list }
+    requires few { length (bytes_in_buffer list) ≤ limit }
+    requires short { limit < (D.geometry dev.old).block_size }
+    requires some { 1 ≤ length bytes.now }
+    requires small { place + length bytes.now < 2 ^ 31 }
+    requires room { limit < max (length (bytes_in_buffer list)) (place + length bytes.now) → used_count map.old + list_block_count_for_size (D.geometry dev.old).block_size (place + length bytes.now) ≤ length map.old }
+    ensures written { IfOk result (λ c. AreConsistentContentsWithBytesAndForm map.new (D.blocks dev.new) (D.geometry dev.old) c
+        (contents_after_write (bytes_in_buffer list) place bytes.now) (storage_form_after_write limit place (length bytes.now) (form.InMemory (length (bytes_in_buffer list))))) }
+    ensures owned { IfOk result (λ c. AreUsedBlocksOfListAmongOwnBlocks map.new (blocks_of_contents (D.blocks dev.old) (D.geometry dev.old).block_size (WriterContents.InMemory list)) (blocks_of_contents (D.blocks dev.new) (D.geometry dev.old).block_size c)) }
+    ensures map { KeepsUsedBlocksInMap map.old map.new }
+    ensures device { CallKeepsUsedBlocks D.BlockDevice map.old dev.old dev.new }
+    ensures reports { ReportsIoOrNoMemory D.BlockDevice dev.old dev.new result }
+{
+    let size = list.size().max(place + bytes.len() as u32);
+    if size <= limit {
+        let mut list = list;
+        list.write_buffered_content_at(place, bytes);
+        return Ok(WriterContents::InMemory(list));
+    }
+    let hand = move_memory_contents_to_list_and_write(alloc, dev, map, list, place, bytes)?;
+    Ok(WriterContents::InHand(hand))
+}
+
+// Begins a list in hand over a finished list, with bytes at a place.
+fn begin_list_over_finished_list_with_bytes<D: BlockDevice>(
+    alloc: Global,
+    dev: &mut D,
+    map: &mut BlockMap,
+    stored: StoredList,
+    place: u32,
+    bytes: &[u8],
+) -> Result<PendingList, Error>
+    requires stored { IsFinishedListConsistentWithMapAndDisk map.old (D.blocks dev.old) (D.geometry dev.old).block_size stored }
+    requires some { 1 ≤ length bytes.now }
+    requires small { place + length bytes.now < 2 ^ 31 }
+    requires room { used_count map.old + list_block_count_for_size (D.geometry dev.old).block_size (place + length bytes.now) + in_flight_block_limit_of_stored_list (D.geometry dev.old).block_size stored ≤ length map.old }
+    ensures written { IfOk result (λ h. IsWrittenUnfinishedListOfContentsEndingAt map.new (D.blocks dev.new) (D.geometry dev.old) h (place + length bytes.now)
+        (contents_after_write (bytes_of_stored_list (D.blocks dev.old) (D.geometry dev.old).block_size stored) place bytes.now)) }
+    ensures base { IfOk result (λ h. KeepsBlocksOfStoredList (D.geometry dev.old).block_size (D.blocks dev.old) stored (D.blocks dev.new) h.base) }
+    ensures map { KeepsUsedBlocksInMap map.old map.new }
+    ensures device { CallKeepsUsedBlocks D.BlockDevice map.old dev.old dev.new }
+    ensures reports { ReportsIoOrNoMemory D.BlockDevice dev.old dev.new result }
+{
+    let begun = begin_list_over_finished_list(alloc, dev, stored, place.min(stored.size))?;
+    let mut hand = begun;
+    fill_gap_and_write_bytes(alloc, dev, map, &mut hand, place, bytes)?;
+    Ok(hand)
+}
+
+// Writes bytes over a finished list. Contents within the limit have no blocks in flight.
+fn write_over_finished_list<D: BlockDevice>(
+    alloc: Global,
+    dev: &mut D,
+    map: &mut BlockMap,
+    stored: StoredList,
+    limit: u32,
+    place: u32,
+    bytes: &[u8],
+) -> Result<WriterContents, Error>
+    requires stored { IsFinishedListConsistentWithMapAndDisk map.old (D.blocks dev.old) (D.geometry dev.old).block_size stored }
+    requires large { stored.in_flight ≡ true → limit < stored.size }
+    requires short { limit < (D.geometry dev.old).block_size }
+    requires some { 1 ≤ length bytes.now }
+    requires small { place + length bytes.now < 2 ^ 31 }
+    requires room { limit < max stored.size (place + length bytes.now) → used_count map.old + list_block_count_for_size (D.geometry dev.old).block_size (place + length bytes.now) + in_flight_block_limit_of_stored_list (D.geometry dev.old).block_size stored ≤ length map.old }
+    ensures written { IfOk result (λ c. AreConsistentContentsWithBytesAndForm map.new (D.blocks dev.new) (D.geometry dev.old) c
+        (contents_after_write (bytes_of_stored_list (D.blocks dev.old) (D.geometry dev.old).block_size stored) place bytes.now) (storage_form_after_write limit place (length bytes.now) (form.Finished stored.size stored.in_flight))) }
+    ensures owned { IfOk result (λ c. AreUsedBlocksOfListAmongOwnBlocks map.new (blocks_of_contents (D.blocks dev.old) (D.geometry dev.old).block_size (WriterContents.Finished stored)) (blocks_of_contents (D.blocks dev.new) (D.geometry dev.old).block_size c)) }
+    ensures map { KeepsUsedBlocksInMap map.old map.new }
+    ensures device { CallKeepsUsedBlocks D.BlockDevice map.old dev.old dev.new }
+    ensures reports { ReportsIoOrNoMemory D.BlockDevice dev.old dev.new result }
+{
+    let size = stored.size.max(place + bytes.len() as u32);
+    if size <= limit {
+        let mut list = load_first_bytes_of_list_into_memory(alloc, dev, stored, stored.size)?;
+        list.write_buffered_content_at(place, bytes);
+        return Ok(WriterContents::InMemory(list));
+    }
+    let hand = begin_list_over_finished_list_with_bytes(alloc, dev, map, stored, place, bytes)?;
+    Ok(WriterContents::InHand(hand))
+}
+
+// Writes bytes to contents in hand.
+fn write_to_unfinished_list<D: BlockDevice>(
+    alloc: Global,
+    dev: &mut D,
+    map: &mut BlockMap,
+    hand: PendingList,
+    limit: u32,
+    place: u32,
+    bytes: &[u8],
+) -> Result<WriterContents, Error>
+    requires going { IsUnfinishedListWithAtLeastOneByte map.old (D.blocks dev.old) (D.geometry dev.old) hand }
+    requires large { limit < contents_length_of_unfinished_list hand }
+    requires some { 1 ≤ length bytes.now }
+    requires small { place + length bytes.now < 2 ^ 31 }
+    requires room { used_count map.old + block_room_for_write (D.geometry dev.old).block_size place (length bytes.now) (storage_form_of_contents (WriterContents.InHand hand)) ≤ length map.old }
+    ensures written { IfOk result (λ c. AreConsistentContentsWithBytesAndForm map.new (D.blocks dev.new) (D.geometry dev.old) c
+        (contents_after_write (contents_bytes_of_unfinished_list (D.blocks dev.old) hand) place bytes.now) (storage_form_after_write limit place (length bytes.now) (storage_form_of_contents (WriterContents.InHand hand)))) }
+    ensures owned { IfOk result (λ c. AreUsedBlocksOfListAmongOwnBlocks map.new (blocks_of_contents (D.blocks dev.old) (D.geometry dev.old).block_size (WriterContents.InHand hand)) (blocks_of_contents (D.blocks dev.new) (D.geometry dev.old).block_size c)) }
+    ensures map { KeepsUsedBlocksInMap map.old map.new }
+    ensures device { CallKeepsUsedBlocks D.BlockDevice map.old dev.old dev.new }
+    ensures reports { ReportsIoOrNoMemory D.BlockDevice dev.old dev.new result }
+{
+    let hand = write_to_unfinished_list_at_position(alloc, dev, map, hand, place, bytes)?;
+    Ok(WriterContents::InHand(hand))
+}
+
+/// Writes bytes, at least one, at a place; zeros fill a gap before it.
+///
+/// Contents of at most `limit` bytes are kept in memory. The caller's condition is that longer
+/// contents find as many free blocks as their form may take.
+///
+/// Errors: `Io` where the device failed. `NoMemory` where memory for a block isn't granted. After
+/// either the contents are dropped.
+pub fn write_contents<D: BlockDevice>(
+    alloc: Global,
+    dev: &mut D,
+    map: &mut BlockMap,
+    contents: WriterContents,
+    limit: u32,
+    place: u32,
+    bytes: &[u8],
+) -> Result<WriterContents, Error>
+    requires { CanWriteContents map.old (D.blocks dev.old) (D.geometry dev.old) contents limit place (length bytes.now) }
+    ensures written { IfOk result (λ c. AreConsistentContentsWithBytesAndForm map.new (D.blocks dev.new) (D.geometry dev.old) c
+        (contents_after_write (writer_contents_bytes_in_memory_or_blocks (D.blocks dev.old) (D.geometry dev.old).block_size contents) place bytes.now) (storage_form_after_write limit place (length bytes.now) (storage_form_of_contents contents))) }
+    ensures owned { IfOk result (λ c. AreUsedBlocksOfListAmongOwnBlocks map.new (blocks_of_contents (D.blocks dev.old) (D.geometry dev.old).block_size contents) (blocks_of_contents (D.blocks dev.new) (D.geometry dev.old).block_size c)) }
+    ensures map { KeepsUsedBlocksInMap map.old map.new }
+    ensures device { CallKeepsUsedBlocks D.BlockDevice map.old dev.old dev.new }
+    ensures reports { ReportsIoOrNoMemory D.BlockDevice dev.old dev.new result }
+{
+    match contents {
+        WriterContents::InMemory(list) => write_contents_in_memory(
+            alloc, dev, map, list, limit, place, bytes,
+        ),
+        WriterContents::Finished(stored) => write_over_finished_list(
+            alloc, dev, map, stored, limit, place, bytes,
+        ),
+        WriterContents::InHand(hand) => write_to_unfinished_list(
+            alloc, dev, map, hand, limit, place, bytes,
+        ),
+    }
+}

@@ -1,0 +1,389 @@
+ghost use Rattle.std.specs.Prelude.{◌≡◌, ◌≤◌, ◌<◌, ◌+◌, ◌-◌, ◌*◌, ◌^◌, ◌++◌, ◌∷◌, [], length, take, drop, replicate, OnOk, IfOk, IfErr};
+ghost use Rattle.lfs_file.specs.Appended.{IsBlockAppendedToList};
+ghost use Rattle.lfs_file.specs.Calls.{ReportsNoErrorButIo, ReportsIoOrNoMemory};
+ghost use Rattle.lfs_file.specs.Counts.{AddsOneEraseAndProgramPerBlock};
+ghost use Rattle.lfs_file.specs.Extended.{GrowingListHasBytesAndBlocks};
+ghost use Rattle.lfs_file.specs.Extending.{CanFinishGrowingList, IsDeviceBlockOutsideFullBlocksOfList, CanPushBytesToList, CanResumeListAfterFirstBytes, HasTheseBytesOnlyInBuffer, HasPushedBytesToList, IsResumedList, IsStartedEmptyList};
+ghost use Rattle.lfs_file.specs.FewReads.{FillsBlocksByFewReads, WritesLastBlockByFewReads};
+ghost use Rattle.lfs_file.specs.Fields.{HasOneBlockBufferAndConsistentNumbers, growing_list_view};
+ghost use Rattle.lfs_file.specs.Finished.{IsSkipListWithBytesAndBlocks};
+ghost use Rattle.lfs_file.specs.Growing.{HasAllBytesInBuffer, HasUnwrittenBlockAmongTheseBlocks, blocks_of_growing_list, bytes_of_growing_list, size_of_growing_list, count_of_blocks_to_append, block_for_next_bytes_with_used_count, unwritten_block_of_list};
+ghost use Rattle.lfs_file.specs.Known.{AreKnownListBlocks};
+ghost use Rattle.lfs_device.specs.Calls.{ChangesOnlyThisBlock, ChangesOnlyTheseBlocks, ReadsOnly};
+ghost use Rattle.lfs_model.specs.Blocks.{block_bytes_by_number, bytes_after_overwrite_at};
+ghost use Rattle.lfs_model.specs.Writers.{contents_after_write as with_bytes};
+ghost use Rattle.lfs_model.specs.SkipLists.{list_blocks_from_head, list_block_count_for_size, pointer_count_of_list_block};
+
+use crate::block::{FullBlocks, write_block};
+use crate::read::{
+    find_block_at_index, head_of_list_before_block, pointer_count_at_index,
+    read_block_bytes_into_buffer_range,
+};
+use crate::{RestLocation, blocks_for, place};
+use lfs_device::{BlockDevice, Error, Geometry};
+use std::alloc::Global;
+use std::marker::Model;
+
+/// Appends bytes to a skip list, in blocks that the caller hands in, and writes a block as it fills
+/// (DESIGN.md of littlefs, "CTZ skip-lists").
+///
+/// An extender has one block of bytes in memory. Contents without a block can be in memory alone.
+/// `replace_buffered_content`, `write_buffered_content_at` and `truncate_buffered_content` change them,
+/// and a `push` moves them into blocks.
+///
+/// A contract sees the list that grows: its full blocks, and the bytes after them.
+#[derive(Drop)]
+pub struct Extender {
+    // An extender is moved through several layers at each write, so its fields are on the heap.
+    state: Box<ExtenderState>,
+}
+
+// The fields of an extender.
+#[derive(Drop)]
+struct ExtenderState {
+    geometry: Geometry,
+    buffer: Vec<u8>,
+    front: FullBlocks,
+    filled: u32,
+    size: u32,
+    stand: RestLocation,
+}
+
+impl Model for Extender {
+    ghost use Rattle.lfs_file.specs.Growing.{GrowingList};
+
+    ghost Value = { GrowingList };
+
+    ghost use Rattle.lfs_file.specs.FewReads.{FillsBlocksByFewReads, WritesLastBlockByFewReads};
+    ghost use Rattle.lfs_file.specs.Fields.{HasOneBlockBufferAndConsistentNumbers, growing_list_view};
+
+    ghost view = { λ e. growing_list_view e.state.value };
+
+    ghost invariant = { λ e. HasOneBlockBufferAndConsistentNumbers e.state.value };
+}
+
+// Writes bytes over those from a place on.
+fn overwrite_buffer_bytes(all: &mut Vec<u8>, at: usize, bytes: &[u8])
+    requires { at + length bytes.now ≤ length all.old.items }
+    ensures { all.new.items ≡ bytes_after_overwrite_at all.old.items at bytes.now }
+{
+    all[at..at + bytes.len()].copy_from_slice(bytes);
+}
+
+// Fills the places from one to another with a byte.
+fn fill_buffer_range_with_byte(all: &mut Vec<u8>, at: usize, end: usize, byte: u8)
+    requires order { at ≤ end }
+    requires within { end ≤ length all.old.items }
+    ensures { all.new.items ≡ bytes_after_overwrite_at all.old.items at (replicate (end - at) byte) }
+{
+    all[at..end].fill(byte);
+}
+
+impl Extender {
+    // Makes an extender whose fields are these.
+    fn of_state(alloc: Global, state: ExtenderState) -> Result<Extender, Error>
+        requires { HasOneBlockBufferAndConsistentNumbers state }
+        ensures list { IfOk result (λ list. list ≡ growing_list_view state) }
+        ensures error { IfErr result (λ e. e ≡ Error.NoMemory) }
+    {
+        let state = Box::new(alloc, state)?;
+        Ok(Extender { state })
+    }
+
+    /// Makes an extender of an empty list.
+    ///
+    /// Errors: `NoMemory` where memory for a block isn't granted.
+    pub fn start_with_empty_list(alloc: Global, geometry: Geometry) -> Result<Extender, Error>
+        ensures started { IfOk result (IsStartedEmptyList geometry) }
+        ensures errors { IfErr result (λ e. e ≡ Error.NoMemory) }
+    {
+        let buffer = Vec::from_elem(alloc, 0u8, geometry.block_size as usize)?;
+        let state = ExtenderState {
+            geometry,
+            buffer,
+            front: FullBlocks::new(0, 0),
+            filled: 0,
+            size: 0,
+            stand: RestLocation::Closed,
+        };
+        Extender::of_state(alloc, state)
+    }
+
+    /// Makes an extender of the first `keep` bytes of a well-formed list, whose last block is
+    /// `head` and which has `size` bytes. `keep` is from 1 to `size`.
+    ///
+    /// Errors: `NoMemory` where memory for a block isn't granted. `Io` where the device failed.
+    pub fn resume<D: BlockDevice>(
+        alloc: Global,
+        dev: &mut D,
+        head: u32,
+        size: u32,
+        keep: u32,
+    ) -> Result<Extender, Error>
+        requires { CanResumeListAfterFirstBytes (D.blocks dev.old) (D.geometry dev.old).block_size head size keep }
+        ensures resumed { IfOk result (IsResumedList (D.blocks dev.old) (D.geometry dev.old) head size keep) }
+        ensures device { ReadsOnly D.BlockDevice dev.old dev.new }
+        ensures reports { ReportsIoOrNoMemory D.BlockDevice dev.old dev.new result }
+    {
+        let geometry = dev.geometry();
+        let block_size = geometry.block_size;
+        let mut buffer = Vec::from_elem(alloc, 0u8, block_size as usize)?;
+        let (index, off) = place(block_size, keep - 1);
+        let block = find_block_at_index(dev, head, blocks_for(block_size, size) - 1, index)?;
+        if off + 1 == block_size {
+            let state = ExtenderState {
+                geometry,
+                buffer,
+                front: FullBlocks::new(index + 1, block),
+                filled: 4 * pointer_count_at_index(index + 1),
+                size: keep,
+                stand: RestLocation::Closed,
+            };
+            return Extender::of_state(alloc, state);
+        }
+        let head = head_of_list_before_block(dev, block, index)?;
+        read_block_bytes_into_buffer_range(dev, block, 0, buffer.as_mut_slice(), 0, off + 1)?;
+        let state = ExtenderState {
+            geometry,
+            buffer,
+            front: FullBlocks::new(index, head),
+            filled: off + 1,
+            size: keep,
+            stand: RestLocation::Shared(block),
+        };
+        Extender::of_state(alloc, state)
+    }
+
+    /// Replaces the contents by these bytes, in memory and in no block. What the extender had
+    /// before is dropped.
+    ///
+    /// The caller's condition is that there are fewer bytes than a block has.
+    pub fn replace_buffered_content(&mut self, bytes: &[u8])
+        requires { length bytes.now < self.old.geometry.block_size }
+        ensures { HasTheseBytesOnlyInBuffer self.old.geometry self.new bytes.now }
+    {
+        let state = &mut *self.state;
+        overwrite_buffer_bytes(&mut state.buffer, 0, bytes);
+        state.front = FullBlocks::new(0, 0);
+        state.filled = bytes.len() as u32;
+        state.size = state.filled;
+        state.stand = RestLocation::Held;
+    }
+
+    /// Returns the contents, which are all in memory and none in a block.
+    pub fn buffered_content(&self) -> &[u8]
+        requires { HasAllBytesInBuffer self.now }
+        ensures { result.now ≡ self.now.rest }
+    {
+        let state = &*self.state;
+        &state.buffer[..state.filled as usize]
+    }
+
+    /// Writes bytes over those from the place `at` on, or after them. The contents are all in
+    /// memory and none in a block. Zeros fill the gap where the place is past the end.
+    ///
+    /// The caller's condition is that there are fewer bytes than a block has afterwards.
+    pub fn write_buffered_content_at(&mut self, at: u32, bytes: &[u8])
+        requires held { HasAllBytesInBuffer self.old }
+        requires room { at + length bytes.now < self.old.geometry.block_size }
+        ensures { HasTheseBytesOnlyInBuffer self.old.geometry self.new (with_bytes self.old.rest at bytes.now) }
+    {
+        let state = &mut *self.state;
+        let from = state.filled.max(at);
+        fill_buffer_range_with_byte(&mut state.buffer, state.filled as usize, from as usize, 0);
+        overwrite_buffer_bytes(&mut state.buffer, at as usize, bytes);
+        state.filled = state.filled.max(at + bytes.len() as u32);
+        state.size = state.filled;
+    }
+
+    /// Keeps the first `len` bytes of contents that are all in memory and none in a block.
+    ///
+    /// The caller's condition is that there are at least so many.
+    pub fn truncate_buffered_content(&mut self, len: u32)
+        requires held { HasAllBytesInBuffer self.old }
+        requires within { len ≤ length self.old.rest }
+        ensures { HasTheseBytesOnlyInBuffer self.old.geometry self.new (take len self.old.rest) }
+    {
+        let state = &mut *self.state;
+        state.filled = len;
+        state.size = len;
+    }
+
+    /// Returns how many bytes the list has.
+    pub fn size(&self) -> u32
+        ensures { result ≡ size_of_growing_list self.now }
+    {
+        self.state.size
+    }
+
+    /// Returns how many blocks are full and on the device.
+    pub fn full_block_count(&self) -> u32
+        ensures { result ≡ self.now.full }
+    {
+        self.state.front.count
+    }
+
+    /// Returns how many blocks a push of `n` bytes takes. The full blocks of a resumed list are
+    /// shared. Its last block, where it isn't full, is copied and counts here.
+    ///
+    /// The caller's condition is that `n` is at least 1, and that the whole list then has at most
+    /// 2,147,483,647 bytes.
+    pub fn needed(&self, n: u32) -> u32
+        requires some { 1 ≤ n }
+        requires room { size_of_growing_list self.now + n < 2 ^ 31 }
+        ensures count { result ≡ count_of_blocks_to_append self.now n }
+        ensures within { self.now.full + length (unwritten_block_of_list self.now) ≤ list_block_count_for_size self.now.geometry.block_size (size_of_growing_list self.now + n) }
+    {
+        let state = &*self.state;
+        let begun = match state.stand {
+            RestLocation::Handed(_) => 1,
+            _ => 0,
+        };
+        // Bytes that fit in the block of the last ones take no further block.
+        if begun == 1 && n <= state.geometry.block_size - state.filled {
+            return 0;
+        }
+        blocks_for(state.geometry.block_size, state.size + n) - (state.front.count + begun)
+    }
+
+    // Returns the block that takes the next bytes, and how many of the blocks that were handed in
+    // are used then.
+    fn block_and_used_count_for_next_bytes(&self, blocks: &[u32], used: usize) -> (u32, usize)
+        requires { unwritten_block_of_list self.now ≡ [] → used < length blocks.now }
+        ensures { result ≡ block_for_next_bytes_with_used_count self.now.stand blocks.now used }
+    {
+        match self.state.stand {
+            RestLocation::Handed(block) => (block, used),
+            _ => (blocks[used], used + 1),
+        }
+    }
+
+    // Takes as many bytes as the current block still has room for, and writes that block if it is
+    // full then. Returns how many bytes were taken.
+    fn fill_current_block<D: BlockDevice>(
+        &mut self,
+        dev: &mut D,
+        bytes: &[u8],
+        block: u32,
+    ) -> Result<usize, Error>
+        requires follows { IsDeviceBlockOutsideFullBlocksOfList D.BlockDevice dev.old self.old.full self.old.head block }
+        requires known { AreKnownListBlocks (list_blocks_from_head (D.blocks dev.old) self.old.full self.old.head) self.old.known }
+        requires geometry { D.geometry dev.old ≡ self.old.geometry }
+        requires some { 1 ≤ length bytes.now }
+        requires room { size_of_growing_list self.old + length bytes.now < 2 ^ 31 }
+        ensures count { IfOk result (λ n. (1 ≤ n) × (n ≤ length bytes.now)) }
+        ensures few { OnOk result (FillsBlocksByFewReads self.old self.new (D.history dev.old) (D.history dev.new)) }
+        ensures filled { IfOk result (λ n. GrowingListHasBytesAndBlocks self.old.geometry (D.blocks dev.new) self.new
+            (bytes_of_growing_list (D.blocks dev.old) self.old ++ take n bytes.now) (size_of_growing_list self.old + n)
+            (list_blocks_from_head (D.blocks dev.old) self.old.full self.old.head ++ block ∷ [])
+            (list_blocks_from_head (D.blocks dev.old) self.old.full self.old.head ++ block ∷ [])) }
+        ensures waits { OnOk result (HasUnwrittenBlockAmongTheseBlocks (block ∷ []) self.new) }
+        ensures writes { OnOk result (AddsOneEraseAndProgramPerBlock self.old.full self.new.full (D.history dev.old) (D.history dev.new)) }
+        ensures device { ChangesOnlyThisBlock D.BlockDevice block dev.old dev.new }
+        ensures io { ReportsNoErrorButIo D.BlockDevice dev.old dev.new result }
+    {
+        let state = &mut *self.state;
+        let block_size = state.geometry.block_size;
+        let start = state.filled as usize;
+        let n = bytes.len().min(block_size as usize - start);
+        overwrite_buffer_bytes(&mut state.buffer, start, &bytes[..n]);
+        if start + n < block_size as usize {
+            state.filled += n as u32;
+            state.size += n as u32;
+            state.stand = RestLocation::Handed(block);
+            return Ok(n);
+        }
+        let buffer = state.buffer.as_mut_slice();
+        write_block(dev, &mut state.front, block, buffer, block_size)?;
+        state.front.add(block);
+        state.filled = 4 * pointer_count_at_index(state.front.count);
+        state.size += n as u32;
+        state.stand = RestLocation::Closed;
+        Ok(n)
+    }
+
+    /// Appends bytes, in the blocks that are handed in. Each block is erased before it is
+    /// programmed, and is written as it fills.
+    ///
+    /// The caller's conditions: there is at least one byte, and there are exactly as many blocks as
+    /// `needed` returns. The blocks are different ones of the device, and none is the list's. The
+    /// device holds the list as the last call of the extender left it. The whole list then has at
+    /// most 2,147,483,647 bytes.
+    ///
+    /// Errors: `Io` where the device failed. The extender can only be dropped then.
+    pub fn push<D: BlockDevice>(
+        &mut self,
+        dev: &mut D,
+        bytes: &[u8],
+        blocks: &[u32],
+    ) -> Result<(), Error>
+        requires { CanPushBytesToList D.BlockDevice dev.old self.old bytes.now blocks.now }
+        ensures pushed { OnOk result (HasPushedBytesToList (D.blocks dev.old) self.old bytes.now blocks.now (D.blocks dev.new) self.new) }
+        // A block that fills is erased once and programmed once.
+        ensures writes { OnOk result (AddsOneEraseAndProgramPerBlock self.old.full self.new.full (D.history dev.old) (D.history dev.new)) }
+        ensures few { OnOk result (FillsBlocksByFewReads self.old self.new (D.history dev.old) (D.history dev.new)) }
+        ensures device { ChangesOnlyTheseBlocks D.BlockDevice (unwritten_block_of_list self.old ++ blocks.now) dev.old dev.new }
+        ensures io { ReportsNoErrorButIo D.BlockDevice dev.old dev.new result }
+    {
+        let mut done = 0;
+        let mut used = 0;
+        while done < bytes.len() {
+            let (block, taken) = self.block_and_used_count_for_next_bytes(blocks, used);
+            done += self.fill_current_block(dev, &bytes[done..], block)?;
+            used = taken;
+        }
+        Ok(())
+    }
+
+    // Pads the current block to whole pages, and writes it.
+    fn write_last_block<D: BlockDevice>(&mut self, dev: &mut D, block: u32) -> Result<(), Error>
+        requires follows { IsDeviceBlockOutsideFullBlocksOfList D.BlockDevice dev.old self.old.full self.old.head block }
+        requires known { AreKnownListBlocks (list_blocks_from_head (D.blocks dev.old) self.old.full self.old.head) self.old.known }
+        requires geometry { D.geometry dev.old ≡ self.old.geometry }
+        ensures appended { OnOk result (IsBlockAppendedToList (D.blocks dev.old) (D.blocks dev.new) self.old.full self.old.head block) }
+        ensures bytes { OnOk result (take (length self.old.rest) (drop (4 * pointer_count_of_list_block self.old.full) (block_bytes_by_number (D.blocks dev.new) block)) ≡ self.old.rest) }
+        ensures writes { OnOk result (AddsOneEraseAndProgramPerBlock 0 1 (D.history dev.old) (D.history dev.new)) }
+        ensures few { OnOk result (WritesLastBlockByFewReads self.old (D.history dev.old) (D.history dev.new)) }
+        ensures device { ChangesOnlyThisBlock D.BlockDevice block dev.old dev.new }
+        ensures io { ReportsNoErrorButIo D.BlockDevice dev.old dev.new result }
+    {
+        let state = &mut *self.state;
+        let end = state.filled.next_multiple_of(state.geometry.page);
+        fill_buffer_range_with_byte(&mut state.buffer, state.filled as usize, end as usize, 0xff);
+        let buffer = state.buffer.as_mut_slice();
+        write_block(dev, &mut state.front, block, buffer, end)?;
+        Ok(())
+    }
+
+    /// Ends the list: writes the block that isn't full. Returns the number of the list's last block
+    /// and the list's size in bytes. Where nothing was pushed after `resume`, the last block is one
+    /// of the old list's.
+    ///
+    /// The caller's conditions: there is at least one byte, and the bytes aren't in memory alone.
+    /// The device holds the list as the last call of the extender left it.
+    ///
+    /// Errors: `Io` where the device failed.
+    pub fn finish<D: BlockDevice>(mut self, dev: &mut D) -> Result<(u32, u32), Error>
+        requires { CanFinishGrowingList D.BlockDevice dev.old self }
+        ensures finished { IfOk result (λ r. IsSkipListWithBytesAndBlocks (D.blocks dev.new) self.geometry.block_size r.0 r.1 (bytes_of_growing_list (D.blocks dev.old) self) (blocks_of_growing_list (D.blocks dev.old) self)) }
+        ensures size { IfOk result (λ r. r.1 ≡ size_of_growing_list self) }
+        ensures no_call { unwritten_block_of_list self ≡ [] → (D.history dev.new ≡ D.history dev.old) × (D.blocks dev.new ≡ D.blocks dev.old) }
+        ensures writes { OnOk result (AddsOneEraseAndProgramPerBlock 0 (length (unwritten_block_of_list self)) (D.history dev.old) (D.history dev.new)) }
+        ensures few { OnOk result (WritesLastBlockByFewReads self (D.history dev.old) (D.history dev.new)) }
+        ensures device { ChangesOnlyTheseBlocks D.BlockDevice (unwritten_block_of_list self) dev.old dev.new }
+        ensures io { ReportsNoErrorButIo D.BlockDevice dev.old dev.new result }
+    {
+        let state = &*self.state;
+        let head = state.front.head;
+        let size = state.size;
+        match state.stand {
+            RestLocation::Closed => Ok((head, size)),
+            RestLocation::Held => Ok((head, size)),
+            RestLocation::Shared(block) => Ok((block, size)),
+            RestLocation::Handed(block) => {
+                self.write_last_block(dev, block)?;
+                Ok((block, size))
+            }
+        }
+    }
+}

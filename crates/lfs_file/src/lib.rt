@@ -1,0 +1,56 @@
+// SPDX-License-Identifier: BSD-3-Clause
+//! The bytes of files: skip lists of blocks on a device, and the contents of a file that is open
+//! for writing.
+//!
+//! Short contents are in memory. Longer ones are in a finished list, or in a list in hand over a
+//! finished one. The only buffer of contents is the one block of an extender.
+#![tactic(auto)]
+
+mod block;
+mod block_copies;
+mod completion;
+mod contents;
+mod extender;
+mod extensions;
+mod front;
+mod known;
+mod laws;
+mod list_cuts;
+mod list_ends;
+mod list_starts;
+mod memory;
+mod named_lists;
+mod new_sizes;
+mod other_places;
+mod part;
+mod read;
+mod releases;
+mod rest;
+mod shared_blocks;
+mod size;
+mod stored_list;
+mod taken_blocks;
+mod visits;
+mod way;
+mod writes;
+mod zeros;
+
+pub use completion::{finish_contents, release_all_blocks_in_flight};
+pub use contents::{WriterContents, make_contents_in_memory, write_contents};
+pub use extender::Extender;
+pub use front::list_head_for_first_bytes;
+pub use known::KnownBlocks;
+pub use laws::{
+    contents_forms_fit_writer_after_calls, reserved_blocks_suffice_for_calls,
+    settled_map_has_exactly_image_blocks,
+};
+pub use memory::load_first_bytes_of_list_into_memory;
+pub use named_lists::settle_list;
+pub use new_sizes::truncate_contents;
+pub use part::BlockPart;
+pub use read::{head_of_list_before_block, read_at};
+pub use rest::RestLocation;
+pub use size::{blocks_for, place};
+pub use stored_list::StoredList;
+pub use visits::walk;
+pub use writes::PendingList;

@@ -1,0 +1,108 @@
+// Lists that a commit names.
+
+ghost use Rattle.std.specs.Prelude.{◌≡◌, ◌≤◌, ◌<◌, ◌+◌, ◌-◌, ◌*◌, ◌∷◌, ◌++◌, ℕ, [], drop, length, OnOk};
+ghost use Rattle.lfs_device.specs.Calls.{ReadsOnly};
+ghost use Rattle.lfs_model.specs.BlockSets.{Used};
+ghost use Rattle.lfs_model.specs.History.{read_count_of_history};
+ghost use Rattle.lfs_model.specs.SkipLists.{AreListBlocks, list_blocks_from_head};
+ghost use Rattle.lfs_file.specs.Calls.{ReportsNoErrorButIo};
+ghost use Rattle.lfs_file.specs.Bases.{IsSkipListOnDiskUnlessEmpty, list_blocks_by_head_and_size};
+ghost use Rattle.lfs_file.specs.SettledMaps.{MarksNewListUsedAndOldFree, KeepsStatesOfOtherBlocks, PutsBlocksInState, AreSharedBlocksUsed, used_or_free_block_state};
+ghost use Rattle.lfs_file.specs.SharedBlocks.{IsCountOfSharedFrontBlocks, count_of_unshared_blocks_in_both_lists};
+
+use crate::shared_blocks::shared_block_count;
+use crate::stored_list::StoredList;
+use crate::{blocks_for, head_of_list_before_block};
+use lfs_blocks::BlockMap;
+use lfs_device::{BlockDevice, Error};
+
+// Makes a block used, whatever its state.
+fn make_block_used(map: &mut BlockMap, block: u32)
+    requires { block < length map.old }
+    ensures { PutsBlocksInState Used map.old map.new (block ∷ []) }
+{
+    if map.is_in_flight(block) {
+        map.settle(block);
+        return;
+    }
+    map.mark(block);
+}
+
+// Makes a block used, or free.
+fn make_block_used_or_free(map: &mut BlockMap, block: u32, used: bool)
+    requires { block < length map.old }
+    ensures { PutsBlocksInState (used_or_free_block_state used) map.old map.new (block ∷ []) }
+{
+    if used {
+        make_block_used(map, block);
+        return;
+    }
+    map.release(block);
+}
+
+// Makes each block of a list from an index on used, or free, the last one first.
+fn make_list_blocks_from_index_used_or_free<D: BlockDevice>(
+    dev: &mut D,
+    map: &mut BlockMap,
+    head: u32,
+    count: u32,
+    from: u32,
+    used: bool,
+) -> Result<(), Error>
+    requires chain { AreListBlocks (D.blocks dev.old) count head }
+    requires map { length map.old ≡ length (D.blocks dev.old) }
+    requires within { from ≤ count }
+    ensures put { OnOk result (PutsBlocksInState (used_or_free_block_state used) map.old map.new (drop from (list_blocks_from_head (D.blocks dev.old) count head))) }
+    ensures others { KeepsStatesOfOtherBlocks map.old map.new (list_blocks_from_head (D.blocks dev.old) count head) }
+    ensures device { ReadsOnly D.BlockDevice dev.old dev.new }
+    ensures reports { ReportsNoErrorButIo D.BlockDevice dev.old dev.new result }
+    ensures few { OnOk result (read_count_of_history (D.history dev.new) ≤ read_count_of_history (D.history dev.old) + (count - from)) }
+{
+    let mut block = head;
+    let mut index = count;
+    'putting: while index > from {
+        make_block_used_or_free(map, block, used);
+        index -= 1;
+        block = head_of_list_before_block(dev, block, index - from)?;
+    }
+    Ok(())
+}
+
+/// Settles a finished list after a commit that names it. Its blocks are used, and those that only
+/// the list before it had are free. Blocks that both lists have are used before.
+///
+/// Either list may have no bytes, and then has no block. The blocks that both share at their
+/// beginnings aren't read, and each other one at most twice.
+///
+/// Errors: `Io` where the device failed. The map is of no use for these blocks then, and the image
+/// has to be read anew.
+pub fn settle_list<D: BlockDevice>(
+    dev: &mut D,
+    map: &mut BlockMap,
+    before: StoredList,
+    stored: StoredList,
+) -> Result<(), Error>
+    requires before { IsSkipListOnDiskUnlessEmpty (D.blocks dev.old) (D.geometry dev.old).block_size before.head before.size }
+    requires stored { IsSkipListOnDiskUnlessEmpty (D.blocks dev.old) (D.geometry dev.old).block_size stored.head stored.size }
+    requires map { length map.old ≡ length (D.blocks dev.old) }
+    requires shared { AreSharedBlocksUsed map.old (list_blocks_by_head_and_size (D.blocks dev.old) (D.geometry dev.old).block_size before.head before.size)
+        (list_blocks_by_head_and_size (D.blocks dev.old) (D.geometry dev.old).block_size stored.head stored.size) }
+    ensures settled { OnOk result (MarksNewListUsedAndOldFree map.old map.new (list_blocks_by_head_and_size (D.blocks dev.old) (D.geometry dev.old).block_size before.head before.size)
+        (list_blocks_by_head_and_size (D.blocks dev.old) (D.geometry dev.old).block_size stored.head stored.size)) }
+    ensures others { KeepsStatesOfOtherBlocks map.old map.new (list_blocks_by_head_and_size (D.blocks dev.old) (D.geometry dev.old).block_size before.head before.size
+        ++ list_blocks_by_head_and_size (D.blocks dev.old) (D.geometry dev.old).block_size stored.head stored.size) }
+    ensures device { ReadsOnly D.BlockDevice dev.old dev.new }
+    ensures reports { ReportsNoErrorButIo D.BlockDevice dev.old dev.new result }
+    ensures few { (n : ℕ) → IsCountOfSharedFrontBlocks (list_blocks_by_head_and_size (D.blocks dev.old) (D.geometry dev.old).block_size before.head before.size)
+        (list_blocks_by_head_and_size (D.blocks dev.old) (D.geometry dev.old).block_size stored.head stored.size) n
+        → OnOk result (read_count_of_history (D.history dev.new) ≤ read_count_of_history (D.history dev.old) + 2 * count_of_unshared_blocks_in_both_lists (list_blocks_by_head_and_size (D.blocks dev.old) (D.geometry dev.old).block_size before.head before.size)
+        (list_blocks_by_head_and_size (D.blocks dev.old) (D.geometry dev.old).block_size stored.head stored.size) n) }
+{
+    let block_size = dev.geometry().block_size;
+    let gone = blocks_for(block_size, before.size);
+    let kept = blocks_for(block_size, stored.size);
+    let shared = shared_block_count(dev, before.head, gone, stored.head, kept)?;
+    make_list_blocks_from_index_used_or_free(dev, map, before.head, gone, shared, false)?;
+    make_list_blocks_from_index_used_or_free(dev, map, stored.head, kept, shared, true)?;
+    Ok(())
+}

@@ -1,0 +1,115 @@
+// The way from a list's last block back to its first one.
+
+ghost use Rattle.std.specs.Prelude.{◌≡◌, ◌≤◌, ◌<◌, ◌+◌, ◌*◌, ◌↔◌, length, OnOk, IfOk, IfErr, IsErrOf, IsTrue, slice_index};
+ghost use Rattle.lfs_device.specs.Calls.{ReadsOnly, ReportsFaults};
+ghost use Rattle.lfs_model.specs.History.{read_count_of_history};
+ghost use Rattle.lfs_model.specs.SkipLists.{AreListBlocks, list_blocks_from_head, word_at_offset};
+ghost use Rattle.lfs_file.specs.Calls.{OnlyReadsAndReportsIoOrCorrupt};
+ghost use Rattle.lfs_file.specs.Right.{AreBlockPointersCopiedToWordList};
+ghost use Rattle.lfs_file.specs.Way.{HasNotedPointersOfWalkedBlocks, IsIndexVisitedByHighestPointers, HasNotedPointersAndBlocksOfWalk, ReadsListBlockOnceUnlessNoted, count_of_highest_pointer_visits_up_to_index};
+
+use crate::read::{pointer_count_at_index, read_block_bytes_into_buffer_range};
+use byteorder::{ByteOrder, LittleEndian};
+use lfs_device::{BlockDevice, Error};
+
+// The blocks on the way, each with its pointers, at the number of zeros in which its index ends. No
+// two indices end in as many zeros.
+#[derive(Drop)]
+pub(crate) struct WalkedBlocks {
+    pub blocks: [u32; 32],
+    // Each block has 32 words.
+    pub words: [u8; 4096],
+}
+
+impl WalkedBlocks {
+    // Makes a way without blocks.
+    pub fn new() -> Self {
+        Self {
+            blocks: [0; 32],
+            words: [0; 4096],
+        }
+    }
+}
+
+// Returns the word at a place.
+pub(crate) fn word_of_byte_slice_at_offset(words: &[u8], at: usize) -> u32
+    requires { at + 4 ≤ length words.now }
+    ensures { result ≡ word_at_offset words.now at }
+{
+    LittleEndian::read_u32(&words[at..at + 4])
+}
+
+// Returns whether the block at this index is on the way.
+fn is_block_index_visited_by_highest_pointers(index: u32, last: u32) -> bool
+    requires some { 0 < index }
+    requires order { index ≤ last }
+    ensures { IsTrue result ↔ IsIndexVisitedByHighestPointers last index }
+{
+    last - index < 1 << index.trailing_zeros()
+}
+
+// Returns the first block of a list, and notes the blocks on the way to it. Each block of the way
+// is read once.
+pub(crate) fn find_first_block_and_note_walked_blocks<D: BlockDevice>(
+    dev: &mut D,
+    head: u32,
+    last: u32,
+    way: &mut WalkedBlocks,
+) -> Result<u32, Error>
+    ensures found { AreListBlocks (D.blocks dev.old) (last + 1) head → IfOk result (λ b. b ≡ slice_index (list_blocks_from_head (D.blocks dev.old) (last + 1) head) 0) }
+    ensures in_range { IfOk result (λ b. b < (D.geometry dev.old).block_count) }
+    ensures corrupt { IsErrOf result Error.Corrupt → ¬ AreListBlocks (D.blocks dev.old) (last + 1) head }
+    ensures noted { OnOk result (HasNotedPointersAndBlocksOfWalk (D.blocks dev.old) head last 0 way.new) }
+    ensures reading { OnlyReadsAndReportsIoOrCorrupt D.BlockDevice dev.old dev.new result }
+    ensures few { OnOk result (read_count_of_history (D.history dev.new) ≤ read_count_of_history (D.history dev.old) + count_of_highest_pointer_visits_up_to_index last last) }
+{
+    let count = dev.geometry().block_count;
+    let mut block = head;
+    let mut at = last;
+    while at > 0 {
+        if block >= count {
+            return Err(Error::Corrupt);
+        }
+        let zeros = at.trailing_zeros();
+        let row = 128 * zeros as usize;
+        read_block_bytes_into_buffer_range(dev, block, 0, &mut way.words, row, 4 * (zeros + 1))?;
+        way.blocks[zeros as usize] = block;
+        block = word_of_byte_slice_at_offset(&way.words, row + 4 * zeros as usize);
+        at -= 1 << zeros;
+    }
+    if block >= count {
+        return Err(Error::Corrupt);
+    }
+    Ok(block)
+}
+
+// Notes the pointers of a block of the list over the words. The call takes one read where the block
+// isn't on the way.
+pub(crate) fn copy_pointers_of_block_to_words<D: BlockDevice>(
+    dev: &mut D,
+    block: u32,
+    index: u32,
+    last: u32,
+    way: &WalkedBlocks,
+    words: &mut [u8],
+) -> Result<(), Error>
+    requires some { 0 < index }
+    requires order { index ≤ last }
+    requires in_device { block < (D.geometry dev.old).block_count }
+    requires room { length words.old ≡ 128 }
+    requires way { HasNotedPointersOfWalkedBlocks (D.blocks dev.old) last 0 way.now }
+    ensures noted { OnOk result (AreBlockPointersCopiedToWordList (D.blocks dev.old) block index words.old words.new) }
+    ensures device { ReadsOnly D.BlockDevice dev.old dev.new }
+    ensures faults { ReportsFaults D.BlockDevice dev.old dev.new result }
+    ensures errors { IfErr result (λ e. e ≡ Error.Io) }
+    ensures reads { ReadsListBlockOnceUnlessNoted way.now last index block (D.history dev.old) (D.history dev.new) }
+{
+    let zeros = index.trailing_zeros() as usize;
+    if is_block_index_visited_by_highest_pointers(index, last) && way.blocks[zeros] == block {
+        let len = 4 * (zeros + 1);
+        words[..len].copy_from_slice(&way.words[128 * zeros..128 * zeros + len]);
+        return Ok(());
+    }
+    read_block_bytes_into_buffer_range(dev, block, 0, words, 0, 4 * pointer_count_at_index(index))?;
+    Ok(())
+}

@@ -1,15 +1,29 @@
 -- Blocks to which later ones have pointers, by the rows in which they are known.
-use Rattle.std.proofs.Common.{ℕ, zero, suc, ◌≡◌, ◌≢◌, ◌≤◌, ◌<◌, ◌+◌, ◌-◌, ◌^◌, ⊎_elim, replicate, slice_index, refl, sym, ap, subst, arith}
+use Rattle.std.proofs.Common.{ℕ, zero, suc, ◌≡◌, ◌≢◌, ◌≤◌, ◌<◌, ◌+◌, ◌-◌, ◌^◌, ⊎_elim, replicate, slice_index, add-one, refl, sym, ap, subst, arith}
 use Rattle.std.proofs.lemmas.Bool.{cases_lt}
 use Rattle.std.proofs.lemmas.List.{get_or-replicate}
+use Rattle.std.proofs.Math.Nat.{pow-suc, one-le-pow}
+use Rattle.std.proofs.Math.Pow.{pow_mono}
+use Rattle.std.proofs.lemmas.Nat.{mul-le}
 use Rattle.std.proofs.lemmas.Nat.Bits.{bit_at-trailing_zeros}
 use Rattle.std.specs.Int.Count.{trailing_of_zero}
 use Rattle.std.specs.Int.{w32, trailing_zeros}
 use Rattle.lfs_model.specs.SkipLists.{pointer_count_of_list_block}
-use Rattle.lfs_file.specs.Known.{AreKnownIndicesBelow, ArePointedBlocksKnown, IsKnownIndex, no_known_blocks, row_of_index}
+use Rattle.lfs_file.specs.Known.{AreBlockPointersKnown, AreKnownIndicesBelow, ArePointedBlocksKnown, IsKnownIndex, no_known_blocks, row_of_index}
 use Rattle.lfs_file.specs.declared.known.KnownBlocks.{KnownBlocks}
 use Rattle.lfs_file.proofs.Chains.{pointer_count_of_list_block-pos}
-use Rattle.lfs_file.proofs.TrailingZeros.{zeros32-back, zeros32-between}
+use Rattle.lfs_file.proofs.TrailingZeros.{factor-pos, multiple_of_power, zeros32-back, zeros32-between}
+
+-- only a block after the first one has a pointer
+pub pointed_some : (n k : ℕ) → k < pointer_count_of_list_block n → 0 < n
+pointed_some zero k lt = absurd (omega arith)
+pointed_some (suc n) k lt = omega arith
+
+pow_less : (j k : ℕ) → j < k → 2 ^ j < 2 ^ k
+pow_less j k less =
+    let more : 2 ^ (j + 1) ≤ 2 ^ k = pow_mono (let le : j + 1 ≤ k = omega arith in le) in
+    let power = one-le-pow j 2 (omega arith) in
+    omega (arith, more, power, pow-suc 2 j, ap (λ e. 2 ^ e) (add-one j))
 
 pub none_below : (count : ℕ) → AreKnownIndicesBelow count no_known_blocks
 none_below count row lt small = (let none : slice_index (replicate 32 4294967295) row ≡ 4294967295 = get_or-replicate 32 row 4294967295 0 lt in absurd (omega (arith, none, small)))
@@ -31,11 +45,33 @@ other_row n m k low less lt more is =
     let high = high_row n k (n - 2 ^ k) (trailing_zeros w32 m) low (omega arith) (omega arith) fewer refl in
     omega arith
 
+-- a block's pointer leads back by no more than its index
+pub pointer_reach : (n k : ℕ) → n < 2 ^ 32 → k < pointer_count_of_list_block n → (1 ≤ 2 ^ k) × ((2 ^ k ≤ n) × (k ≤ 31))
+pointer_reach n k low lt =
+    let some : 0 < n = pointed_some n k lt in
+    let many = pointer_count_of_list_block-pos n some in
+    let few = (bit_at-trailing_zeros w32 n some low).0 in
+    let whole = multiple_of_power n k some low (omega arith) in
+    let factor = mul-le 1 (2 ^ k) whole.0 (2 ^ k) (factor-pos whole.0 (2 ^ k) n whole.1 some) (omega arith) in
+    (one-le-pow k 2 (omega arith), (omega (arith, factor, whole.1), omega arith))
+
+-- the blocks to which a block has pointers are in different rows
+pub pointers_apart : (n j k : ℕ) → n < 2 ^ 32 → j < k → k < pointer_count_of_list_block n → row_of_index (n - 2 ^ j) ≢ row_of_index (n - 2 ^ k)
+pointers_apart n j k low less lt is =
+    let far = pointer_reach n k low lt in
+    let near = pointer_reach n j low (omega arith) in
+    let more : 2 ^ j < 2 ^ k = pow_less j k less in
+    other_row n (n - 2 ^ j) k low (omega (arith, near.0, near.1.0)) lt (omega (arith, far.1.0, more)) (sym is)
+
+-- the pointers of the next block are among those that are known
+pub next_pointers : (n : ℕ) (known : KnownBlocks) → n < 2 ^ 32 → ArePointedBlocksKnown n known → AreBlockPointersKnown n known
+next_pointers n known low all k lt = (let far = pointer_reach n k low lt in all n k (omega arith) low lt (omega (arith, far.0, far.1.0)))
+
 -- with one more block that is known
 pub pointed_more : (count : ℕ) (known later : KnownBlocks) → IsKnownIndex later count → ((i : ℕ) → row_of_index i ≢ row_of_index count → IsKnownIndex known i → IsKnownIndex later i) → ArePointedBlocksKnown count known
     → ArePointedBlocksKnown (count + 1) later
-pointed_more count known later here others all n k le low some lt less =
+pointed_more count known later here others all n k le low lt less =
     ⊎_elim
-    (λ below. others (n - 2 ^ k) (other_row n count k low (omega arith) lt below) (all n k (omega arith) low some lt below))
+    (λ below. others (n - 2 ^ k) (other_row n count k low (omega arith) lt below) (all n k (omega arith) low lt below))
     (λ past. let is : n - 2 ^ k ≡ count = omega arith in subst (IsKnownIndex later) (sym is) here)
     (cases_lt (n - 2 ^ k) count)

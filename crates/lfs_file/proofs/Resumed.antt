@@ -13,6 +13,7 @@ use Rattle.lfs_file.specs.Growing.{data_of_list_blocks, AreLastBytesInSharedBloc
 use Rattle.lfs_file.proofs.Sizes.{pointer_count_of_list_block-le, list_block_count_for_size-place, place-lt}
 use Rattle.lfs_file.proofs.Chains.{length_back, back-pointer0}
 use Rattle.lfs_file.proofs.Filling.{none_chain}
+use Rattle.lfs_file.proofs.Pointed.{pointed_some}
 use Rattle.lfs_file.proofs.Joined.{joined_from, joined-append, length-joined, back_prefix}
 use Rattle.lfs_model.proofs.ListSizes.{AllSized}
 
@@ -144,6 +145,16 @@ module _ (d : Blocks) (block_size count head size keep i off block : ℕ) (large
 
     pub before_chain : AreListBlocks d i before
     before_chain = before_chain_at i refl
+
+    -- its pointers lead to them
+    pub before_leads : (k : ℕ) → k < pointer_count_of_list_block i → word_at_offset (block_bytes_by_number d block) (4 * k) ≡ slice_index (list_blocks_from_head d i before) (i - 2 ^ k)
+    before_leads k lt =
+        let l = low in
+        let power = one-le-pow k 2 (omega arith) in
+        let some = pointed_some i k lt in
+        ap (λ b. word_at_offset (block_bytes_by_number d b) (4 * k)) is
+        ∙ list.blocks.pointers i k l lt
+        ∙ sym (ap (λ (all : List ℕ). slice_index all (i - 2 ^ k)) (before_back i refl) ∙ get_or-take i bs (i - 2 ^ k) 0 (omega arith))
 
     last_more : list_blocks_from_head d i before ++ block ∷ [] ≡ take (i + 1) bs
     last_more =

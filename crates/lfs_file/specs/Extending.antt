@@ -6,7 +6,7 @@ use Rattle.lfs_device.specs.declared.geometry.Geometry.{Geometry}
 use Rattle.lfs_model.specs.Blocks.{Blocks}
 use Rattle.lfs_model.specs.SkipLists.{AreListBlocks, IsSkipList, list_blocks_from_head, list_block_count_for_size, bytes_of_skip_list}
 use Rattle.lfs_file.specs.Extended.{GrowingListHasBytesAndBlocks}
-use Rattle.lfs_file.specs.Known.{ArePointedBlocksKnown}
+use Rattle.lfs_file.specs.Known.{AreBlockPointersKnown, ArePointedBlocksKnown}
 use Rattle.lfs_file.specs.Growing.{GrowingList, HasGrowingListOnDisk, HasAllBytesInBuffer, HasUnwrittenBlockAmongTheseBlocks, bytes_of_growing_list, size_of_growing_list, are_last_bytes_of_list_only_in_buffer, blocks_kept_when_growing, count_of_blocks_to_append, unwritten_block_of_list}
 
 -- an empty list of a device
@@ -21,12 +21,14 @@ pub record CanResumeListAfterFirstBytes (disk : Blocks) (block_size head size ke
   pub some : 1 ≤ keep
   pub within : keep ≤ size
 
--- The first bytes of a list, in its blocks. The full blocks stay the list's when it grows.
+-- The first bytes of a list, in its blocks. The full blocks stay the list's when it grows. Where the last block isn't full, its
+-- pointers are known.
 pub record IsResumedList (disk : Blocks) (divided : Geometry) (head size keep : ℕ) (list : GrowingList) : Type 0 where
   pub grown : GrowingListHasBytesAndBlocks divided disk list (take keep (bytes_of_skip_list disk divided.block_size head size)) keep
       (take list.full (list_blocks_from_head disk (list_block_count_for_size divided.block_size size) head))
       (take (list_block_count_for_size divided.block_size keep) (list_blocks_from_head disk (list_block_count_for_size divided.block_size size) head))
   pub waits : HasUnwrittenBlockAmongTheseBlocks [] list
+  pub known : 1 ≤ length list.rest → AreBlockPointersKnown list.full list.known
 
 -- all its bytes are these, in memory and in no block
 pub record HasTheseBytesOnlyInBuffer (divided : Geometry) (list : GrowingList) (bytes : List ℕ) : Type 0 where

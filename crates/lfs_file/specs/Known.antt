@@ -24,14 +24,25 @@ row_of_index index = min (trailing_zeros w32 index) 31
 abbrev pub IsKnownIndex : KnownBlocks → ℕ → Type 0
 IsKnownIndex known index = slice_index known.indices (row_of_index index) ≡ index
 
--- Each block before an index to which a block from that index on has a pointer, besides its first one, is known.
+-- each block to which the one at an index has a pointer is known
+abbrev pub AreBlockPointersKnown : ℕ → KnownBlocks → Type 0
+AreBlockPointersKnown index known = (k : ℕ) → k < pointer_count_of_list_block index → IsKnownIndex known (index - 2 ^ k)
+
+-- each block before an index to which a block from that index on has a pointer is known
 abbrev pub ArePointedBlocksKnown : ℕ → KnownBlocks → Type 0
-ArePointedBlocksKnown count known = (n k : ℕ) → count ≤ n → n < 2 ^ 32 → 1 ≤ k → k < pointer_count_of_list_block n → n - 2 ^ k < count → IsKnownIndex known (n - 2 ^ k)
+ArePointedBlocksKnown count known = (n k : ℕ) → count ≤ n → n < 2 ^ 32 → k < pointer_count_of_list_block n → n - 2 ^ k < count → IsKnownIndex known (n - 2 ^ k)
+
+-- The block at an index of a list was found from its last one, by so many reads at most as twice the logarithm of the list's
+-- length, and as the index is before the last.
+pub record WalksByFewReads (last index : ℕ) (old new : List DeviceCallEvent) : Type 0 where
+  pub few : (m : ℕ) → last < 2 ^ m → read_count_of_history new ≤ read_count_of_history old + 2 * m
+  pub near : read_count_of_history new ≤ read_count_of_history old + (last - index)
 
 -- The block at an index was found, by so many reads at most as twice the logarithm of the list's length, and as the index is
--- before one that was known.
+-- before the last or one that was known.
 pub record FindsByFewReads (known : KnownBlocks) (last index : ℕ) (later : KnownBlocks) (old new : List DeviceCallEvent) : Type 0 where
   pub now : IsKnownIndex later index
+  pub far : read_count_of_history new ≤ read_count_of_history old + (last - index)
   pub few : (m : ℕ) → last < 2 ^ m → read_count_of_history new ≤ read_count_of_history old + 2 * m
   pub near : (i : ℕ) → IsKnownIndex known i → index ≤ i → i ≤ last → read_count_of_history new ≤ read_count_of_history old + (i - index)
 

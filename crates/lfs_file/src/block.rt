@@ -5,12 +5,13 @@ ghost use Rattle.lfs_file.specs.Calls.{ReportsNoErrorButIo};
 ghost use Rattle.lfs_file.specs.Counts.{AddsOneEraseAndProgramPerBlock};
 ghost use Rattle.lfs_file.specs.Extending.{IsDeviceBlockOutsideFullBlocksOfList};
 ghost use Rattle.lfs_file.specs.Front.{KeepsFullBlocks, ReadsOnlyUnknownPointers};
-ghost use Rattle.lfs_file.specs.Known.{AreKnownIndicesBelow, AreKnownListBlocks, ArePointedBlocksKnown};
+ghost use Rattle.lfs_file.specs.Known.{AreBlockPointersKnown, AreKnownIndicesBelow, AreKnownListBlocks, ArePointedBlocksKnown};
 ghost use Rattle.lfs_device.specs.Calls.{ChangesOnlyThisBlock, ReadsOnly};
 ghost use Rattle.lfs_model.specs.Blocks.{block_bytes_by_number};
 ghost use Rattle.lfs_model.specs.SkipLists.{AreListBlocks, list_blocks_from_head, pointer_count_of_list_block, word_at_offset};
 
 use crate::known::KnownBlocks;
+use crate::read::pointer_count_at_index;
 use byteorder::{ByteOrder, LittleEndian};
 use lfs_device::{BlockDevice, Error};
 
@@ -36,6 +37,28 @@ impl FullBlocks {
             head,
             known: KnownBlocks::new(),
         }
+    }
+
+    // Makes the full blocks of a list before the block at an index. The bytes begin with the pointers
+    // of that block, and those lead to known blocks.
+    pub(crate) fn before_block(index: u32, bytes: &[u8]) -> FullBlocks
+        requires { 4 * pointer_count_of_list_block index ≤ length bytes.now }
+        ensures made { result ≡ record { count = index; head = result.head; known = result.known } }
+        ensures head { 0 < index → result.head ≡ word_at_offset bytes.now 0 }
+        ensures known { (all : List ℕ) → ((k : ℕ) → k < pointer_count_of_list_block index → word_at_offset bytes.now (4 * k) ≡ slice_index all (index - 2 ^ k)) → AreKnownListBlocks all result.known }
+        ensures below { AreKnownIndicesBelow index result.known }
+        ensures pointers { AreBlockPointersKnown index result.known }
+    {
+        if index == 0 {
+            return FullBlocks::new(0, 0);
+        }
+        let mut front = FullBlocks::new(index, LittleEndian::read_u32(&bytes[..4]));
+        for k in 0..pointer_count_at_index(index) {
+            let at = 4 * k as usize;
+            let block = LittleEndian::read_u32(&bytes[at..at + 4]);
+            front.known.note(index - (1 << k), block);
+        }
+        front
     }
 
     // Adds a block after them.

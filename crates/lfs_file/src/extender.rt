@@ -4,7 +4,7 @@ ghost use Rattle.lfs_file.specs.Calls.{ReportsNoErrorButIo, ReportsIoOrNoMemory}
 ghost use Rattle.lfs_file.specs.Counts.{AddsOneEraseAndProgramPerBlock};
 ghost use Rattle.lfs_file.specs.Extended.{GrowingListHasBytesAndBlocks};
 ghost use Rattle.lfs_file.specs.Extending.{CanFinishGrowingList, IsDeviceBlockOutsideFullBlocksOfList, CanPushBytesToList, CanResumeListAfterFirstBytes, HasTheseBytesOnlyInBuffer, HasPushedBytesToList, IsResumedList, IsStartedEmptyList};
-ghost use Rattle.lfs_file.specs.FewReads.{FillsBlocksByFewReads, WritesLastBlockByFewReads};
+ghost use Rattle.lfs_file.specs.FewReads.{FillsBlocksByFewReads, ResumesByFewReads, WritesLastBlockByFewReads};
 ghost use Rattle.lfs_file.specs.Fields.{HasOneBlockBufferAndConsistentNumbers, growing_list_view};
 ghost use Rattle.lfs_file.specs.Finished.{IsSkipListWithBytesAndBlocks};
 ghost use Rattle.lfs_file.specs.Growing.{HasAllBytesInBuffer, HasUnwrittenBlockAmongTheseBlocks, blocks_of_growing_list, bytes_of_growing_list, size_of_growing_list, count_of_blocks_to_append, block_for_next_bytes_with_used_count, unwritten_block_of_list};
@@ -16,8 +16,7 @@ ghost use Rattle.lfs_model.specs.SkipLists.{list_blocks_from_head, list_block_co
 
 use crate::block::{FullBlocks, write_block};
 use crate::read::{
-    find_block_at_index, head_of_list_before_block, pointer_count_at_index,
-    read_block_bytes_into_buffer_range,
+    find_block_at_index, pointer_count_at_index, read_block_bytes_into_buffer_range,
 };
 use crate::{RestLocation, blocks_for, place};
 use lfs_device::{BlockDevice, Error, Geometry};
@@ -123,6 +122,7 @@ impl Extender {
         requires { CanResumeListAfterFirstBytes (D.blocks dev.old) (D.geometry dev.old).block_size head size keep }
         ensures resumed { IfOk result (IsResumedList (D.blocks dev.old) (D.geometry dev.old) head size keep) }
         ensures device { ReadsOnly D.BlockDevice dev.old dev.new }
+        ensures few { OnOk result (ResumesByFewReads (D.geometry dev.old).block_size size keep (D.history dev.old) (D.history dev.new)) }
         ensures reports { ReportsIoOrNoMemory D.BlockDevice dev.old dev.new result }
     {
         let geometry = dev.geometry();
@@ -141,12 +141,12 @@ impl Extender {
             };
             return Extender::of_state(alloc, state);
         }
-        let head = head_of_list_before_block(dev, block, index)?;
         read_block_bytes_into_buffer_range(dev, block, 0, buffer.as_mut_slice(), 0, off + 1)?;
+        let front = FullBlocks::before_block(index, buffer.as_slice());
         let state = ExtenderState {
             geometry,
             buffer,
-            front: FullBlocks::new(index, head),
+            front,
             filled: off + 1,
             size: keep,
             stand: RestLocation::Shared(block),

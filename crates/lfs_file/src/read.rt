@@ -3,6 +3,7 @@ ghost use Rattle.lfs_model.specs.Blocks.{block_bytes_by_number};
 ghost use Rattle.lfs_device.specs.Calls.{ReadsOnly, ReportsFaults};
 ghost use Rattle.lfs_model.specs.History.{read_count_of_history};
 ghost use Rattle.lfs_file.specs.Calls.{OnlyReadsAndReportsIoOrCorrupt};
+ghost use Rattle.lfs_file.specs.Known.{WalksByFewReads};
 ghost use Rattle.lfs_model.specs.SkipLists.{AreListBlocks, IsSkipList, IsPlaceOfByteInList, list_blocks_from_head, list_block_count_for_size, bytes_of_skip_list, pointer_count_of_list_block, word_at_offset};
 
 use crate::known::KnownBlocks;
@@ -42,7 +43,7 @@ pub(crate) fn find_block_at_index<D: BlockDevice>(
     ensures in_range { IfOk result (λ b. b < (D.geometry dev.old).block_count) }
     ensures corrupt { IsErrOf result Error.Corrupt → ¬ AreListBlocks (D.blocks dev.old) (last + 1) head }
     ensures reading { OnlyReadsAndReportsIoOrCorrupt D.BlockDevice dev.old dev.new result }
-    ensures few { (m : ℕ) → last < 2 ^ m → OnOk result (read_count_of_history (D.history dev.new) ≤ read_count_of_history (D.history dev.old) + 2 * m) }
+    ensures few { OnOk result (WalksByFewReads last index (D.history dev.old) (D.history dev.new)) }
 {
     KnownBlocks::new().find_block(dev, head, last, index)
 }

@@ -157,7 +157,7 @@ loop-k-preserved g c =
       few = (let so_far = inv.few in omega arith);
       none = λ all.
           let so_far = inv.none all in
-          let known = all index (k + 1) (omega arith) (omega arith) (omega arith) (omega arith) (omega (arith, far.1.0, far.1.1)) in
+          let known = all (k + 1) (omega arith) in
           let here = c.block_at_pointer.ensures.known (subst (λ n. IsKnownIndex c.loop-k.front.known (index - n)) (sym far.0) (subst (λ (x : KnownBlocks). IsKnownIndex x (index - 2 ^ (k + 1))) (sym so_far.0) known)) in
           (here.0 ∙ so_far.0, here.1 ∙ so_far.1);
       device = read_on g.D.BlockDevice inv.device c.block_at_pointer.ensures.reading.device;

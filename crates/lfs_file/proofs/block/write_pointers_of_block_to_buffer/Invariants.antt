@@ -3,7 +3,7 @@ use Rattle.lfs_device.specs.Calls.{ReadsOnly}
 use Rattle.lfs_model.specs.History.{fault_count_of_history, read_count_of_history}
 use Rattle.lfs_model.specs.SkipLists.{list_blocks_from_head, pointer_count_of_list_block, word_at_offset}
 use Rattle.lfs_file.specs.Front.{KeepsFullBlocks}
-use Rattle.lfs_file.specs.Known.{ArePointedBlocksKnown}
+use Rattle.lfs_file.specs.Known.{AreBlockPointersKnown}
 use Rattle.lfs_file.proofs.block.write_pointers_of_block_to_buffer.Given as goal
 
 abbrev pub invariant-loop-k : goal.invariant-loop-k
@@ -19,7 +19,7 @@ invariant-loop-k g l =
       len : length l.buf ≡ length l.fn.buf;
       front : KeepsFullBlocks (list_blocks_from_head (blocks old) l.index head) l.fn.front l.front;
       few : read_count_of_history (history l.dev) ≤ read_count_of_history (history old) + l.k;
-      none : ArePointedBlocksKnown l.index l.fn.front.known → (l.front.known ≡ l.fn.front.known) × (read_count_of_history (history l.dev) ≡ read_count_of_history (history old));
+      none : AreBlockPointersKnown l.index l.fn.front.known → (l.front.known ≡ l.fn.front.known) × (read_count_of_history (history l.dev) ≡ read_count_of_history (history old));
       device : ReadsOnly g.D.BlockDevice old l.dev;
       quiet : fault_count_of_history (history l.dev) ≡ fault_count_of_history (history old);
     }

@@ -12,6 +12,7 @@ use Rattle.lfs_file.specs.FewReads.{FillsBlocksByFewReads, further_pointer_count
 use Rattle.lfs_file.specs.Filled.{AreExtenderNumbersConsistent}
 use Rattle.lfs_file.specs.Known.{AreKnownListBlocks, ArePointedBlocksKnown}
 use Rattle.lfs_file.proofs.Chains.{length_back}
+use Rattle.lfs_file.proofs.Pointed.{next_pointers}
 use Rattle.lfs_file.specs.Extended.{GrowingListHasBytesAndBlocks}
 use Rattle.lfs_file.specs.Extending.{IsDeviceBlockOutsideFullBlocksOfList}
 use Rattle.lfs_file.specs.Fields.{HasOneBlockBufferAndConsistentNumbers, growing_list_view}
@@ -112,8 +113,11 @@ returns-clause-few g c =
     (record {
       few = omega (arith, read.few, ap further_pointer_count count, ap further_pointer_count (add-one e.front.count));
       none = λ all.
-          let none = read.none all in
+          let none = read.none (next_pointers e.front.count e.front.known (omega arith) all) in
           (none.1, c.add.ensures.later (subst (ArePointedBlocksKnown c.write_block.new.front.count) (sym none.0) (subst (λ n. ArePointedBlocksKnown n e.front.known) (sym same) all)));
+      longer = omega (arith, count);
+      unfilled = λ same. absurd (omega (arith, same, count));
+      first = λ known more. (let none = read.none known in omega (arith, none.1, ap further_pointer_count count));
     })
 
 pub overflow_add-state-2 : goal.overflow_add-state-2

@@ -1,6 +1,10 @@
-use Rattle.std.proofs.Common.{ℕ, ◌≡◌, ◌≢◌, ◌≤◌, ◌<◌, ◌+◌, ◌-◌, ◌++◌, List, [], ◌∷◌, length, take, drop, refl, sym, ap, subst, ◌∙◌, arith, append_assoc, length-append, length-drop}
+use Rattle.std.proofs.Common.{⊎_elim, ℕ, ◌≡◌, ◌≢◌, ◌≤◌, ◌<◌, ◌+◌, ◌-◌, ◌++◌, List, [], ◌∷◌, length, take, drop, refl, sym, ap, subst, ◌∙◌, arith, append_assoc, length-append, length-drop}
 use Rattle.std.specs.Prelude.{All}
 use Rattle.std.proofs.Math.Seq.{take-add}
+use Rattle.std.proofs.lemmas.Bool.{cases_lt}
+use Rattle.lfs_file.specs.FewReads.{FillsBlocksByFewReads, further_pointer_count}
+use Rattle.lfs_file.specs.Known.{AreBlockPointersKnown}
+use Rattle.lfs_model.specs.History.{DeviceCallEvent, read_count_of_history}
 use Rattle.std.proofs.lemmas.List.{append-nil, get_or_append_left, take_all, length-take-le, take-take}
 use Rattle.std.proofs.lemmas.List.Elements.{All-cons, All-nil}
 use Rattle.std.proofs.lemmas.Result.{err_from_is_err_and}
@@ -32,7 +36,7 @@ loop-done-init g c = record {
   same = refl;
   device = changes_none g.D.BlockDevice _ c.args.dev.now;
   writes = record { erased = refl; programmed = refl };
-  few = record { few = omega arith; none = λ all. (refl, all) };
+  few = record { few = omega arith; none = λ all. (refl, all); longer = omega arith; unfilled = λ same. (refl, refl); first = λ known more. absurd (omega arith) };
   quiet = refl;
 }
 
@@ -98,6 +102,19 @@ bytes_more front content bytes done n le few is =
           ∙ ap (λ (l : List ℕ). front ++ l) (sym (take-add done n bytes)),
     )
 
+-- the first block's pointers, whether that block is filled by the bytes that follow or was before
+first_known : {was mid now : GrowingList} {old between new : List DeviceCallEvent} → FillsBlocksByFewReads was mid old between → FillsBlocksByFewReads mid now between new → AreBlockPointersKnown was.full was.known → was.full < now.full
+    → read_count_of_history new + further_pointer_count (was.full + 1) ≤ read_count_of_history old + further_pointer_count now.full
+first_known {was} {mid} {now} before after known more =
+    ⊎_elim
+    (λ less. omega (arith, before.first known less, after.few))
+    (λ same.
+    let so_far = before.unfilled same in
+    let count : mid.full ≡ was.full = omega (arith, before.longer, same) in
+    let here = after.first (subst (λ n. AreBlockPointersKnown n mid.known) (sym count) (subst (AreBlockPointersKnown was.full) (sym so_far.1) known)) (omega (arith, count, more)) in
+    omega (arith, here, so_far.0, ap (λ n. further_pointer_count (n + 1)) count))
+    (cases_lt was.full mid.full)
+
 pub loop-done-preserved : goal.loop-done-preserved
 loop-done-preserved g c =
     let inv = c.loop-done.invariant in
@@ -129,6 +146,12 @@ loop-done-preserved g c =
             let so_far = inv.few.none all in
             let here = read.none so_far.1 in
             (here.0 ∙ so_far.0, here.1);
+        longer = omega (arith, read.longer, inv.few.longer);
+        unfilled = λ same.
+            let so_far = inv.few.unfilled (omega (arith, same, read.longer)) in
+            let here = read.unfilled (omega (arith, same, inv.few.longer)) in
+            (here.0 ∙ so_far.0, here.1 ∙ so_far.1);
+        first = first_known inv.few read;
       };
       quiet = quiet g.D.BlockDevice c.in_ok-done.ensures.io.faults ∙ inv.quiet;
     }

@@ -1,4 +1,4 @@
-use Rattle.std.proofs.Common.{refl, suc, ℕ, ◌≡◌, ◌≤◌, ◌<◌, ◌+◌, ◌-◌, ◌*◌, ◌++◌, ◌⊎◌, inl, inr, List, [], ◌∷◌, length, take, drop, slice_index, Result, Err, sym, ap, subst, ◌∙◌, arith, rules}
+use Rattle.std.proofs.Common.{refl, ℕ, ◌≡◌, ◌≤◌, ◌<◌, ◌+◌, ◌-◌, ◌*◌, ◌^◌, ◌++◌, ◌⊎◌, inl, inr, List, [], ◌∷◌, length, take, drop, slice_index, Result, Err, sym, ap, subst, ◌∙◌, arith, rules}
 use Rattle.std.specs.Vec.{with_items}
 use Rattle.std.proofs.lemmas.List.{append-nil, length-take, with_items_is}
 use Rattle.std.proofs.lemmas.Result.{IfOk-weaker, err_from_is_err_and}
@@ -10,16 +10,19 @@ use Rattle.lfs_file.specs.declared.block.FullBlocks.{FullBlocks}
 use Rattle.lfs_file.specs.declared.extender.ExtenderState.{ExtenderState}
 use Rattle.lfs_file.specs.declared.rest.RestLocation.TheVariants.{Closed, Shared}
 use Rattle.lfs_file.specs.Extending.{IsResumedList}
+use Rattle.lfs_file.specs.FewReads.{ResumesByFewReads}
+use Rattle.lfs_file.specs.Known.{AreKnownIndicesBelow, WalksByFewReads}
+use Rattle.lfs_model.specs.History.{DeviceCallEvent, read_count_of_history}
 use Rattle.lfs_file.specs.Fields.{growing_list_view}
 use Rattle.lfs_file.specs.Filled.{AreExtenderNumbersConsistent}
 use Rattle.lfs_file.specs.Growing.{GrowingList, data_of_list_blocks, AreLastBytesInSharedBlock}
-use Rattle.lfs_file.proofs.Sizes.{blocks_for-last, place-lt, pointer_count_of_list_block-le, place-le}
-use Rattle.lfs_file.proofs.Chains.{in_range_at, back-pointer0}
+use Rattle.lfs_file.proofs.Sizes.{list_block_count_for_size-place, blocks_for-last, place-lt, pointer_count_of_list_block-le, place-le}
+use Rattle.lfs_file.proofs.Chains.{pointer_count_of_list_block-pos}
 use Rattle.lfs_file.proofs.Geometries.{last_is, chain, sized, shaped}
-use Rattle.lfs_file.proofs.Called.{quiet, read_on, reported_as, reported_on}
+use Rattle.lfs_file.proofs.Called.{read_on, reported_as}
 use Rattle.lfs_file.proofs.Stands.{is_grown}
-use Rattle.lfs_file.proofs.Resumed.{front_back, front_chain, keep_full, full_content, full_blocks, before_chain, before_front, open_blocks, open_shared, open_content, rest_long}
-use Rattle.lfs_file.proofs.Words.{data-written}
+use Rattle.lfs_file.proofs.Resumed.{front_back, front_chain, keep_full, full_content, full_blocks, before_chain, before_front, open_blocks, open_shared, open_content, rest_long, before_leads}
+use Rattle.lfs_file.proofs.Words.{data-written, word_at_offset-written}
 use Rattle.lfs_file.proofs.extender.Extender.resume.Goals as goal
 
 pub overflow_sub-blocks_for : goal.overflow_sub-blocks_for
@@ -98,6 +101,7 @@ record IsOpen (d : Blocks) (geometry made : Geometry) (head size keep i off bloc
   content : data_of_list_blocks d (list_blocks_from_head d i before) ++ rest ≡ take keep (bytes_of_skip_list d geometry.block_size head size)
   blocks_are : list_blocks_from_head d i before ++ block ∷ [] ≡ take (list_block_count_for_size geometry.block_size keep) (list_blocks_from_head d (list_block_count_for_size geometry.block_size size) head)
   sum : keep ≡ byte_count_before_list_block made.block_size i + length rest
+  leads : (k : ℕ) → k < pointer_count_of_list_block i → word_at_offset (block_bytes_by_number d block) (4 * k) ≡ slice_index (list_blocks_from_head d i before) (i - 2 ^ k)
 
 is_open : (d : Blocks) (geometry made : Geometry) (head size keep n i off block before : ℕ) (rest : List ℕ) → made ≡ geometry → n ≡ list_block_count_for_size made.block_size size
     → HasBlocksOfCountAndSize geometry.block_size geometry.block_count d → IsSkipList d geometry.block_size head size → 1 ≤ keep → keep ≤ size → IsPlaceOfByteInList made.block_size (keep - 1) i off
@@ -117,6 +121,7 @@ is_open d geometry made head size keep n i off block before rest e is shape list
       blocks_are = open_blocks d made.block_size geometry.block_count head size keep i off block large parts same some within place here before named short
           ∙ ap (λ (k : Geometry). take (list_block_count_for_size k.block_size keep) (list_blocks_from_head d (list_block_count_for_size k.block_size size) head)) e;
       sum = (let long = rest_long d made.block_size geometry.block_count head size keep i off block large parts same some within place here before named short rest rest_is in omega (arith, long.0, long.2));
+      leads = before_leads d made.block_size geometry.block_count head size keep i off block large parts same some within place here before named short;
     }
 
 -- the block does not end the front
@@ -128,20 +133,8 @@ short_of block_size keep i off large place other =
     let few = pointer_count_of_list_block-le i in
     omega arith
 
--- the block that its pointer 0 names is there
-before_there : (d : Blocks) (geometry made : Geometry) (head size keep n i off block : ℕ) → made ≡ geometry → n ≡ list_block_count_for_size made.block_size size → HasBlocksOfCountAndSize geometry.block_size geometry.block_count d
-    → IsSkipList d geometry.block_size head size → 1 ≤ keep → keep ≤ size → IsPlaceOfByteInList made.block_size (keep - 1) i off → (AreListBlocks d (n - 1 + 1) head → block ≡ slice_index (list_blocks_from_head d (n - 1 + 1) head) i)
-    → 0 < i → word_at_offset (block_bytes_by_number d block) 0 < geometry.block_count
-before_there d geometry made head size keep n i off block e is shape list some within place found more =
-    let here = found_at d geometry made head size n i block e is list found in
-    let same = sized d head size geometry made e list in
-    let low = place-lt made.block_size size (keep - 1) i off made.valid.no_smaller place (omega arith) in
-    let next : suc (i - 1) ≡ i = omega arith in
-    let bs : List ℕ = list_blocks_from_head d (list_block_count_for_size made.block_size size) head in
-    let to : word_at_offset (block_bytes_by_number d block) 0 ≡ slice_index bs (i - 1) =
-    ap (λ b. word_at_offset (block_bytes_by_number d b) 0) (here ∙ ap (slice_index bs) (sym next)) ∙ back-pointer0 d (list_block_count_for_size made.block_size size) head (i - 1) (omega arith) in
-    let lt = in_range_at d (list_block_count_for_size made.block_size size) head (i - 1) same.blocks (omega arith) in
-    omega (arith, lt, to, shape.count)
+pointer_first : (i : ℕ) → 0 < i → 0 < pointer_count_of_list_block i
+pointer_first i some = let many = pointer_count_of_list_block-pos i some in omega arith
 
 -- what the buffer holds of the block then
 read_rest : (d same : Blocks) (old new items : List ℕ) (block off p block_size : ℕ) → same ≡ d → items ≡ new → new ≡ take 0 old ++ (take (off + 1) (drop 0 (block_bytes_by_number same block)) ++ drop (0 + (off + 1)) old)
@@ -149,6 +142,25 @@ read_rest : (d same : Blocks) (old new items : List ℕ) (block off p block_size
 read_rest d same old new items block off p block_size e is read long within low =
     ap (λ (l : List ℕ). take (off + 1 - p) (drop p l)) (is ∙ read ∙ ap (λ b. take (off + 1) (block_bytes_by_number b block) ++ drop (0 + (off + 1)) old) e)
     ∙ data-written (block_bytes_by_number d block) (drop (0 + (off + 1)) old) (off + 1) p (omega arith) low
+
+-- and its words
+read_word : (d same : Blocks) (old new items : List ℕ) (block off block_size : ℕ) → same ≡ d → items ≡ new → new ≡ take 0 old ++ (take (off + 1) (drop 0 (block_bytes_by_number same block)) ++ drop (0 + (off + 1)) old)
+    → length (block_bytes_by_number d block) ≡ block_size → off + 1 ≤ block_size → (at : ℕ) → at + 4 ≤ off + 1 → word_at_offset items at ≡ word_at_offset (block_bytes_by_number d block) at
+read_word d same old new items block off block_size e is read long within at low =
+    ap (λ (l : List ℕ). word_at_offset l at) (is ∙ read ∙ ap (λ b. take (off + 1) (block_bytes_by_number b block) ++ drop (0 + (off + 1)) old) e)
+    ∙ word_at_offset-written (block_bytes_by_number d block) (drop (0 + (off + 1)) old) (off + 1) at (omega arith) low
+
+-- how many reads that took
+few_read : (geometry made : Geometry) (size keep n i off : ℕ) (old mid new : List DeviceCallEvent) → made ≡ geometry → n ≡ list_block_count_for_size made.block_size size → 1 ≤ keep → keep ≤ size → IsPlaceOfByteInList made.block_size (keep - 1) i off → WalksByFewReads (n - 1) i old mid
+    → read_count_of_history new ≤ read_count_of_history mid + 1 → ResumesByFewReads geometry.block_size size keep old new
+few_read geometry made size keep n i off old mid new e is some within place walk one =
+    let large = made.valid.no_smaller in
+    let last = last_is made.block_size size n large (omega arith) is in
+    let here = list_block_count_for_size-place made.block_size keep i off large some place in
+    subst (λ (k : Geometry). ResumesByFewReads k.block_size size keep old new) e (record {
+      few = λ m le. (let k = walk.few m (omega (arith, le, last)) in omega (arith, k, one));
+      near = (let k = walk.near in omega (arith, k, one, last, here));
+    })
 
 pub of_state-requires : goal.of_state-requires
 of_state-requires g c =
@@ -169,8 +181,8 @@ pub of_state-requires-2 : goal.of_state-requires-2
 of_state-requires-2 g c = record {
   one_block = ap length (with_items_is c.in_ok-buffer.buffer c.read_block_bytes_into_buffer_range.new.buf (omega (arith, c.read_block_bytes_into_buffer_range.auto.buf, c.as_mut_slice.ensures.len, c.in_ok-buffer.buffer.ok.0)))
       ∙ omega (arith, c.read_block_bytes_into_buffer_range.auto.buf, ap length c.as_mut_slice.ensures.value, c.in_ok-buffer.ensures.len, c.in_ok-buffer.buffer.ok.0);
-  in_step = subst (λ (f : FullBlocks). AreExtenderNumbersConsistent c.geometry-geometry.result.block_size f.count (c.place-index.result.1 + 1) c.args.keep) (sym c.new-2.ensures.made) (search rules);
-  known = c.new-2.ensures.below _;
+  in_step = subst (λ (f : FullBlocks). AreExtenderNumbersConsistent c.geometry-geometry.result.block_size f.count (c.place-index.result.1 + 1) c.args.keep) (sym c.before_block-front.ensures.made) (search rules);
+  known = subst (λ (f : FullBlocks). AreKnownIndicesBelow f.count c.before_block-front.result.known) (sym c.before_block-front.ensures.made) c.before_block-front.ensures.below;
 }
 
 pub returns-then-off-block_size-clause-resumed : goal.returns-then-off-block_size-clause-resumed
@@ -193,31 +205,15 @@ returns-then-off-block_size-clause-resumed g c =
           (omega (arith, ap length rest, full.sum, ap (λ (k : Geometry). byte_count_before_list_block k.block_size (i + 1)) made))
           full.kept full.blocks_are;
       waits = record { listed = refl; pending = λ other apart. apart };
+      known = λ some. absurd (omega (arith, ap length rest));
     } in
     IfOk-weaker c.of_state.result _ resumed (λ list is. subst resumed (sym is) (subst (λ f. resumed (growing_list_view (state f))) (sym c.new.ensures.made) all)) c.of_state.ensures.list
 
-pub returns-in_err-head-clause-device : goal.returns-in_err-head-clause-device
-returns-in_err-head-clause-device g c = read_on g.D.BlockDevice c.find_block_at_index.ensures.reading.device c.head_of_list_before_block.ensures.reading.device
-
-pub returns-in_err-head-clause-reports : goal.returns-in_err-head-clause-reports
-returns-in_err-head-clause-reports g c =
-    let p = err_from_is_err_and c.from_residual-in_err-head.result c.from_residual-in_err-head.ensures.1 in
-    let reported = c.in_err-head.ensures.reading in
-    rw (p.1, p.2) (record {
-      faults = reported_on g.D.BlockDevice (quiet g.D.BlockDevice c.in_ok-block.ensures.reading.faults) (reported_as g.D.BlockDevice reported.faults);
-      errors = never_corrupt {T = ℕ} _ reported.errors (λ is.
-          let some = (c.in_err-head.ensures.corrupt is).0 in
-          let refused = rw (c.find_block_at_index.ensures.reading.device.same, c.find_block_at_index.ensures.reading.device.geometry) at c.in_err-head.ensures.corrupt in
-          let out = (refused is).1 in
-          let inside = before_there _ _ _ _ _ c.args.keep _ _ _ _ c.geometry-geometry.ensures c.blocks_for.ensures (g.met.D.BlockDevice.shape c.args.dev.now) c.requires.list c.requires.some c.requires.within c.place-index.ensures c.in_ok-block.ensures.found some in
-          omega (arith, out, inside));
-    })
-
 pub returns-in_err-read_block_bytes_into_buffer_range-clause-device : goal.returns-in_err-read_block_bytes_into_buffer_range-clause-device
-returns-in_err-read_block_bytes_into_buffer_range-clause-device g c = read_on g.D.BlockDevice (read_on g.D.BlockDevice c.find_block_at_index.ensures.reading.device c.head_of_list_before_block.ensures.reading.device) c.read_block_bytes_into_buffer_range.ensures.device
+returns-in_err-read_block_bytes_into_buffer_range-clause-device g c = read_on g.D.BlockDevice c.find_block_at_index.ensures.reading.device c.read_block_bytes_into_buffer_range.ensures.device
 
 pub returns-clause-device : goal.returns-clause-device
-returns-clause-device g c = read_on g.D.BlockDevice (read_on g.D.BlockDevice c.find_block_at_index.ensures.reading.device c.head_of_list_before_block.ensures.reading.device) c.read_block_bytes_into_buffer_range.ensures.device
+returns-clause-device g c = read_on g.D.BlockDevice c.find_block_at_index.ensures.reading.device c.read_block_bytes_into_buffer_range.ensures.device
 
 -- the bytes of the block that are kept
 rest_is : (g : _) (c : goal.After-of_state-2 g) → take (c.place-index.result.1 + 1 - 4 * pointer_count_of_list_block c.place-index.result.0) (drop (4 * pointer_count_of_list_block c.place-index.result.0) (with_items c.in_ok-buffer.buffer c.read_block_bytes_into_buffer_range.new.buf).items)
@@ -228,18 +224,33 @@ rest_is g c =
     let in_range = c.in_ok-block.ensures.in_range in
     let place = c.place-index.ensures in
     let short = short_of c.geometry-geometry.result.block_size c.args.keep c.place-index.result.0 c.place-index.result.1 c.geometry-geometry.result.valid.no_smaller place c.if-off-block_size.false in
-    read_rest _ _ _ c.read_block_bytes_into_buffer_range.new.buf _ c.in_ok-block.block c.place-index.result.1 (4 * pointer_count_of_list_block c.place-index.result.0) c.geometry-geometry.result.block_size (c.head_of_list_before_block.ensures.reading.device.same ∙ c.find_block_at_index.ensures.reading.device.same)
+    read_rest _ _ _ c.read_block_bytes_into_buffer_range.new.buf _ c.in_ok-block.block c.place-index.result.1 (4 * pointer_count_of_list_block c.place-index.result.0) c.geometry-geometry.result.block_size c.find_block_at_index.ensures.reading.device.same
     (with_items_is c.in_ok-buffer.buffer c.read_block_bytes_into_buffer_range.new.buf (omega (arith, c.read_block_bytes_into_buffer_range.auto.buf, c.as_mut_slice.ensures.len, c.in_ok-buffer.buffer.ok.0)))
     c.in_ok-read_block_bytes_into_buffer_range.ensures.bytes
     (omega (arith, shape.sizes c.in_ok-block.block in_range, ap (λ (k : Geometry). k.block_size) made))
     (omega arith) (let at = place.at in omega arith)
 
+-- the pointers that it begins with
+word_is : (g : _) (c : goal.After-of_state-2 g) (k : ℕ) → k < pointer_count_of_list_block c.place-index.result.0 → word_at_offset c.as_slice.result.now (4 * k)
+    ≡ word_at_offset (block_bytes_by_number (g.D.BlockDevice.blocks c.args.dev.now) c.in_ok-block.block) (4 * k)
+word_is g c k lt =
+    let made = c.geometry-geometry.ensures in
+    let shape = g.met.D.BlockDevice.shape c.args.dev.now in
+    let in_range = c.in_ok-block.ensures.in_range in
+    let place = c.place-index.ensures in
+    let short = short_of c.geometry-geometry.result.block_size c.args.keep c.place-index.result.0 c.place-index.result.1 c.geometry-geometry.result.valid.no_smaller place c.if-off-block_size.false in
+    read_word _ _ _ c.read_block_bytes_into_buffer_range.new.buf _ c.in_ok-block.block c.place-index.result.1 c.geometry-geometry.result.block_size c.find_block_at_index.ensures.reading.device.same
+    (c.as_slice.ensures.value ∙ with_items_is c.in_ok-buffer.buffer c.read_block_bytes_into_buffer_range.new.buf (omega (arith, c.read_block_bytes_into_buffer_range.auto.buf, c.as_mut_slice.ensures.len, c.in_ok-buffer.buffer.ok.0)))
+    c.in_ok-read_block_bytes_into_buffer_range.ensures.bytes
+    (omega (arith, shape.sizes c.in_ok-block.block in_range, ap (λ (k : Geometry). k.block_size) made))
+    (omega arith) (4 * k) (let at = place.at in omega arith)
+
 opened : (g : _) (c : goal.After-of_state-2 g) → IsOpen (g.D.BlockDevice.blocks c.args.dev.now) (g.D.BlockDevice.geometry c.args.dev.now) c.geometry-geometry.result c.args.head c.args.size c.args.keep c.place-index.result.0 c.place-index.result.1
-    c.in_ok-block.block c.in_ok-head.head (take (c.place-index.result.1 + 1 - 4 * pointer_count_of_list_block c.place-index.result.0) (drop (4 * pointer_count_of_list_block c.place-index.result.0) (with_items c.in_ok-buffer.buffer c.read_block_bytes_into_buffer_range.new.buf).items))
+    c.in_ok-block.block c.before_block-front.result.head (take (c.place-index.result.1 + 1 - 4 * pointer_count_of_list_block c.place-index.result.0) (drop (4 * pointer_count_of_list_block c.place-index.result.0) (with_items c.in_ok-buffer.buffer c.read_block_bytes_into_buffer_range.new.buf).items))
 opened g c =
     is_open _ _ _ _ _ _ _ _ _ _ _ _ c.geometry-geometry.ensures c.blocks_for.ensures (g.met.D.BlockDevice.shape c.args.dev.now) c.requires.list c.requires.some c.requires.within c.place-index.ensures c.in_ok-block.ensures.found
     (short_of c.geometry-geometry.result.block_size c.args.keep c.place-index.result.0 c.place-index.result.1 c.geometry-geometry.result.valid.no_smaller c.place-index.ensures c.if-off-block_size.false)
-    (λ more. c.in_ok-head.ensures.word more ∙ ap (λ d. word_at_offset (block_bytes_by_number d c.in_ok-block.block) 0) c.find_block_at_index.ensures.reading.device.same)
+    (λ more. c.before_block-front.ensures.head more ∙ word_is g c 0 (pointer_first _ more))
     (rest_is g c)
 
 pub returns-clause-resumed : goal.returns-clause-resumed
@@ -248,7 +259,7 @@ returns-clause-resumed g c =
     let made = c.geometry-geometry.ensures in
     let resumed : GrowingList → Type 0 = IsResumedList (g.D.BlockDevice.blocks c.args.dev.now) (g.D.BlockDevice.geometry c.args.dev.now) c.args.head c.args.size c.args.keep in
     let state : FullBlocks → ExtenderState = λ f. record { geometry = c.geometry-geometry.result; buffer = with_items c.in_ok-buffer.buffer c.read_block_bytes_into_buffer_range.new.buf; front = f; filled = c.place-index.result.1 + 1; size = c.args.keep; stand = Shared c.in_ok-block.block } in
-    let front : FullBlocks = record { count = c.place-index.result.0; head = c.in_ok-head.head; known = c.new-2.result.known } in
+    let front : FullBlocks = record { count = c.place-index.result.0; head = c.before_block-front.result.head; known = c.before_block-front.result.known } in
     let all : resumed (growing_list_view (state front)) = record {
       grown =
           is_grown _ (g.D.BlockDevice.blocks c.args.dev.now) (growing_list_view (state front)) _ _ _ _ _ (g.met.D.BlockDevice.shape c.args.dev.now) made
@@ -259,7 +270,19 @@ returns-clause-resumed g c =
             pointer_count_of_list_block-le c.place-index.result.0,
             c.geometry-geometry.result.valid.no_smaller,
           ))
-          (record { chain = o.chain_is; known = c.new-2.ensures.known _; stand = o.shared }) o.content (omega (arith, o.sum, ap (λ (k : Geometry). byte_count_before_list_block k.block_size c.place-index.result.0) made)) o.kept o.blocks_are;
+          (record { chain = o.chain_is; known = c.before_block-front.ensures.known _ (λ k lt. word_is g c k lt ∙ o.leads k lt); stand = o.shared }) o.content (omega (arith, o.sum, ap (λ (k : Geometry). byte_count_before_list_block k.block_size c.place-index.result.0) made)) o.kept o.blocks_are;
       waits = record { listed = refl; pending = λ other apart. apart };
+      known = λ some. c.before_block-front.ensures.pointers;
     } in
-    IfOk-weaker c.of_state-2.result _ resumed (λ list is. subst resumed (sym is) (subst (λ f. resumed (growing_list_view (state f))) (sym c.new-2.ensures.made) all)) c.of_state-2.ensures.list
+    IfOk-weaker c.of_state-2.result _ resumed (λ list is. subst resumed (sym is) (subst (λ f. resumed (growing_list_view (state f))) (sym c.before_block-front.ensures.made) all)) c.of_state-2.ensures.list
+
+pub returns-then-off-block_size-clause-few : goal.returns-then-off-block_size-clause-few
+returns-then-off-block_size-clause-few g c =
+    let few = few_read _ _ _ _ _ _ _ _ _ _ c.geometry-geometry.ensures c.blocks_for.ensures c.requires.some c.requires.within c.place-index.ensures c.in_ok-block.ensures.few (omega arith) in
+    IfOk-weaker c.of_state.result _ (λ _. ResumesByFewReads (g.D.BlockDevice.geometry c.args.dev.now).block_size c.args.size c.args.keep (g.D.BlockDevice.history c.args.dev.now) (g.D.BlockDevice.history c.find_block_at_index.new.dev)) (λ list is. few) c.of_state.ensures.list
+
+pub returns-clause-few : goal.returns-clause-few
+returns-clause-few g c =
+    let one = c.read_block_bytes_into_buffer_range.ensures.few in
+    let few = few_read _ _ _ _ _ _ _ _ _ _ c.geometry-geometry.ensures c.blocks_for.ensures c.requires.some c.requires.within c.place-index.ensures c.in_ok-block.ensures.few (omega (arith, one)) in
+    IfOk-weaker c.of_state-2.result _ (λ _. ResumesByFewReads (g.D.BlockDevice.geometry c.args.dev.now).block_size c.args.size c.args.keep (g.D.BlockDevice.history c.args.dev.now) (g.D.BlockDevice.history c.read_block_bytes_into_buffer_range.new.dev)) (λ list is. few) c.of_state-2.ensures.list

@@ -14,6 +14,6 @@ returns-clause-started c =
     (λ list is. subst (IsStartedEmptyList c.args.geometry) (sym is) (record {
       grown = grown_closed _ _ _ _ refl none (omega (arith, c.args.geometry.valid.no_smaller, ap pointer_count_of_list_block none, ap length rest)) rest refl refl refl;
       listed = refl;
-      known = λ n k le low some lt more. absurd (omega (arith, more, none));
+      known = λ n k le low lt more. absurd (omega (arith, more, none));
     }))
     c.of_state.ensures.list

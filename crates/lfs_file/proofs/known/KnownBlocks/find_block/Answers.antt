@@ -27,6 +27,7 @@ loop-at-init g c = record {
   device = not_read g.D.BlockDevice c.args.dev.now;
   quiet = refl;
   few = λ m lt. (0, (omega arith, no_steps m c.nearest_block-at.result.0 c.args.index));
+  far = (let k = c.nearest_block-at.ensures.high in omega arith);
   near = λ i known low high. (c.nearest_block-at.ensures.near i known low high, (let k = c.nearest_block-at.ensures.near i known low high in omega arith));
 }
 
@@ -84,6 +85,7 @@ loop-at-preserved g c =
           let steps = inv.few m lt in
           let next = step_back m at c.args.index steps.0 (omega arith) (let h = inv.high in omega arith) c.ilog2.result steps.1.1 (omega arith) c.ilog2.ensures.power_le c.ilog2.ensures.next_power_gt in
           (steps.0 + 1, (omega arith, subst (λ n. FewSteps m (at - n) c.args.index (steps.0 + 1)) (sym s) next));
+      far = (let so_far = inv.far in omega (arith, so_far, one, s, l, less));
       near = λ i known low high.
           let so_far = inv.near i known low high in
           (omega (arith, so_far.0), omega (arith, so_far.0, so_far.1, one, s, l, less));
@@ -99,6 +101,7 @@ returns-clause-few g c =
     let inv = c.loop-at.invariant in
     record {
       now = c.note-2.ensures.known;
+      far = (let so_far = inv.far in omega (arith, so_far, inv.low));
       few = λ m lt.
           let steps = inv.few m lt in
           let few = few_steps m c.loop-at.at c.args.index steps.0 (omega arith) (let h = inv.high in omega arith) steps.1.1 in

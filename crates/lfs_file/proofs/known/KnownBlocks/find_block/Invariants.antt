@@ -19,6 +19,7 @@ invariant-loop-at g l =
       device : ReadsOnly g.D.BlockDevice old l.dev;
       quiet : fault_count_of_history (history l.dev) ≡ fault_count_of_history (history old);
       few : (m : ℕ) → l.last < 2 ^ m → (done : ℕ) × ((read_count_of_history (history l.dev) ≤ read_count_of_history (history old) + done) × FewSteps m l.at l.index done);
+      far : read_count_of_history (history l.dev) + l.at ≤ read_count_of_history (history old) + l.last;
       near : (i : ℕ) → IsKnownIndex l.fn.self i → l.index ≤ i → i ≤ l.last → (l.at ≤ i) × (read_count_of_history (history l.dev) + l.at ≤ read_count_of_history (history old) + i);
     }
 

@@ -10,10 +10,12 @@ use Rattle.lfs_model.specs.History.DeviceCall.{Read}
 use Rattle.lfs_model.proofs.Histories.{ArePossibleBlocksAfterPowerLossInCall-read, IsTrueAfterAnyPowerLossSince-read_count_of_history, AreCallsSinceOnlyReads-trans, began, goes_on, is_byte_unprogrammed-read_count_of_history}
 use Rattle.lfs_file.specs.Growing.{GrowingList, unwritten_block_of_list}
 use Rattle.lfs_file.specs.BlocksApart.{IsUsedOrInFlightButNotUnwritten, HasGrowingListBlocksTaken, KeepsBytesOfTakenBlocksExceptUnwritten}
+use Rattle.lfs_file.specs.Calls.{ReportsIoOrNoMemory}
+use Rattle.lfs_file.specs.Effects.{WritesOnlyUnusedBlocks}
 use Rattle.lfs_file.specs.ContentsCalls.{CallKeepsTakenBlocksExceptUnwritten, CallKeepsUsedBlocks}
 use Rattle.lfs_file.specs.Hand.{KeepsUsedBlocksInMap, KeepsBytesOfUsedBlocks}
 use Rattle.lfs_file.proofs.Growth.{Spares-refl, Spares-trans, KeepsUnprogrammedInTakenBlocksExceptUnwritten-trans, stops_trans}
-use Rattle.lfs_file.proofs.Spared.{KeepsBytesOfUsedBlocks-refl, KeepsBytesOfUsedBlocks-trans, KeepsUnprogrammedInUsedBlocks-trans, pages_end, spares_end, stops_end, to_used, to_used_pages, to_used_stops, used_stops_trans}
+use Rattle.lfs_file.proofs.Spared.{KeepsUsedBlocksInMap-refl, KeepsUsedBlocksInMap-trans, KeepsBytesOfUsedBlocks-refl, KeepsBytesOfUsedBlocks-trans, KeepsUnprogrammedInUsedBlocks-trans, pages_end, spares_end, stops_end, to_used, to_used_pages, to_used_stops, used_stops_trans}
 
 module _ {D : Type 0} (g : Ghosts D) where
   -- a call that succeeds has no fault
@@ -116,3 +118,41 @@ module _ {D : Type 0} (g : Ghosts D) where
     geometry = leaves.geometry;
     at_worst = to_used_stops map d list marked (g.blocks old) (g.history old) (g.history new) leaves.at_worst;
   }
+
+  -- ---- maps and errors too
+
+  -- a call succeeds without a fault
+  pub writes_well : {X : Type 0} {map later : BlockStateList} {old new : D} {x : X} → KeepsUsedBlocksInMap map later → CallKeepsUsedBlocks g map old new → fault_count_of_history (g.history new) ≡ fault_count_of_history (g.history old) → WritesOnlyUnusedBlocks g map later old new (Ok x)
+  writes_well keeps device none = record {
+    map = keeps;
+    device = device;
+    reports = record { faults = record { fault = λ is. absurd (cc); no_fault = λ _. none }; errors = tt };
+  }
+
+  -- and one behind it fails
+  pub writes_fail : {X Y Z : Type 0} {map between later : BlockStateList} {old mid new : D} {x : X} {e : Error} → WritesOnlyUnusedBlocks g map between old mid (Ok x) → KeepsUsedBlocksInMap between later → CallKeepsUsedBlocks g between mid new → ReportsIoOrNoMemory {X = Y} g mid new (Err e)
+      → WritesOnlyUnusedBlocks {X = Z} g map later old new (Err e)
+  writes_fail first keeps device reports = record {
+    map = KeepsUsedBlocksInMap-trans first.map keeps;
+    device = used_on first.map first.device device;
+    reports = record { faults = reported_on (quiet first.reports.faults) (reported_as reports.faults); errors = reports.errors };
+  }
+
+  -- or succeeds
+  pub writes_on : {X Y Z : Type 0} {map between later : BlockStateList} {old mid new : D} {x : X} {y : Y} {z : Z} → WritesOnlyUnusedBlocks g map between old mid (Ok x) → KeepsUsedBlocksInMap between later → CallKeepsUsedBlocks g between mid new → ReportsIoOrNoMemory g mid new (Ok y) → WritesOnlyUnusedBlocks g map later old new (Ok z)
+  writes_on first keeps device reports = writes_well (KeepsUsedBlocksInMap-trans first.map keeps) (used_on first.map first.device device) (quiet reports.faults ∙ quiet first.reports.faults)
+
+  -- the same of a call with another result
+  pub writes_as : {X Y : Type 0} {map later : BlockStateList} {old new : D} {e : Error} → WritesOnlyUnusedBlocks {X = X} g map later old new (Err e) → WritesOnlyUnusedBlocks {X = Y} g map later old new (Err e)
+  writes_as wrote = record { map = wrote.map; device = wrote.device; reports = record { faults = reported_as wrote.reports.faults; errors = wrote.reports.errors } }
+
+  pub writes_same : {X Y : Type 0} {map later : BlockStateList} {old new : D} {x : X} {y : Y} → WritesOnlyUnusedBlocks g map later old new (Ok x) → WritesOnlyUnusedBlocks g map later old new (Ok y)
+  writes_same wrote = writes_well wrote.map wrote.device (quiet wrote.reports.faults)
+
+  -- no call
+  pub writes_none : {X : Type 0} {x : X} (map : BlockStateList) (d : D) → WritesOnlyUnusedBlocks g map map d d (Ok x)
+  writes_none map d = writes_well (KeepsUsedBlocksInMap-refl map) (used_reads map (not_read d)) refl
+
+  -- a call that only reads
+  pub writes_of_reads : {X : Type 0} {map later : BlockStateList} {old new : D} {result : Result X Error} → KeepsUsedBlocksInMap map later → ReadsOnly g old new → ReportsIoOrNoMemory g old new result → WritesOnlyUnusedBlocks g map later old new result
+  writes_of_reads {map = map} keeps only reports = record { map = keeps; device = used_reads map only; reports = reports }

@@ -1,4 +1,5 @@
 pub mod Appended
+pub mod BaseCopies
 pub mod BaseRoom
 pub mod Bases
 pub mod BlockOwners
@@ -7,6 +8,7 @@ pub mod Calls
 pub mod Contents
 pub mod ContentsCalls
 pub mod Counts
+pub mod Effects
 pub mod Extended
 pub mod Extending
 pub mod Extensions

@@ -1,5 +1,5 @@
 -- The blocks that two lists share.
-use Rattle.std.specs.Prelude.{ℕ, ◌≡◌, ◌≢◌, ◌<◌, ◌≤◌, ◌+◌, ◌*◌, List, length, take, drop, slice_index}
+use Rattle.std.specs.Prelude.{ℕ, ◌≡◌, ◌≢◌, ◌<◌, ◌≤◌, ◌+◌, List, length, take, drop, slice_index}
 
 -- how many blocks two lists have in common at their beginnings
 pub record IsCountOfSharedFrontBlocks (xs ys : List ℕ) (n : ℕ) : Type 0 where

@@ -1,20 +1,18 @@
 // Copies of the bytes of a base that follow those in hand.
 
-ghost use Rattle.std.specs.Prelude.{◌≡◌, ◌≤◌, ◌<◌, ◌+◌, ◌-◌, ◌++◌, length, max, min, take, drop, slice_range, IfOk, OnOk};
+ghost use Rattle.std.specs.Prelude.{◌≡◌, ◌≤◌, ◌<◌, ◌+◌, ◌-◌, length, max, drop, IfOk, OnOk};
 ghost use Rattle.lfs_device.specs.Calls.{ReadsOnly};
-ghost use Rattle.lfs_model.specs.Blocks.{block_bytes_by_number};
-ghost use Rattle.lfs_model.specs.BlockSets.{in_flight_block_count, used_count};
 ghost use Rattle.lfs_model.specs.History.{read_count_of_history};
-ghost use Rattle.lfs_model.specs.SkipLists.{AreListBlocks, list_blocks_from_head, list_block_count_for_size, bytes_of_skip_list};
-ghost use Rattle.lfs_file.specs.Calls.{ReportsNoErrorButIo, ReportsIoOrNoMemory};
-ghost use Rattle.lfs_file.specs.Growing.{HasGrowingListOnDisk, blocks_kept_when_growing, unwritten_block_of_list, bytes_of_growing_list, size_of_growing_list};
-ghost use Rattle.lfs_file.specs.BlocksApart.{HasGrowingListBlocksTaken};
-ghost use Rattle.lfs_file.specs.Bases.{IsListApartFromFreeAndUnwrittenBlocks};
-ghost use Rattle.lfs_file.specs.ContentsCalls.{CallKeepsTakenBlocksExceptUnwritten};
-ghost use Rattle.lfs_file.specs.Extensions.{IsGrowingListExtended, CanEndGrowingListInOwnBlocks};
-ghost use Rattle.lfs_file.specs.TakenBlocks.{ChangesOnlyFreeBlocksInMap};
+ghost use Rattle.lfs_model.specs.SkipLists.{AreListBlocks, list_blocks_from_head};
+ghost use Rattle.lfs_file.specs.BaseCopies.{CanAppendRestOfBase, HasBytesOfBlockFrom};
+ghost use Rattle.lfs_file.specs.Calls.{ReportsIoOrNoMemory};
+ghost use Rattle.lfs_file.specs.Effects.{OnlyReadsAndReportsIo, WritesOnlyFreeAndPendingBlocks};
+ghost use Rattle.lfs_file.specs.Extensions.{IsGrowingListExtended};
+ghost use Rattle.lfs_file.specs.Growing.{unwritten_block_of_list, size_of_growing_list};
+ghost use Rattle.lfs_file.specs.Hand.{list_bytes_then_rest_of_base};
 
 use crate::extensions::extend_list_in_free_blocks;
+use crate::stored_list::StoredList;
 use crate::{Extender, blocks_for, head_of_list_before_block, place};
 use lfs_blocks::BlockMap;
 use lfs_device::{BlockDevice, Error};
@@ -31,28 +29,19 @@ pub(crate) fn append_remaining_bytes_of_base_list<D: BlockDevice>(
     dev: &mut D,
     map: &mut BlockMap,
     list: &mut Extender,
-    head: u32,
-    size: u32,
+    base: StoredList,
 ) -> Result<(), Error>
-    requires growing { HasGrowingListOnDisk (D.blocks dev.old) list.old }
-    requires geometry { D.geometry dev.old ≡ list.old.geometry }
-    requires marked { HasGrowingListBlocksTaken map.old (D.blocks dev.old) list.old }
-    requires own { CanEndGrowingListInOwnBlocks (D.blocks dev.old) list.old }
-    requires base { IsListApartFromFreeAndUnwrittenBlocks map.old (unwritten_block_of_list list.old) (D.blocks dev.old) list.old.geometry.block_size head size }
-    requires room { used_count map.old + in_flight_block_count map.old + list_block_count_for_size list.old.geometry.block_size size ≤ length map.old + length (blocks_kept_when_growing (D.blocks dev.old) list.old) }
-    ensures extended { OnOk result (IsGrowingListExtended map.old (D.blocks dev.old) list.old
-        (bytes_of_growing_list (D.blocks dev.old) list.old ++ drop (size_of_growing_list list.old) (bytes_of_skip_list (D.blocks dev.old) list.old.geometry.block_size head size))
-        (max (size_of_growing_list list.old) size) map.new (D.blocks dev.new) list.new) }
-    ensures map { ChangesOnlyFreeBlocksInMap map.old map.new }
-    ensures device { CallKeepsTakenBlocksExceptUnwritten D.BlockDevice map.old (unwritten_block_of_list list.old) dev.old dev.new }
-    ensures reports { ReportsIoOrNoMemory D.BlockDevice dev.old dev.new result }
+    requires { CanAppendRestOfBase map.old (D.blocks dev.old) (D.geometry dev.old) list.old base }
+    ensures extended { OnOk result (IsGrowingListExtended map.old (D.blocks dev.old) list.old (list_bytes_then_rest_of_base (D.blocks dev.old) list.old.geometry.block_size list.old base)
+        (max (size_of_growing_list list.old) base.size) map.new (D.blocks dev.new) list.new) }
+    ensures writing { WritesOnlyFreeAndPendingBlocks D.BlockDevice map.old map.new (unwritten_block_of_list list.old) dev.old dev.new result }
 {
-    if list.size() >= size {
+    if list.size() >= base.size {
         return Ok(());
     }
     let block_size = dev.geometry().block_size;
     let mut chunk = Vec::from_elem(alloc, 0u8, block_size as usize)?;
-    append_remaining_bytes_block_by_block(alloc, dev, map, list, head, size, chunk.as_mut_slice())?;
+    append_remaining_bytes_block_by_block(alloc, dev, map, list, base, chunk.as_mut_slice())?;
     Ok(())
 }
 
@@ -62,33 +51,30 @@ fn append_remaining_bytes_block_by_block<D: BlockDevice>(
     dev: &mut D,
     map: &mut BlockMap,
     list: &mut Extender,
-    head: u32,
-    size: u32,
+    base: StoredList,
     chunk: &mut [u8],
 ) -> Result<(), Error>
+    requires can { CanAppendRestOfBase map.old (D.blocks dev.old) (D.geometry dev.old) list.old base }
+    requires behind { size_of_growing_list list.old < base.size }
     requires chunk { length chunk.old ≡ list.old.geometry.block_size }
-    requires behind { size_of_growing_list list.old < size }
-    requires growing { HasGrowingListOnDisk (D.blocks dev.old) list.old }
-    requires geometry { D.geometry dev.old ≡ list.old.geometry }
-    requires marked { HasGrowingListBlocksTaken map.old (D.blocks dev.old) list.old }
-    requires own { CanEndGrowingListInOwnBlocks (D.blocks dev.old) list.old }
-    requires base { IsListApartFromFreeAndUnwrittenBlocks map.old (unwritten_block_of_list list.old) (D.blocks dev.old) list.old.geometry.block_size head size }
-    requires room { used_count map.old + in_flight_block_count map.old + list_block_count_for_size list.old.geometry.block_size size ≤ length map.old + length (blocks_kept_when_growing (D.blocks dev.old) list.old) }
-    ensures extended { OnOk result (IsGrowingListExtended map.old (D.blocks dev.old) list.old
-        (bytes_of_growing_list (D.blocks dev.old) list.old ++ drop (size_of_growing_list list.old) (bytes_of_skip_list (D.blocks dev.old) list.old.geometry.block_size head size))
-        (max (size_of_growing_list list.old) size) map.new (D.blocks dev.new) list.new) }
-    ensures map { ChangesOnlyFreeBlocksInMap map.old map.new }
-    ensures device { CallKeepsTakenBlocksExceptUnwritten D.BlockDevice map.old (unwritten_block_of_list list.old) dev.old dev.new }
-    ensures reports { ReportsIoOrNoMemory D.BlockDevice dev.old dev.new result }
+    ensures extended { OnOk result (IsGrowingListExtended map.old (D.blocks dev.old) list.old (list_bytes_then_rest_of_base (D.blocks dev.old) list.old.geometry.block_size list.old base)
+        (max (size_of_growing_list list.old) base.size) map.new (D.blocks dev.new) list.new) }
+    ensures writing { WritesOnlyFreeAndPendingBlocks D.BlockDevice map.old map.new (unwritten_block_of_list list.old) dev.old dev.new result }
 {
     let block_size = dev.geometry().block_size;
     let (from, _) = place(block_size, list.size());
-    let blocks = list_blocks_from_index(alloc, dev, head, blocks_for(block_size, size), from)?;
-    'copying: while list.size() < size {
+    let blocks = list_blocks_from_index(
+        alloc,
+        dev,
+        base.head,
+        blocks_for(block_size, base.size),
+        from,
+    )?;
+    'copying: while list.size() < base.size {
         let pos = list.size();
         let (index, off) = place(block_size, pos);
         let block = blocks[(index - from) as usize];
-        let count = read_bytes_of_block_from(dev, block, off, size - pos, chunk)?;
+        let count = read_bytes_of_block_from(dev, block, off, base.size - pos, chunk)?;
         extend_list_in_free_blocks(alloc, dev, map, list, &chunk[..count])?;
     }
     Ok(())
@@ -129,14 +115,11 @@ fn read_bytes_of_block_from<D: BlockDevice>(
     most: u32,
     buf: &mut [u8],
 ) -> Result<usize, Error>
-    requires in_device { block < (D.geometry dev.old).block_count }
-    requires in_block { off < (D.geometry dev.old).block_size }
+    requires place { (block < (D.geometry dev.old).block_count) × (off < (D.geometry dev.old).block_size) }
     requires some { 1 ≤ most }
     requires room { length buf.old ≡ (D.geometry dev.old).block_size }
-    ensures count { IfOk result (λ n. (1 ≤ n) × (n ≤ length buf.old) × (n ≡ min ((D.geometry dev.old).block_size - off) most)) }
-    ensures bytes { IfOk result (λ n. take n buf.new ≡ slice_range (block_bytes_by_number (D.blocks dev.old) block) off (off + n)) }
-    ensures device { ReadsOnly D.BlockDevice dev.old dev.new }
-    ensures reports { ReportsNoErrorButIo D.BlockDevice dev.old dev.new result }
+    ensures read { IfOk result (HasBytesOfBlockFrom (D.blocks dev.old) (D.geometry dev.old).block_size block off most buf.new) }
+    ensures reading { OnlyReadsAndReportsIo D.BlockDevice dev.old dev.new result }
     ensures few { read_count_of_history (D.history dev.new) ≡ read_count_of_history (D.history dev.old) + 1 }
 {
     let count = (buf.len() - off as usize).min(most as usize);

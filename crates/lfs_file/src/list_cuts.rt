@@ -1,8 +1,7 @@
 // Cuts of finished lists.
 
 ghost use Rattle.std.specs.Prelude.{◌≡◌, ◌≤◌, take, IfOk};
-ghost use Rattle.lfs_device.specs.Calls.{ReadsOnly};
-ghost use Rattle.lfs_file.specs.Calls.{ReportsNoErrorButIo};
+ghost use Rattle.lfs_file.specs.Effects.{OnlyReadsAndReportsIo};
 ghost use Rattle.lfs_file.specs.Hand.{IsFinishedListConsistentWithMapAndDisk, KeepsUsedBlocksInMap, bytes_of_stored_list};
 ghost use Rattle.lfs_file.specs.HandWrites.{IsFinishedListOfBytes};
 ghost use Rattle.lfs_file.specs.BlockOwners.{IsFrontOfStoredList};
@@ -27,13 +26,11 @@ pub(crate) fn shorten_stored_list<D: BlockDevice>(
     keep: u32,
 ) -> Result<StoredList, Error>
     requires stored { IsFinishedListConsistentWithMapAndDisk map.old (D.blocks dev.old) (D.geometry dev.old).block_size stored }
-    requires some { 1 ≤ keep }
-    requires within { keep ≤ stored.size }
+    requires length { (1 ≤ keep) × (keep ≤ stored.size) }
     ensures cut { IfOk result (λ s. IsFinishedListOfBytes map.new (D.blocks dev.new) (D.geometry dev.old) s keep (take keep (bytes_of_stored_list (D.blocks dev.old) (D.geometry dev.old).block_size stored))) }
     ensures front { IfOk result (IsFrontOfStoredList (D.geometry dev.old).block_size (D.blocks dev.old) stored (D.blocks dev.new)) }
     ensures map { KeepsUsedBlocksInMap map.old map.new }
-    ensures device { ReadsOnly D.BlockDevice dev.old dev.new }
-    ensures reports { ReportsNoErrorButIo D.BlockDevice dev.old dev.new result }
+    ensures reading { OnlyReadsAndReportsIo D.BlockDevice dev.old dev.new result }
 {
     let head = list_head_for_first_bytes(dev, stored.head, stored.size, keep)?;
     let count = blocks_for(dev.geometry().block_size, keep);

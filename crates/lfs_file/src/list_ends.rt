@@ -1,12 +1,10 @@
 // Ends of lists in hand.
 
 ghost use Rattle.std.specs.Prelude.{◌≡◌, ◌≤◌, ◌+◌, if◌then◌else◌, [], drop, length, true, OnOk, IfOk};
-ghost use Rattle.lfs_device.specs.Calls.{ReadsOnly};
 ghost use Rattle.lfs_model.specs.BlockSets.{used_count};
 ghost use Rattle.lfs_model.specs.SkipLists.{list_block_count_for_size};
-ghost use Rattle.lfs_file.specs.Calls.{ReportsNoErrorButIo, ReportsIoOrNoMemory};
+ghost use Rattle.lfs_file.specs.Effects.{OnlyReadsAndReportsIo, WritesOnlyUnusedBlocks};
 ghost use Rattle.lfs_file.specs.Bases.{IsSkipListOnDiskUnlessEmpty, list_blocks_by_head_and_size};
-ghost use Rattle.lfs_file.specs.ContentsCalls.{CallKeepsUsedBlocks};
 ghost use Rattle.lfs_file.specs.Hand.{KeepsUsedBlocksInMap};
 ghost use Rattle.lfs_file.specs.Releases.{ReleasesBlocksInFlight};
 ghost use Rattle.lfs_file.specs.BaseRoom.{in_flight_block_limit_of_stored_list};
@@ -34,8 +32,7 @@ pub(crate) fn release_base_list_blocks_from_index<D: BlockDevice>(
     requires within { shared ≤ list_block_count_for_size (D.geometry dev.old).block_size base.size }
     ensures released { OnOk result (ReleasesBlocksInFlight map.old map.new (if base.in_flight then drop shared (list_blocks_by_head_and_size (D.blocks dev.old) (D.geometry dev.old).block_size base.head base.size) else [])) }
     ensures map { KeepsUsedBlocksInMap map.old map.new }
-    ensures device { ReadsOnly D.BlockDevice dev.old dev.new }
-    ensures reports { ReportsNoErrorButIo D.BlockDevice dev.old dev.new result }
+    ensures reading { OnlyReadsAndReportsIo D.BlockDevice dev.old dev.new result }
 {
     if !base.in_flight {
         return Ok(());
@@ -63,13 +60,11 @@ pub(crate) fn end_unfinished_list<D: BlockDevice>(
     requires room { used_count map.old + in_flight_block_limit_of_stored_list (D.geometry dev.old).block_size hand.base + list_block_count_for_size (D.geometry dev.old).block_size hand.base.size ≤ length map.old }
     ensures ended { IfOk result (λ s. IsFinishedListOfBytes map.new (D.blocks dev.new) (D.geometry dev.old) s (contents_length_of_unfinished_list hand) (contents_bytes_of_unfinished_list (D.blocks dev.old) hand)) }
     ensures own { IfOk result (AreFinishedListUsedBlocksFromBaseList map.new (D.geometry dev.old).block_size (D.blocks dev.old) hand.base (D.blocks dev.new)) }
-    ensures map { KeepsUsedBlocksInMap map.old map.new }
-    ensures device { CallKeepsUsedBlocks D.BlockDevice map.old dev.old dev.new }
-    ensures reports { ReportsIoOrNoMemory D.BlockDevice dev.old dev.new result }
+    ensures writing { WritesOnlyUnusedBlocks D.BlockDevice map.old map.new dev.old dev.new result }
 {
     let PendingList { list, base, shared } = hand;
     let mut list = list;
-    append_remaining_bytes_of_base_list(alloc, dev, map, &mut list, base.head, base.size)?;
+    append_remaining_bytes_of_base_list(alloc, dev, map, &mut list, base)?;
     let (head, size) = list.finish(dev)?;
     release_base_list_blocks_from_index(dev, map, base, shared)?;
     Ok(StoredList {

@@ -1,17 +1,15 @@
 // Contents that are kept in memory.
 
-ghost use Rattle.std.specs.Prelude.{◌≡◌, ◌≤◌, ◌<◌, ◌+◌, ◌^◌, false, length, take, IfOk};
-ghost use Rattle.lfs_device.specs.Calls.{ReadsOnly};
+ghost use Rattle.std.specs.Prelude.{◌≡◌, ◌≤◌, ◌<◌, ◌+◌, false, length, take, IfOk};
 ghost use Rattle.lfs_model.specs.Blocks.{Blocks};
-ghost use Rattle.lfs_model.specs.BlockSets.{BlockStateList, used_count};
-ghost use Rattle.lfs_model.specs.SkipLists.{list_block_count_for_size};
+ghost use Rattle.lfs_model.specs.BlockSets.{BlockStateList};
 ghost use Rattle.lfs_model.specs.Writers.{contents_after_write};
 ghost use Rattle.lfs_device.specs.declared.geometry.Geometry.{Geometry};
-ghost use Rattle.lfs_file.specs.Calls.{ReportsIoOrNoMemory};
+ghost use Rattle.lfs_file.specs.BaseRoom.{HasRoomForLongerList};
+ghost use Rattle.lfs_file.specs.Effects.{OnlyReadsAndReportsIoOrNoMemory, WritesOnlyUnusedBlocks};
 ghost use Rattle.lfs_file.specs.Bases.{IsSkipListOnDiskUnlessEmpty};
-ghost use Rattle.lfs_file.specs.ContentsCalls.{CallKeepsUsedBlocks};
 ghost use Rattle.lfs_file.specs.Contents.{IsInMemoryWithNoBlockInFlight, IsWholeListInBuffer, bytes_in_buffer};
-ghost use Rattle.lfs_file.specs.Hand.{KeepsUsedBlocksInMap, bytes_of_stored_list};
+ghost use Rattle.lfs_file.specs.Hand.{bytes_of_stored_list};
 ghost use Rattle.lfs_file.specs.HandWrites.{IsWrittenUnfinishedListOfContentsEndingAt, IsUnfinishedListOfContentsEndingAt};
 
 use crate::stored_list::StoredList;
@@ -38,8 +36,7 @@ pub fn load_first_bytes_of_list_into_memory<D: BlockDevice>(
     requires short { keep < (D.geometry dev.old).block_size }
     ensures resting { IfOk result (IsWholeListInBuffer (D.geometry dev.old)) }
     ensures bytes { IfOk result (λ list. bytes_in_buffer list ≡ take keep (bytes_of_stored_list (D.blocks dev.old) (D.geometry dev.old).block_size stored)) }
-    ensures device { ReadsOnly D.BlockDevice dev.old dev.new }
-    ensures reports { ReportsIoOrNoMemory D.BlockDevice dev.old dev.new result }
+    ensures reading { OnlyReadsAndReportsIoOrNoMemory D.BlockDevice dev.old dev.new result }
 {
     let mut list = Extender::start_with_empty_list(alloc, dev.geometry())?;
     list.replace_buffered_content(&[]);
@@ -85,15 +82,11 @@ pub(crate) fn move_memory_contents_to_list_and_write<D: BlockDevice>(
     bytes: &[u8],
 ) -> Result<PendingList, Error>
     requires quiet { IsInMemoryWithNoBlockInFlight map.old (D.blocks dev.old) (D.geometry dev.old) list }
-    requires some { 1 ≤ length bytes.now }
     requires behind { length (bytes_in_buffer list) ≤ place + length bytes.now }
-    requires small { place + length bytes.now < 2 ^ 31 }
-    requires room { used_count map.old + list_block_count_for_size (D.geometry dev.old).block_size (place + length bytes.now) ≤ length map.old }
+    requires room { HasRoomForLongerList map.old (D.geometry dev.old).block_size place (place + length bytes.now) 0 }
     ensures written { IfOk result (λ h. IsWrittenUnfinishedListOfContentsEndingAt map.new (D.blocks dev.new) (D.geometry dev.old) h (place + length bytes.now) (contents_after_write (bytes_in_buffer list) place bytes.now)) }
     ensures base { IfOk result (λ h. (h.base.size ≡ 0) × (h.base.in_flight ≡ false)) }
-    ensures map { KeepsUsedBlocksInMap map.old map.new }
-    ensures device { CallKeepsUsedBlocks D.BlockDevice map.old dev.old dev.new }
-    ensures reports { ReportsIoOrNoMemory D.BlockDevice dev.old dev.new result }
+    ensures writing { WritesOnlyUnusedBlocks D.BlockDevice map.old map.new dev.old dev.new result }
 {
     let mut list = list;
     let keep = list.size().min(place);

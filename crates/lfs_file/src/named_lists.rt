@@ -1,13 +1,12 @@
 // Lists that a commit names.
 
 ghost use Rattle.std.specs.Prelude.{◌≡◌, ◌≤◌, ◌<◌, ◌+◌, ◌-◌, ◌*◌, ◌∷◌, ◌++◌, ℕ, [], drop, length, OnOk};
-ghost use Rattle.lfs_device.specs.Calls.{ReadsOnly};
 ghost use Rattle.lfs_model.specs.BlockSets.{Used};
 ghost use Rattle.lfs_model.specs.History.{read_count_of_history};
 ghost use Rattle.lfs_model.specs.SkipLists.{AreListBlocks, list_blocks_from_head};
-ghost use Rattle.lfs_file.specs.Calls.{ReportsNoErrorButIo};
-ghost use Rattle.lfs_file.specs.Bases.{IsSkipListOnDiskUnlessEmpty, list_blocks_by_head_and_size};
-ghost use Rattle.lfs_file.specs.SettledMaps.{MarksNewListUsedAndOldFree, KeepsStatesOfOtherBlocks, PutsBlocksInState, AreSharedBlocksUsed, used_or_free_block_state};
+ghost use Rattle.lfs_file.specs.BlockOwners.{blocks_of_stored_list};
+ghost use Rattle.lfs_file.specs.Effects.{OnlyReadsAndReportsIo, ReadsAtMostAndReportsIo};
+ghost use Rattle.lfs_file.specs.SettledMaps.{CanSettleList, MarksNewListUsedAndOldFree, KeepsStatesOfOtherBlocks, PutsBlocksInState, used_or_free_block_state};
 ghost use Rattle.lfs_file.specs.SharedBlocks.{IsCountOfSharedFrontBlocks, count_of_unshared_blocks_in_both_lists};
 
 use crate::shared_blocks::shared_block_count;
@@ -54,9 +53,7 @@ fn make_list_blocks_from_index_used_or_free<D: BlockDevice>(
     requires within { from ≤ count }
     ensures put { OnOk result (PutsBlocksInState (used_or_free_block_state used) map.old map.new (drop from (list_blocks_from_head (D.blocks dev.old) count head))) }
     ensures others { KeepsStatesOfOtherBlocks map.old map.new (list_blocks_from_head (D.blocks dev.old) count head) }
-    ensures device { ReadsOnly D.BlockDevice dev.old dev.new }
-    ensures reports { ReportsNoErrorButIo D.BlockDevice dev.old dev.new result }
-    ensures few { OnOk result (read_count_of_history (D.history dev.new) ≤ read_count_of_history (D.history dev.old) + (count - from)) }
+    ensures reading { ReadsAtMostAndReportsIo D.BlockDevice dev.old dev.new (count - from) result }
 {
     let mut block = head;
     let mut index = count;
@@ -82,21 +79,12 @@ pub fn settle_list<D: BlockDevice>(
     before: StoredList,
     stored: StoredList,
 ) -> Result<(), Error>
-    requires before { IsSkipListOnDiskUnlessEmpty (D.blocks dev.old) (D.geometry dev.old).block_size before.head before.size }
-    requires stored { IsSkipListOnDiskUnlessEmpty (D.blocks dev.old) (D.geometry dev.old).block_size stored.head stored.size }
-    requires map { length map.old ≡ length (D.blocks dev.old) }
-    requires shared { AreSharedBlocksUsed map.old (list_blocks_by_head_and_size (D.blocks dev.old) (D.geometry dev.old).block_size before.head before.size)
-        (list_blocks_by_head_and_size (D.blocks dev.old) (D.geometry dev.old).block_size stored.head stored.size) }
-    ensures settled { OnOk result (MarksNewListUsedAndOldFree map.old map.new (list_blocks_by_head_and_size (D.blocks dev.old) (D.geometry dev.old).block_size before.head before.size)
-        (list_blocks_by_head_and_size (D.blocks dev.old) (D.geometry dev.old).block_size stored.head stored.size)) }
-    ensures others { KeepsStatesOfOtherBlocks map.old map.new (list_blocks_by_head_and_size (D.blocks dev.old) (D.geometry dev.old).block_size before.head before.size
-        ++ list_blocks_by_head_and_size (D.blocks dev.old) (D.geometry dev.old).block_size stored.head stored.size) }
-    ensures device { ReadsOnly D.BlockDevice dev.old dev.new }
-    ensures reports { ReportsNoErrorButIo D.BlockDevice dev.old dev.new result }
-    ensures few { (n : ℕ) → IsCountOfSharedFrontBlocks (list_blocks_by_head_and_size (D.blocks dev.old) (D.geometry dev.old).block_size before.head before.size)
-        (list_blocks_by_head_and_size (D.blocks dev.old) (D.geometry dev.old).block_size stored.head stored.size) n
-        → OnOk result (read_count_of_history (D.history dev.new) ≤ read_count_of_history (D.history dev.old) + 2 * count_of_unshared_blocks_in_both_lists (list_blocks_by_head_and_size (D.blocks dev.old) (D.geometry dev.old).block_size before.head before.size)
-        (list_blocks_by_head_and_size (D.blocks dev.old) (D.geometry dev.old).block_size stored.head stored.size) n) }
+    requires { CanSettleList map.old (D.blocks dev.old) (D.geometry dev.old).block_size before stored }
+    ensures settled { OnOk result (MarksNewListUsedAndOldFree map.old map.new (blocks_of_stored_list (D.blocks dev.old) (D.geometry dev.old).block_size before) (blocks_of_stored_list (D.blocks dev.old) (D.geometry dev.old).block_size stored)) }
+    ensures others { KeepsStatesOfOtherBlocks map.old map.new (blocks_of_stored_list (D.blocks dev.old) (D.geometry dev.old).block_size before ++ blocks_of_stored_list (D.blocks dev.old) (D.geometry dev.old).block_size stored) }
+    ensures reading { OnlyReadsAndReportsIo D.BlockDevice dev.old dev.new result }
+    ensures few { (n : ℕ) → IsCountOfSharedFrontBlocks (blocks_of_stored_list (D.blocks dev.old) (D.geometry dev.old).block_size before) (blocks_of_stored_list (D.blocks dev.old) (D.geometry dev.old).block_size stored) n → OnOk result (read_count_of_history (D.history dev.new) ≤ read_count_of_history (D.history dev.old)
+        + 2 * count_of_unshared_blocks_in_both_lists (blocks_of_stored_list (D.blocks dev.old) (D.geometry dev.old).block_size before) (blocks_of_stored_list (D.blocks dev.old) (D.geometry dev.old).block_size stored) n) }
 {
     let block_size = dev.geometry().block_size;
     let gone = blocks_for(block_size, before.size);

@@ -1,18 +1,16 @@
 // Contents that get another size.
 
-ghost use Rattle.std.specs.Prelude.{◌≡◌, ◌≢◌, ◌≤◌, ◌<◌, ◌+◌, ◌*◌, ◌^◌, length, take, true, false, IfOk};
-ghost use Rattle.lfs_device.specs.Calls.{ReadsOnly};
+ghost use Rattle.std.specs.Prelude.{◌≡◌, ◌≤◌, ◌<◌, ◌+◌, ◌^◌, length, take, true, false, IfOk};
 ghost use Rattle.lfs_model.specs.BlockSets.{used_count};
-ghost use Rattle.lfs_model.specs.SkipLists.{list_block_count_for_size};
 ghost use Rattle.lfs_model.specs.Writers.{bytes_padded_with_zeros};
 ghost use Rattle.lfs_file.specs.Calls.{ReportsIoOrNoMemory};
-ghost use Rattle.lfs_file.specs.Growing.{size_of_growing_list};
+ghost use Rattle.lfs_file.specs.Effects.{OnlyReadsAndReportsIoOrNoMemory, WritesOnlyUnusedBlocks};
 ghost use Rattle.lfs_file.specs.ContentsCalls.{CallKeepsUsedBlocks};
 ghost use Rattle.lfs_file.specs.Contents.{CanTruncateContents, AreConsistentContentsWithBytesAndForm, IsInMemoryWithNoBlockInFlight, writer_contents_bytes_in_memory_or_blocks, storage_form_of_contents, bytes_in_buffer, block_room_for_truncation};
 ghost use Rattle.lfs_file.specs.Form as form;
 ghost use Rattle.lfs_file.specs.Form.{storage_form_after_truncate};
 ghost use Rattle.lfs_file.specs.Hand.{IsFinishedListConsistentWithMapAndDisk, KeepsUsedBlocksInMap, bytes_of_stored_list};
-ghost use Rattle.lfs_file.specs.BaseRoom.{in_flight_block_limit_of_stored_list};
+ghost use Rattle.lfs_file.specs.BaseRoom.{HasRoomForLongerList, in_flight_block_limit_of_stored_list};
 ghost use Rattle.lfs_file.specs.HandWrites.{IsWrittenUnfinishedListOfContentsEndingAt, IsUnfinishedListWithAtLeastOneByte, TakesUsedBlocksOfBaseFromOldBase, contents_bytes_of_unfinished_list, contents_length_of_unfinished_list};
 ghost use Rattle.lfs_file.specs.BlockOwners.{AreUsedBlocksOfListAmongOwnBlocks, KeepsBlocksOfStoredList, blocks_of_contents};
 
@@ -40,14 +38,10 @@ fn fill_up_memory_contents_into_unfinished_list<D: BlockDevice>(
     size: u32,
 ) -> Result<PendingList, Error>
     requires quiet { IsInMemoryWithNoBlockInFlight map.old (D.blocks dev.old) (D.geometry dev.old) list }
-    requires longer { length (bytes_in_buffer list) < size }
-    requires small { size < 2 ^ 31 }
-    requires room { used_count map.old + list_block_count_for_size (D.geometry dev.old).block_size size ≤ length map.old }
+    requires room { HasRoomForLongerList map.old (D.geometry dev.old).block_size (length (bytes_in_buffer list)) size 0 }
     ensures filled { IfOk result (λ h. IsWrittenUnfinishedListOfContentsEndingAt map.new (D.blocks dev.new) (D.geometry dev.old) h size (take size (bytes_padded_with_zeros size (bytes_in_buffer list)))) }
     ensures base { IfOk result (λ h. (h.base.size ≡ 0) × (h.base.in_flight ≡ false)) }
-    ensures map { KeepsUsedBlocksInMap map.old map.new }
-    ensures device { CallKeepsUsedBlocks D.BlockDevice map.old dev.old dev.new }
-    ensures reports { ReportsIoOrNoMemory D.BlockDevice dev.old dev.new result }
+    ensures writing { WritesOnlyUnusedBlocks D.BlockDevice map.old map.new dev.old dev.new result }
 {
     let gap = size - list.size();
     let mut hand = unfinished_list_without_base_list(list);
@@ -64,17 +58,11 @@ fn truncate_in_memory<D: BlockDevice>(
     limit: u32,
     size: u32,
 ) -> Result<WriterContents, Error>
-    requires quiet { IsInMemoryWithNoBlockInFlight map.old (D.blocks dev.old) (D.geometry dev.old) list }
-    requires few { length (bytes_in_buffer list) ≤ limit }
-    requires short { limit < (D.geometry dev.old).block_size }
-    requires small { size < 2 ^ 31 }
-    requires room { limit < size → used_count map.old + list_block_count_for_size (D.geometry dev.old).block_size size ≤ length map.old }
+    requires { CanTruncateContents map.old (D.blocks dev.old) (D.geometry dev.old) (WriterContents.InMemory list) limit size }
     ensures truncated { IfOk result (λ c. AreConsistentContentsWithBytesAndForm map.new (D.blocks dev.new) (D.geometry dev.old) c
         (take size (bytes_padded_with_zeros size (bytes_in_buffer list))) (storage_form_after_truncate limit size (form.InMemory (length (bytes_in_buffer list))))) }
     ensures owned { IfOk result (λ c. AreUsedBlocksOfListAmongOwnBlocks map.new (blocks_of_contents (D.blocks dev.old) (D.geometry dev.old).block_size (WriterContents.InMemory list)) (blocks_of_contents (D.blocks dev.new) (D.geometry dev.old).block_size c)) }
-    ensures map { KeepsUsedBlocksInMap map.old map.new }
-    ensures device { CallKeepsUsedBlocks D.BlockDevice map.old dev.old dev.new }
-    ensures reports { ReportsIoOrNoMemory D.BlockDevice dev.old dev.new result }
+    ensures writing { WritesOnlyUnusedBlocks D.BlockDevice map.old map.new dev.old dev.new result }
 {
     if size > limit {
         let hand = fill_up_memory_contents_into_unfinished_list(alloc, dev, map, list, size)?;
@@ -100,8 +88,7 @@ fn shorten_list_into_memory<D: BlockDevice>(
     ensures quiet { IfOk result (IsInMemoryWithNoBlockInFlight map.new (D.blocks dev.new) (D.geometry dev.old)) }
     ensures bytes { IfOk result (λ list. bytes_in_buffer list ≡ take size (bytes_padded_with_zeros size (bytes_of_stored_list (D.blocks dev.old) (D.geometry dev.old).block_size stored))) }
     ensures map { KeepsUsedBlocksInMap map.old map.new }
-    ensures device { ReadsOnly D.BlockDevice dev.old dev.new }
-    ensures reports { ReportsIoOrNoMemory D.BlockDevice dev.old dev.new result }
+    ensures reading { OnlyReadsAndReportsIoOrNoMemory D.BlockDevice dev.old dev.new result }
 {
     let mut list = load_first_bytes_of_list_into_memory(alloc, dev, stored, stored.size.min(size))?;
     list.write_buffered_content_at(size, &[]);
@@ -118,15 +105,11 @@ fn fill_up_finished_list<D: BlockDevice>(
     size: u32,
 ) -> Result<PendingList, Error>
     requires stored { IsFinishedListConsistentWithMapAndDisk map.old (D.blocks dev.old) (D.geometry dev.old).block_size stored }
-    requires longer { stored.size < size }
-    requires small { size < 2 ^ 31 }
-    requires room { used_count map.old + list_block_count_for_size (D.geometry dev.old).block_size size + in_flight_block_limit_of_stored_list (D.geometry dev.old).block_size stored ≤ length map.old }
+    requires room { HasRoomForLongerList map.old (D.geometry dev.old).block_size stored.size size (in_flight_block_limit_of_stored_list (D.geometry dev.old).block_size stored) }
     ensures filled { IfOk result (λ h. IsWrittenUnfinishedListOfContentsEndingAt map.new (D.blocks dev.new) (D.geometry dev.old) h size
         (take size (bytes_padded_with_zeros size (bytes_of_stored_list (D.blocks dev.old) (D.geometry dev.old).block_size stored)))) }
     ensures base { IfOk result (λ h. KeepsBlocksOfStoredList (D.geometry dev.old).block_size (D.blocks dev.old) stored (D.blocks dev.new) h.base) }
-    ensures map { KeepsUsedBlocksInMap map.old map.new }
-    ensures device { CallKeepsUsedBlocks D.BlockDevice map.old dev.old dev.new }
-    ensures reports { ReportsIoOrNoMemory D.BlockDevice dev.old dev.new result }
+    ensures writing { WritesOnlyUnusedBlocks D.BlockDevice map.old map.new dev.old dev.new result }
 {
     let begun = begin_list_over_finished_list(alloc, dev, stored, stored.size)?;
     let mut hand = begun;
@@ -143,16 +126,11 @@ fn truncate_finished_list<D: BlockDevice>(
     limit: u32,
     size: u32,
 ) -> Result<WriterContents, Error>
-    requires stored { IsFinishedListConsistentWithMapAndDisk map.old (D.blocks dev.old) (D.geometry dev.old).block_size stored }
-    requires short { limit < (D.geometry dev.old).block_size }
-    requires small { size < 2 ^ 31 }
-    requires room { limit < size → stored.size < size → used_count map.old + list_block_count_for_size (D.geometry dev.old).block_size size + in_flight_block_limit_of_stored_list (D.geometry dev.old).block_size stored ≤ length map.old }
+    requires { CanTruncateContents map.old (D.blocks dev.old) (D.geometry dev.old) (WriterContents.Finished stored) limit size }
     ensures truncated { IfOk result (λ c. AreConsistentContentsWithBytesAndForm map.new (D.blocks dev.new) (D.geometry dev.old) c
         (take size (bytes_padded_with_zeros size (bytes_of_stored_list (D.blocks dev.old) (D.geometry dev.old).block_size stored))) (storage_form_after_truncate limit size (form.Finished stored.size stored.in_flight))) }
     ensures owned { IfOk result (λ c. AreUsedBlocksOfListAmongOwnBlocks map.new (blocks_of_contents (D.blocks dev.old) (D.geometry dev.old).block_size (WriterContents.Finished stored)) (blocks_of_contents (D.blocks dev.new) (D.geometry dev.old).block_size c)) }
-    ensures map { KeepsUsedBlocksInMap map.old map.new }
-    ensures device { CallKeepsUsedBlocks D.BlockDevice map.old dev.old dev.new }
-    ensures reports { ReportsIoOrNoMemory D.BlockDevice dev.old dev.new result }
+    ensures writing { WritesOnlyUnusedBlocks D.BlockDevice map.old map.new dev.old dev.new result }
 {
     if size == stored.size {
         return Ok(WriterContents::Finished(stored));
@@ -178,18 +156,12 @@ fn lengthen_unfinished_list<D: BlockDevice>(
     size: u32,
 ) -> Result<PendingList, Error>
     requires going { IsUnfinishedListWithAtLeastOneByte map.old (D.blocks dev.old) (D.geometry dev.old) hand }
-    requires longer { contents_length_of_unfinished_list hand < size }
-    requires small { size < 2 ^ 31 }
-    requires on { size_of_growing_list hand.list ≡ contents_length_of_unfinished_list hand →
-        used_count map.old + list_block_count_for_size (D.geometry dev.old).block_size size + in_flight_block_limit_of_stored_list (D.geometry dev.old).block_size hand.base ≤ length map.old }
-    requires anew { size_of_growing_list hand.list ≢ contents_length_of_unfinished_list hand →
-        used_count map.old + 2 * list_block_count_for_size (D.geometry dev.old).block_size size ≤ length map.old }
+    requires longer { (contents_length_of_unfinished_list hand < size) × (size < 2 ^ 31) }
+    requires room { used_count map.old + block_room_for_truncation (D.geometry dev.old).block_size size (storage_form_of_contents (WriterContents.InHand hand)) ≤ length map.old }
     ensures lengthened { IfOk result (λ h. IsWrittenUnfinishedListOfContentsEndingAt map.new (D.blocks dev.new) (D.geometry dev.old) h size
         (take size (bytes_padded_with_zeros size (contents_bytes_of_unfinished_list (D.blocks dev.old) hand)))) }
     ensures over { IfOk result (TakesUsedBlocksOfBaseFromOldBase map.new (D.geometry dev.old).block_size (D.blocks dev.old) hand (contents_length_of_unfinished_list hand) (D.blocks dev.new)) }
-    ensures map { KeepsUsedBlocksInMap map.old map.new }
-    ensures device { CallKeepsUsedBlocks D.BlockDevice map.old dev.old dev.new }
-    ensures reports { ReportsIoOrNoMemory D.BlockDevice dev.old dev.new result }
+    ensures writing { WritesOnlyUnusedBlocks D.BlockDevice map.old map.new dev.old dev.new result }
 {
     let length = hand.list.size().max(hand.base.size);
     let turned = restart_unfinished_list_at_position(alloc, dev, map, hand, length)?;
@@ -207,17 +179,12 @@ fn shorten_unfinished_list<D: BlockDevice>(
     limit: u32,
     size: u32,
 ) -> Result<WriterContents, Error>
-    requires going { IsUnfinishedListWithAtLeastOneByte map.old (D.blocks dev.old) (D.geometry dev.old) hand }
+    requires can { CanTruncateContents map.old (D.blocks dev.old) (D.geometry dev.old) (WriterContents.InHand hand) limit size }
     requires shorter { size < contents_length_of_unfinished_list hand }
-    requires short { limit < (D.geometry dev.old).block_size }
-    requires small { size < 2 ^ 31 }
-    requires room { used_count map.old + in_flight_block_limit_of_stored_list (D.geometry dev.old).block_size hand.base + list_block_count_for_size (D.geometry dev.old).block_size hand.base.size ≤ length map.old }
     ensures truncated { IfOk result (λ c. AreConsistentContentsWithBytesAndForm map.new (D.blocks dev.new) (D.geometry dev.old) c
         (take size (bytes_padded_with_zeros size (contents_bytes_of_unfinished_list (D.blocks dev.old) hand))) (storage_form_after_truncate limit size (form.Finished (contents_length_of_unfinished_list hand) true))) }
     ensures owned { IfOk result (λ c. AreUsedBlocksOfListAmongOwnBlocks map.new (blocks_of_contents (D.blocks dev.old) (D.geometry dev.old).block_size (WriterContents.InHand hand)) (blocks_of_contents (D.blocks dev.new) (D.geometry dev.old).block_size c)) }
-    ensures map { KeepsUsedBlocksInMap map.old map.new }
-    ensures device { CallKeepsUsedBlocks D.BlockDevice map.old dev.old dev.new }
-    ensures reports { ReportsIoOrNoMemory D.BlockDevice dev.old dev.new result }
+    ensures writing { WritesOnlyUnusedBlocks D.BlockDevice map.old map.new dev.old dev.new result }
 {
     let stored = end_unfinished_list(alloc, dev, map, hand)?;
     let cut = truncate_finished_list(alloc, dev, map, stored, limit, size)?;
@@ -233,17 +200,11 @@ fn truncate_unfinished_list<D: BlockDevice>(
     limit: u32,
     size: u32,
 ) -> Result<WriterContents, Error>
-    requires going { IsUnfinishedListWithAtLeastOneByte map.old (D.blocks dev.old) (D.geometry dev.old) hand }
-    requires large { limit < contents_length_of_unfinished_list hand }
-    requires short { limit < (D.geometry dev.old).block_size }
-    requires small { size < 2 ^ 31 }
-    requires room { size ≢ contents_length_of_unfinished_list hand → used_count map.old + block_room_for_truncation (D.geometry dev.old).block_size size (storage_form_of_contents (WriterContents.InHand hand)) ≤ length map.old }
+    requires { CanTruncateContents map.old (D.blocks dev.old) (D.geometry dev.old) (WriterContents.InHand hand) limit size }
     ensures truncated { IfOk result (λ c. AreConsistentContentsWithBytesAndForm map.new (D.blocks dev.new) (D.geometry dev.old) c
         (take size (bytes_padded_with_zeros size (contents_bytes_of_unfinished_list (D.blocks dev.old) hand))) (storage_form_after_truncate limit size (storage_form_of_contents (WriterContents.InHand hand)))) }
     ensures owned { IfOk result (λ c. AreUsedBlocksOfListAmongOwnBlocks map.new (blocks_of_contents (D.blocks dev.old) (D.geometry dev.old).block_size (WriterContents.InHand hand)) (blocks_of_contents (D.blocks dev.new) (D.geometry dev.old).block_size c)) }
-    ensures map { KeepsUsedBlocksInMap map.old map.new }
-    ensures device { CallKeepsUsedBlocks D.BlockDevice map.old dev.old dev.new }
-    ensures reports { ReportsIoOrNoMemory D.BlockDevice dev.old dev.new result }
+    ensures writing { WritesOnlyUnusedBlocks D.BlockDevice map.old map.new dev.old dev.new result }
 {
     let length = hand.list.size().max(hand.base.size);
     if size == length {

@@ -1,13 +1,13 @@
 // Lists in hand that continue at another place.
 
-ghost use Rattle.std.specs.Prelude.{◌≡◌, ◌≢◌, ◌≤◌, ◌<◌, ◌+◌, ◌*◌, ◌^◌, length, max, min, IfOk};
+ghost use Rattle.std.specs.Prelude.{◌≡◌, ◌≢◌, ◌≤◌, ◌<◌, ◌+◌, ◌^◌, length, min, IfOk};
 ghost use Rattle.lfs_model.specs.BlockSets.{used_count};
 ghost use Rattle.lfs_model.specs.SkipLists.{list_block_count_for_size};
 ghost use Rattle.lfs_model.specs.Writers.{contents_after_write};
-ghost use Rattle.lfs_file.specs.Calls.{ReportsIoOrNoMemory};
+ghost use Rattle.lfs_file.specs.Effects.{WritesOnlyUnusedBlocks};
+ghost use Rattle.lfs_file.specs.Contents.{block_room_for_write};
+ghost use Rattle.lfs_file.specs.Form as form;
 ghost use Rattle.lfs_file.specs.Growing.{size_of_growing_list};
-ghost use Rattle.lfs_file.specs.ContentsCalls.{CallKeepsUsedBlocks};
-ghost use Rattle.lfs_file.specs.Hand.{KeepsUsedBlocksInMap};
 ghost use Rattle.lfs_file.specs.BaseRoom.{in_flight_block_limit_of_stored_list};
 ghost use Rattle.lfs_file.specs.HandWrites.{IsWrittenUnfinishedListOfContentsEndingAt, IsUnfinishedListOfContentsEndingAt, IsUnfinishedListWithAtLeastOneByte, TakesUsedBlocksOfBaseFromOldBase, contents_bytes_of_unfinished_list, contents_length_of_unfinished_list};
 
@@ -38,9 +38,7 @@ pub(crate) fn restart_unfinished_list_at_position<D: BlockDevice>(
         used_count map.old + in_flight_block_limit_of_stored_list (D.geometry dev.old).block_size hand.base + list_block_count_for_size (D.geometry dev.old).block_size hand.base.size ≤ length map.old }
     ensures turned { IfOk result (λ h. IsUnfinishedListOfContentsEndingAt map.new (D.blocks dev.new) (D.geometry dev.old) h place (contents_bytes_of_unfinished_list (D.blocks dev.old) hand)) }
     ensures over { IfOk result (TakesUsedBlocksOfBaseFromOldBase map.new (D.geometry dev.old).block_size (D.blocks dev.old) hand place (D.blocks dev.new)) }
-    ensures map { KeepsUsedBlocksInMap map.old map.new }
-    ensures device { CallKeepsUsedBlocks D.BlockDevice map.old dev.old dev.new }
-    ensures reports { ReportsIoOrNoMemory D.BlockDevice dev.old dev.new result }
+    ensures writing { WritesOnlyUnusedBlocks D.BlockDevice map.old map.new dev.old dev.new result }
 {
     if hand.list.size() == place {
         return Ok(hand);
@@ -66,18 +64,12 @@ pub(crate) fn write_to_unfinished_list_at_position<D: BlockDevice>(
     bytes: &[u8],
 ) -> Result<PendingList, Error>
     requires going { IsUnfinishedListWithAtLeastOneByte map.old (D.blocks dev.old) (D.geometry dev.old) hand }
-    requires some { 1 ≤ length bytes.now }
-    requires small { place + length bytes.now < 2 ^ 31 }
-    requires on { size_of_growing_list hand.list ≡ min place (contents_length_of_unfinished_list hand) →
-        used_count map.old + list_block_count_for_size (D.geometry dev.old).block_size (place + length bytes.now) + in_flight_block_limit_of_stored_list (D.geometry dev.old).block_size hand.base ≤ length map.old }
-    requires anew { size_of_growing_list hand.list ≢ min place (contents_length_of_unfinished_list hand) →
-        used_count map.old + 2 * list_block_count_for_size (D.geometry dev.old).block_size (max (contents_length_of_unfinished_list hand) (place + length bytes.now)) ≤ length map.old }
+    requires bytes { (1 ≤ length bytes.now) × (place + length bytes.now < 2 ^ 31) }
+    requires room { used_count map.old + block_room_for_write (D.geometry dev.old).block_size place (length bytes.now) (form.InHand (size_of_growing_list hand.list) hand.base.size hand.base.in_flight) ≤ length map.old }
     ensures written { IfOk result (λ h. IsWrittenUnfinishedListOfContentsEndingAt map.new (D.blocks dev.new) (D.geometry dev.old) h (place + length bytes.now)
         (contents_after_write (contents_bytes_of_unfinished_list (D.blocks dev.old) hand) place bytes.now)) }
     ensures over { IfOk result (TakesUsedBlocksOfBaseFromOldBase map.new (D.geometry dev.old).block_size (D.blocks dev.old) hand (min place (contents_length_of_unfinished_list hand)) (D.blocks dev.new)) }
-    ensures map { KeepsUsedBlocksInMap map.old map.new }
-    ensures device { CallKeepsUsedBlocks D.BlockDevice map.old dev.old dev.new }
-    ensures reports { ReportsIoOrNoMemory D.BlockDevice dev.old dev.new result }
+    ensures writing { WritesOnlyUnusedBlocks D.BlockDevice map.old map.new dev.old dev.new result }
 {
     let length = hand.list.size().max(hand.base.size);
     let turned = restart_unfinished_list_at_position(alloc, dev, map, hand, place.min(length))?;

@@ -1,9 +1,8 @@
 // Blocks in flight that are released.
 
 ghost use Rattle.std.specs.Prelude.{◌≡◌, ◌≤◌, ◌<◌, ◌∷◌, [], length, drop, OnOk};
-ghost use Rattle.lfs_device.specs.Calls.{ReadsOnly};
 ghost use Rattle.lfs_model.specs.SkipLists.{AreListBlocks, list_blocks_from_head};
-ghost use Rattle.lfs_file.specs.Calls.{ReportsNoErrorButIo};
+ghost use Rattle.lfs_file.specs.Effects.{OnlyReadsAndReportsIo};
 ghost use Rattle.lfs_file.specs.Hand.{KeepsUsedBlocksInMap};
 ghost use Rattle.lfs_file.specs.Releases.{ReleasesBlocksInFlight};
 
@@ -38,8 +37,7 @@ pub(crate) fn release_list_blocks_from<D: BlockDevice>(
     requires within { from ≤ count }
     ensures released { OnOk result (ReleasesBlocksInFlight map.old map.new (drop from (list_blocks_from_head (D.blocks dev.old) count head))) }
     ensures map { KeepsUsedBlocksInMap map.old map.new }
-    ensures device { ReadsOnly D.BlockDevice dev.old dev.new }
-    ensures reports { ReportsNoErrorButIo D.BlockDevice dev.old dev.new result }
+    ensures reading { OnlyReadsAndReportsIo D.BlockDevice dev.old dev.new result }
 {
     let mut block = head;
     let mut index = count;

@@ -1,10 +1,9 @@
 // The blocks that two lists share.
 
-ghost use Rattle.std.specs.Prelude.{◌≡◌, ◌≤◌, ◌<◌, ◌+◌, ◌-◌, min, slice_index, IfOk, OnOk};
-ghost use Rattle.lfs_device.specs.Calls.{ReadsOnly};
+ghost use Rattle.std.specs.Prelude.{◌≡◌, ◌≤◌, ◌<◌, ◌+◌, ◌-◌, min, slice_index, IfOk};
 ghost use Rattle.lfs_model.specs.History.{read_count_of_history};
 ghost use Rattle.lfs_model.specs.SkipLists.{AreListBlocks, list_blocks_from_head};
-ghost use Rattle.lfs_file.specs.Calls.{ReportsNoErrorButIo};
+ghost use Rattle.lfs_file.specs.Effects.{OnlyReadsAndReportsIo, ReadsAtMostAndReportsIo};
 ghost use Rattle.lfs_file.specs.SharedBlocks.{IsCountOfSharedFrontBlocks, count_of_unshared_blocks_in_both_lists};
 
 use crate::head_of_list_before_block;
@@ -20,9 +19,7 @@ fn list_block_before_index<D: BlockDevice>(
     requires chain { AreListBlocks (D.blocks dev.old) count head }
     requires within { index ≤ count }
     ensures block { IfOk result (λ b. 0 < index → b ≡ slice_index (list_blocks_from_head (D.blocks dev.old) count head) (index - 1)) }
-    ensures device { ReadsOnly D.BlockDevice dev.old dev.new }
-    ensures reports { ReportsNoErrorButIo D.BlockDevice dev.old dev.new result }
-    ensures few { OnOk result (read_count_of_history (D.history dev.new) ≤ read_count_of_history (D.history dev.old) + (count - index)) }
+    ensures reading { ReadsAtMostAndReportsIo D.BlockDevice dev.old dev.new (count - index) result }
 {
     let mut block = head;
     let mut at = count;
@@ -50,8 +47,7 @@ pub(crate) fn shared_block_count<D: BlockDevice>(
     requires chain { AreListBlocks (D.blocks dev.old) count head }
     requires other { AreListBlocks (D.blocks dev.old) other_count other }
     ensures shared { IfOk result (IsCountOfSharedFrontBlocks (list_blocks_from_head (D.blocks dev.old) count head) (list_blocks_from_head (D.blocks dev.old) other_count other)) }
-    ensures device { ReadsOnly D.BlockDevice dev.old dev.new }
-    ensures reports { ReportsNoErrorButIo D.BlockDevice dev.old dev.new result }
+    ensures reading { OnlyReadsAndReportsIo D.BlockDevice dev.old dev.new result }
     ensures few { IfOk result (λ n. read_count_of_history (D.history dev.new) ≤ read_count_of_history (D.history dev.old)
         + count_of_unshared_blocks_in_both_lists (list_blocks_from_head (D.blocks dev.old) count head) (list_blocks_from_head (D.blocks dev.old) other_count other) n) }
     ensures none { min count other_count ≡ 0 → read_count_of_history (D.history dev.new) ≡ read_count_of_history (D.history dev.old) }

@@ -10,7 +10,7 @@ use Rattle.lfs_model.proofs.Histories.{is_byte_unprogrammed-read_count_of_histor
 use Rattle.lfs_thread.specs.Beside.{LeavesUsedBlocksOfPairsUnchangedAndUsed, AreDeviceAndMapOfThread}
 use Rattle.lfs_thread.specs.Kept.{KeptThread}
 use Rattle.lfs_file.specs.Bases.{IsSkipListOnDiskUnlessEmpty, list_blocks_by_head_and_size}
-use Rattle.lfs_file.specs.SettledMaps.{MarksNewListUsedAndOldFree, KeepsStatesOfOtherBlocks, AreSharedBlocksUsed}
+use Rattle.lfs_file.specs.SettledMaps.{CanSettleList, MarksNewListUsedAndOldFree, KeepsStatesOfOtherBlocks, AreSharedBlocksUsed}
 use Rattle.lfs_file.specs.declared.stored_list.StoredList.{StoredList}
 use Rattle.lfs_tree.specs.SettledFiles.{CanMarkStoredListUsedAndOldFree, IsStoredListUsedAndOldListFree, blocks_of_list_on_thread}
 use Rattle.lfs_tree.proofs.Standing.{blocks_here, size_here}
@@ -32,9 +32,13 @@ module _ {D : Type 0} (g : Ghosts D) (t : KeptThread) (device : D) (map : BlockS
       (subst (λ (l : List ℕ). AreSharedBlocksUsed t.map l (list_blocks_by_head_and_size (g.blocks device) (g.geometry device).block_size stored.head stored.size)) (sym (list_here before))
       (subst (λ (l : List ℕ). AreSharedBlocksUsed t.map (blocks_of_list_on_thread t before) l) (sym (list_here stored)) can.shared))
 
-  pub settle_here : IsSkipListOnDiskUnlessEmpty (g.blocks device) (g.geometry device).block_size before.head before.size × (IsSkipListOnDiskUnlessEmpty (g.blocks device) (g.geometry device).block_size stored.head stored.size × ((length map ≡ length (g.blocks device))
-      × AreSharedBlocksUsed map (list_blocks_by_head_and_size (g.blocks device) (g.geometry device).block_size before.head before.size) (list_blocks_by_head_and_size (g.blocks device) (g.geometry device).block_size stored.head stored.size)))
-  settle_here = (base_here before can.was, (base_here stored can.list, (ap length shows.map ∙ can.size ∙ sym (ap length (blocks_here g t device map shows shape)), shared_here)))
+  pub settle_here : CanSettleList map (g.blocks device) (g.geometry device).block_size before stored
+  settle_here = record {
+    gone = base_here before can.was;
+    kept = base_here stored can.list;
+    count = ap length shows.map ∙ can.size ∙ sym (ap length (blocks_here g t device map shows shape));
+    shared = shared_here;
+  }
 
   -- the pairs stay, since their blocks are in neither list
   pub settle_leaves : (later : D) (later_map : BlockStateList) → ReadsOnly g device later

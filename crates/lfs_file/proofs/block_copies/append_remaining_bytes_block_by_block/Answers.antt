@@ -1,5 +1,6 @@
-use Rattle.std.proofs.Common.{ℕ, ◌≡◌, ◌+◌, ◌-◌, ◌<◌, ◌≤◌, get_or, List, ◌++◌, length, min, take, drop, slice_index, refl, sym, ap, ◌∙◌, subst, arith}
+use Rattle.std.proofs.Common.{ℕ, inl, ◌≡◌, ◌+◌, ◌-◌, ◌<◌, ◌≤◌, get_or, List, ◌++◌, length, min, take, drop, slice_index, refl, sym, ap, ◌∙◌, subst, arith}
 use Rattle.std.proofs.lemmas.List.{get_or_read, length-take-le}
+use Rattle.std.proofs.lemmas.Result.{err_from_is_err_and}
 use Rattle.lfs_device.specs.declared.geometry.Geometry.{Geometry}
 use Rattle.lfs_model.specs.Blocks.{Blocks, HasBlocksOfCountAndSize}
 use Rattle.lfs_model.specs.SkipLists.{IsPlaceOfByteInList, IsSkipList, list_blocks_from_head, list_block_count_for_size, bytes_of_skip_list}
@@ -8,7 +9,7 @@ use Rattle.lfs_file.specs.Growing.{HasGrowingListOnDisk, bytes_of_growing_list, 
 use Rattle.lfs_file.specs.BlocksApart.{GrowsListInFreeBlocks, HasGrowingListBlocksTaken}
 use Rattle.lfs_file.specs.Bases.{list_blocks_by_head_and_size}
 use Rattle.lfs_file.specs.Extensions.{CanEndGrowingListInOwnBlocks}
-use Rattle.lfs_file.proofs.ContentsCalled.{apart_on, apart_read, apart_reads, quiet}
+use Rattle.lfs_file.proofs.ContentsCalled.{apart_on, apart_read, apart_reads, quiet, reported_as, reported_on}
 use Rattle.lfs_file.proofs.Copies.{base_list, grown_on, copied, none_behind, sized}
 use Rattle.lfs_file.proofs.Growth.{GrowsListInFreeBlocks-refl, Keeps-refl, Keeps-trans}
 use Rattle.lfs_model.proofs.ListParts.{place-lt}
@@ -18,11 +19,18 @@ use Rattle.lfs_file.proofs.block_copies.append_remaining_bytes_block_by_block.Go
 pub list_blocks_from_index-requires-clause-within : goal.list_blocks_from_index-requires-clause-within
 list_blocks_from_index-requires-clause-within g c =
     let behind = c.requires.behind in
-    let lt = place-lt c.geometry-block_size.result.block_size c.args.size _ _ _ c.geometry-block_size.result.valid.no_smaller c.place-from.ensures (omega (arith, c.size.ensures)) in
+    let lt = place-lt c.geometry-block_size.result.block_size c.args.base.size _ _ _ c.geometry-block_size.result.valid.no_smaller c.place-from.ensures (omega (arith, c.size.ensures)) in
     omega (arith, lt, c.blocks_for.ensures)
 
-pub returns-in_err-blocks-clause-device : goal.returns-in_err-blocks-clause-device
-returns-in_err-blocks-clause-device g c = apart_reads g.D.BlockDevice _ _ c.list_blocks_from_index.ensures.device
+pub returns-in_err-blocks-clause-writing : goal.returns-in_err-blocks-clause-writing
+returns-in_err-blocks-clause-writing g c =
+    let p = err_from_is_err_and c.from_residual.result c.from_residual.ensures.1 in
+    let reports = c.in_err-blocks.ensures.reports in
+    rw (p.1, p.2) (record {
+      map = Keeps-refl _;
+      device = apart_reads g.D.BlockDevice _ _ c.list_blocks_from_index.ensures.device;
+      reports = record { faults = reported_as g.D.BlockDevice reports.faults; errors = reports.errors };
+    })
 
 pub copying-init : goal.copying-init
 copying-init g c =
@@ -32,16 +40,16 @@ copying-init g c =
     let block_size : ℕ = c.args.list.now.geometry.block_size in
     let same = c.list_blocks_from_index.ensures.device.same in
     record {
-      growing = subst (λ x. HasGrowingListOnDisk x was) (sym same) c.requires.growing;
+      growing = subst (λ x. HasGrowingListOnDisk x was) (sym same) c.requires.can.growing;
       same = refl;
       grown = subst (λ x. GrowsListInFreeBlocks map d was map x was) (sym same) (GrowsListInFreeBlocks-refl _ _ _);
-      marked = subst (λ x. HasGrowingListBlocksTaken map x was) (sym same) c.requires.marked;
+      marked = subst (λ x. HasGrowingListBlocksTaken map x was) (sym same) c.requires.can.marked;
       map = Keeps-refl _;
       device = apart_reads g.D.BlockDevice _ _ c.list_blocks_from_index.ensures.device;
-      own = subst (λ x. CanEndGrowingListInOwnBlocks x was) (sym same) c.requires.own;
+      own = subst (λ x. CanEndGrowingListInOwnBlocks x was) (sym same) c.requires.can.own;
       some = omega arith;
       top = omega arith;
-      bytes = ap (λ (x : Blocks). bytes_of_growing_list x was ++ drop (growing_list_size_with_block_size block_size was) (bytes_of_skip_list d block_size c.args.head c.args.size)) same;
+      bytes = ap (λ (x : Blocks). bytes_of_growing_list x was ++ drop (growing_list_size_with_block_size block_size was) (bytes_of_skip_list d block_size c.args.base.head c.args.base.size)) same;
       quiet = quiet g.D.BlockDevice c.in_ok-blocks.ensures.reports.faults;
     }
 
@@ -55,15 +63,15 @@ overflow_sub-index g c =
     let inv = c.copying.invariant in
     let d : Blocks = g.D.BlockDevice.blocks c.args.dev.now in
     let geometry : Geometry = c.args.list.now.geometry in
-    let made = c.geometry-block_size.ensures ∙ c.requires.geometry in
+    let made = c.geometry-block_size.ensures ∙ c.requires.can.geometry in
     let here = sized geometry c.copying.list.geometry c.copying.list inv.same in
     let some = inv.some in
     let start = c.size.ensures in
     let at = c.size-pos.ensures in
     let test = c.copying-test.true in
     let len = c.size-in-copying.ensures in
-    (among d geometry.block_size c.args.head c.args.size c.size.result c.place-from.result.0 c.place-from.result.1 c.in_ok-blocks.blocks.items geometry.valid.no_smaller
-    (placed_by geometry _ _ _ _ made c.place-from.ensures) (collected d geometry _ c.args.head c.args.size _ _ _ made c.blocks_for.ensures c.in_ok-blocks.ensures.blocks)
+    (among d geometry.block_size c.args.base.head c.args.base.size c.size.result c.place-from.result.0 c.place-from.result.1 c.in_ok-blocks.blocks.items geometry.valid.no_smaller
+    (placed_by geometry _ _ _ _ made c.place-from.ensures) (collected d geometry _ c.args.base.head c.args.base.size _ _ _ made c.blocks_for.ensures c.in_ok-blocks.ensures.blocks)
     c.size-pos.result c.place-index.result.0 c.place-index.result.1 (placed_by geometry _ _ _ _ made c.place-index.ensures) (omega arith) (omega arith)).0
 
 pub index-block-requires : goal.index-block-requires
@@ -71,15 +79,15 @@ index-block-requires g c =
     let inv = c.copying.invariant in
     let d : Blocks = g.D.BlockDevice.blocks c.args.dev.now in
     let geometry : Geometry = c.args.list.now.geometry in
-    let made = c.geometry-block_size.ensures ∙ c.requires.geometry in
+    let made = c.geometry-block_size.ensures ∙ c.requires.can.geometry in
     let here = sized geometry c.copying.list.geometry c.copying.list inv.same in
     let some = inv.some in
     let start = c.size.ensures in
     let at = c.size-pos.ensures in
     let test = c.copying-test.true in
     let len = c.size-in-copying.ensures in
-    let lt = (among d geometry.block_size c.args.head c.args.size c.size.result c.place-from.result.0 c.place-from.result.1 c.in_ok-blocks.blocks.items geometry.valid.no_smaller
-    (placed_by geometry _ _ _ _ made c.place-from.ensures) (collected d geometry _ c.args.head c.args.size _ _ _ made c.blocks_for.ensures c.in_ok-blocks.ensures.blocks)
+    let lt = (among d geometry.block_size c.args.base.head c.args.base.size c.size.result c.place-from.result.0 c.place-from.result.1 c.in_ok-blocks.blocks.items geometry.valid.no_smaller
+    (placed_by geometry _ _ _ _ made c.place-from.ensures) (collected d geometry _ c.args.base.head c.args.base.size _ _ _ made c.blocks_for.ensures c.in_ok-blocks.ensures.blocks)
     c.size-pos.result c.place-index.result.0 c.place-index.result.1 (placed_by geometry _ _ _ _ made c.place-index.ensures) (omega arith) (omega arith)).1 in
     omega (arith, lt, c.in_ok-blocks.blocks.ok.0)
 
@@ -98,35 +106,50 @@ read_of d geometry made head size n start from skip pos i off block items same c
 shaped : (d : Blocks) (geometry now : Geometry) → now ≡ geometry → HasBlocksOfCountAndSize now.block_size now.block_count d → HasBlocksOfCountAndSize geometry.block_size geometry.block_count d
 shaped d geometry now same shape = subst (λ (k : Geometry). HasBlocksOfCountAndSize k.block_size k.block_count d) same shape
 
-pub read_bytes_of_block_from-requires-clause-in_device : goal.read_bytes_of_block_from-requires-clause-in_device
-read_bytes_of_block_from-requires-clause-in_device g c =
+pub read_bytes_of_block_from-requires-clause-place : goal.read_bytes_of_block_from-requires-clause-place
+read_bytes_of_block_from-requires-clause-place g c =
     let inv = c.copying.invariant in
     let d : Blocks = g.D.BlockDevice.blocks c.args.dev.now in
     let geometry : Geometry = c.args.list.now.geometry in
-    let made = c.geometry-block_size.ensures ∙ c.requires.geometry in
+    let made = c.geometry-block_size.ensures ∙ c.requires.can.geometry in
     let here = sized geometry c.copying.list.geometry c.copying.list inv.same in
     let some = inv.some in
     let start = c.size.ensures in
     let at = c.size-pos.ensures in
     let test = c.copying-test.true in
     let len = c.size-in-copying.ensures in
-    let list : IsSkipList d geometry.block_size c.args.head c.args.size = base_list d geometry.block_size c.args.head c.args.size (omega arith) c.requires.base.base in
-    let is = read_of d geometry _ c.args.head c.args.size _ c.size.result c.place-from.result.0 c.place-from.result.1 c.size-pos.result c.place-index.result.0 c.place-index.result.1 c.index-block.result.now c.in_ok-blocks.blocks.items
+    let list : IsSkipList d geometry.block_size c.args.base.head c.args.base.size = base_list d geometry.block_size c.args.base.head c.args.base.size (omega arith) c.requires.can.apart.base in
+    let is = read_of d geometry _ c.args.base.head c.args.base.size _ c.size.result c.place-from.result.0 c.place-from.result.1 c.size-pos.result c.place-index.result.0 c.place-index.result.1 c.index-block.result.now c.in_ok-blocks.blocks.items
     made c.blocks_for.ensures c.in_ok-blocks.ensures.blocks c.place-from.ensures c.place-index.ensures (omega arith) (omega arith) (λ lt. get_or_read c.in_ok-blocks.blocks.items _ _ lt c.index-block.ensures 0) in
-    let lt = on_device d geometry.block_size geometry.block_count c.args.head c.args.size geometry.valid.no_smaller (shaped d geometry _ c.requires.geometry (g.met.D.BlockDevice.shape c.args.dev.now)) list
+    let lt = on_device d geometry.block_size geometry.block_count c.args.base.head c.args.base.size geometry.valid.no_smaller (shaped d geometry _ c.requires.can.geometry (g.met.D.BlockDevice.shape c.args.dev.now)) list
     c.size-pos.result c.place-index.result.0 c.place-index.result.1 c.index-block.result.now (placed_by geometry _ _ _ _ made c.place-index.ensures) (omega arith) is in
-    subst (λ (k : Geometry). c.index-block.result.now < k.block_count) (sym (inv.device.geometry ∙ c.requires.geometry)) lt
+    let same = inv.device.geometry ∙ c.requires.can.geometry in
+    (subst (λ (k : Geometry). c.index-block.result.now < k.block_count) (sym same) lt, (let at = c.place-index.ensures.at in let from = c.place-index.ensures.from in let below = c.place-index.ensures.below in let e = ap (λ (k : Geometry). k.block_size) inv.device.geometry in let made = ap (λ (k : Geometry). k.block_size) c.geometry-block_size.ensures in omega arith))
 
-pub returns-in_err-count-clause-device : goal.returns-in_err-count-clause-device
-returns-in_err-count-clause-device g c = apart_read g.D.BlockDevice c.copying.invariant.device c.read_bytes_of_block_from.ensures.device
-
-pub returns-in_err-extend_list_in_free_blocks-clause-map : goal.returns-in_err-extend_list_in_free_blocks-clause-map
-returns-in_err-extend_list_in_free_blocks-clause-map g c = Keeps-trans c.copying.invariant.map c.extend_list_in_free_blocks.ensures.map
-
-pub returns-in_err-extend_list_in_free_blocks-clause-device : goal.returns-in_err-extend_list_in_free_blocks-clause-device
-returns-in_err-extend_list_in_free_blocks-clause-device g c =
+pub returns-in_err-count-clause-writing : goal.returns-in_err-count-clause-writing
+returns-in_err-count-clause-writing g c =
     let inv = c.copying.invariant in
-    apart_on g.D.BlockDevice inv.grown.apart (apart_read g.D.BlockDevice inv.device c.read_bytes_of_block_from.ensures.device) c.extend_list_in_free_blocks.ensures.device
+    let p = err_from_is_err_and c.from_residual-in_err-count.result c.from_residual-in_err-count.ensures.1 in
+    let reading = c.in_err-count.ensures.reading in
+    rw (p.1, p.2) (record {
+      map = inv.map;
+      device = apart_read g.D.BlockDevice inv.device reading.device;
+      reports = record { faults = reported_on g.D.BlockDevice inv.quiet (reported_as g.D.BlockDevice reading.reports.faults); errors = inl reading.reports.errors };
+    })
+
+pub returns-in_err-extend_list_in_free_blocks-clause-writing : goal.returns-in_err-extend_list_in_free_blocks-clause-writing
+returns-in_err-extend_list_in_free_blocks-clause-writing g c =
+    let inv = c.copying.invariant in
+    let p = err_from_is_err_and c.from_residual-in_err-extend_list_in_free_blocks.result c.from_residual-in_err-extend_list_in_free_blocks.ensures.1 in
+    let reports = c.in_err-extend_list_in_free_blocks.ensures.reports in
+    rw (p.1, p.2) (record {
+      map = Keeps-trans inv.map c.extend_list_in_free_blocks.ensures.map;
+      device = apart_on g.D.BlockDevice inv.grown.apart (apart_read g.D.BlockDevice inv.device c.read_bytes_of_block_from.ensures.reading.device) c.extend_list_in_free_blocks.ensures.device;
+      reports = record {
+        faults = reported_on g.D.BlockDevice (quiet g.D.BlockDevice c.in_ok-count.ensures.reading.reports.faults ∙ inv.quiet) (reported_as g.D.BlockDevice reports.faults);
+        errors = reports.errors;
+      };
+    })
 
 pub extend_list_in_free_blocks-requires-clause-room : goal.extend_list_in_free_blocks-requires-clause-room
 extend_list_in_free_blocks-requires-clause-room g c =
@@ -139,15 +162,16 @@ extend_list_in_free_blocks-requires-clause-room g c =
     let test = c.copying-test.true in
     let len = c.size-in-copying.ensures in
     let here = sized geometry c.copying.list.geometry now inv.same in
-    let few = c.in_ok-count.ensures.count in
-    let long : length (take n c.read_bytes_of_block_from.new.buf) ≡ n = length-take-le n c.read_bytes_of_block_from.new.buf (omega (arith, c.read_bytes_of_block_from.auto.buf, few)) in
-    let more = list_block_count_for_size-more block_size (growing_list_size_with_block_size block_size now + length (take n c.read_bytes_of_block_from.new.buf)) c.args.size (omega arith) in
+    let some_read = c.in_ok-count.ensures.read.some in
+    let few = c.in_ok-count.ensures.read.least in
+    let long : length (take n c.read_bytes_of_block_from.new.buf) ≡ n = length-take-le n c.read_bytes_of_block_from.new.buf c.in_ok-count.ensures.read.within in
+    let more = list_block_count_for_size-more block_size (growing_list_size_with_block_size block_size now + length (take n c.read_bytes_of_block_from.new.buf)) c.args.base.size (omega arith) in
     let same = ap (λ (k : Geometry). list_block_count_for_size k.block_size (growing_list_size_with_block_size k.block_size now + length (take n c.read_bytes_of_block_from.new.buf))) inv.same in
-    let kept = ap (λ (x : Blocks). length (blocks_kept_when_growing x now)) c.read_bytes_of_block_from.ensures.device.same in
+    let kept = ap (λ (x : Blocks). length (blocks_kept_when_growing x now)) c.read_bytes_of_block_from.ensures.reading.device.same in
     let count = inv.grown.count in
     let states = inv.map.count in
     let used = inv.map.used in
-    let room = c.requires.room in
+    let room = c.requires.can.room in
     omega arith
 
 pub copying-preserved : goal.copying-preserved
@@ -156,12 +180,12 @@ copying-preserved g c =
     let geometry : Geometry = c.args.list.now.geometry in
     let block_size : ℕ = geometry.block_size in
     let d : Blocks = g.D.BlockDevice.blocks c.args.dev.now in
-    let base : List ℕ = bytes_of_skip_list d block_size c.args.head c.args.size in
+    let base : List ℕ = bytes_of_skip_list d block_size c.args.base.head c.args.base.size in
     let now = c.copying.list in
     let new = c.extend_list_in_free_blocks.new.list in
     let n : ℕ = c.in_ok-count.count in
     let pos : ℕ = c.size-pos.result in
-    let made = c.geometry-block_size.ensures ∙ c.requires.geometry in
+    let made = c.geometry-block_size.ensures ∙ c.requires.can.geometry in
     let more = c.in_ok-extend_list_in_free_blocks.ensures.extended in
     let here = sized geometry c.copying.list.geometry now inv.same in
     let there = sized geometry c.extend_list_in_free_blocks.new.list.geometry new (more.geometry ∙ inv.same) in
@@ -170,32 +194,33 @@ copying-preserved g c =
     let test = c.copying-test.true in
     let len = c.size-in-copying.ensures in
     let sum = more.sum in
-    let few = c.in_ok-count.ensures.count in
-    let long : length (take n c.read_bytes_of_block_from.new.buf) ≡ n = length-take-le n c.read_bytes_of_block_from.new.buf (omega (arith, c.read_bytes_of_block_from.auto.buf, few)) in
+    let some_read = c.in_ok-count.ensures.read.some in
+    let few = c.in_ok-count.ensures.read.least in
+    let long : length (take n c.read_bytes_of_block_from.new.buf) ≡ n = length-take-le n c.read_bytes_of_block_from.new.buf c.in_ok-count.ensures.read.within in
     let some = inv.some in
-    let list : IsSkipList d block_size c.args.head c.args.size = base_list d block_size c.args.head c.args.size (omega arith) c.requires.base.base in
-    let is = read_of d geometry _ c.args.head c.args.size _ c.size.result c.place-from.result.0 c.place-from.result.1 pos c.place-index.result.0 c.place-index.result.1 c.index-block.result.now c.in_ok-blocks.blocks.items
+    let list : IsSkipList d block_size c.args.base.head c.args.base.size = base_list d block_size c.args.base.head c.args.base.size (omega arith) c.requires.can.apart.base in
+    let is = read_of d geometry _ c.args.base.head c.args.base.size _ c.size.result c.place-from.result.0 c.place-from.result.1 pos c.place-index.result.0 c.place-index.result.1 c.index-block.result.now c.in_ok-blocks.blocks.items
     made c.blocks_for.ensures c.in_ok-blocks.ensures.blocks c.place-from.ensures c.place-index.ensures (omega arith) (omega arith) (λ lt. get_or_read c.in_ok-blocks.blocks.items _ _ lt c.index-block.ensures 0) in
-    let many = few.2 ∙ ap (λ (k : Geometry). min (k.block_size - c.place-index.result.1) (c.args.size - pos)) (inv.device.geometry ∙ c.requires.geometry) in
-    let chunk = piece d block_size geometry.block_count c.args.head c.args.size geometry.valid.no_smaller (shaped d geometry _ c.requires.geometry (g.met.D.BlockDevice.shape c.args.dev.now)) list
-    _ _ _ pos n c.place-index.result.0 c.place-index.result.1 c.index-block.result.now (take n c.read_bytes_of_block_from.new.buf) inv.device.spared c.requires.base.apart
-    (placed_by geometry _ _ _ _ made c.place-index.ensures) (omega arith) many is c.in_ok-count.ensures.bytes in
+    let many = few ∙ ap (λ (k : Geometry). min (k.block_size - c.place-index.result.1) (c.args.base.size - pos)) (inv.device.geometry ∙ c.requires.can.geometry) in
+    let chunk = piece d block_size geometry.block_count c.args.base.head c.args.base.size geometry.valid.no_smaller (shaped d geometry _ c.requires.can.geometry (g.met.D.BlockDevice.shape c.args.dev.now)) list
+    _ _ _ pos n c.place-index.result.0 c.place-index.result.1 c.index-block.result.now (take n c.read_bytes_of_block_from.new.buf) inv.device.spared c.requires.can.apart.apart
+    (placed_by geometry _ _ _ _ made c.place-index.ensures) (omega arith) many is c.in_ok-count.ensures.read.bytes in
     record {
       growing = more.growing;
       same = more.geometry ∙ inv.same;
-      grown = grown_on _ _ _ _ _ _ _ _ _ _ c.read_bytes_of_block_from.ensures.device.same inv.map inv.grown more.grown;
+      grown = grown_on _ _ _ _ _ _ _ _ _ _ c.read_bytes_of_block_from.ensures.reading.device.same inv.map inv.grown more.grown;
       marked = more.marked;
       map = Keeps-trans inv.map c.extend_list_in_free_blocks.ensures.map;
-      device = apart_on g.D.BlockDevice inv.grown.apart (apart_read g.D.BlockDevice inv.device c.read_bytes_of_block_from.ensures.device) c.extend_list_in_free_blocks.ensures.device;
+      device = apart_on g.D.BlockDevice inv.grown.apart (apart_read g.D.BlockDevice inv.device c.read_bytes_of_block_from.ensures.reading.device) c.extend_list_in_free_blocks.ensures.device;
       own = more.own;
       some = omega arith;
       top = omega arith;
-      bytes = ap (λ (l : List ℕ). l ++ drop (growing_list_size_with_block_size block_size new) base) (more.content ∙ ap (λ (x : Blocks). bytes_of_growing_list x now ++ take n c.read_bytes_of_block_from.new.buf) c.read_bytes_of_block_from.ensures.device.same)
+      bytes = ap (λ (l : List ℕ). l ++ drop (growing_list_size_with_block_size block_size new) base) (more.content ∙ ap (λ (x : Blocks). bytes_of_growing_list x now ++ take n c.read_bytes_of_block_from.new.buf) c.read_bytes_of_block_from.ensures.reading.device.same)
           ∙ ap (λ k. bytes_of_growing_list (g.D.BlockDevice.blocks c.copying.dev) now ++ take n c.read_bytes_of_block_from.new.buf ++ drop k base) (let k : growing_list_size_with_block_size block_size new ≡ pos + n = omega arith in k)
           ∙ copied (bytes_of_growing_list (g.D.BlockDevice.blocks c.copying.dev) now) (take n c.read_bytes_of_block_from.new.buf) base pos n chunk
           ∙ ap (λ k. bytes_of_growing_list (g.D.BlockDevice.blocks c.copying.dev) now ++ drop k base) (let k : pos ≡ growing_list_size_with_block_size block_size now = omega arith in k)
           ∙ inv.bytes;
-      quiet = quiet g.D.BlockDevice c.in_ok-extend_list_in_free_blocks.ensures.reports.faults ∙ quiet g.D.BlockDevice c.in_ok-count.ensures.reports.faults ∙ inv.quiet;
+      quiet = quiet g.D.BlockDevice c.in_ok-extend_list_in_free_blocks.ensures.reports.faults ∙ quiet g.D.BlockDevice c.in_ok-count.ensures.reading.reports.faults ∙ inv.quiet;
     }
 
 pub returns-clause-extended : goal.returns-clause-extended
@@ -213,9 +238,14 @@ returns-clause-extended g c =
     record {
       geometry = inv.same;
       growing = inv.growing;
-      content = sym (none_behind d block_size c.args.head c.args.size (growing_list_size_with_block_size block_size now) (bytes_of_growing_list (g.D.BlockDevice.blocks c.copying.dev) now) (omega arith)) ∙ inv.bytes;
+      content = sym (none_behind d block_size c.args.base.head c.args.base.size (growing_list_size_with_block_size block_size now) (bytes_of_growing_list (g.D.BlockDevice.blocks c.copying.dev) now) (omega arith)) ∙ inv.bytes;
       sum = omega arith;
       own = inv.own;
       grown = inv.grown;
       marked = inv.marked;
     }
+
+pub returns-clause-writing : goal.returns-clause-writing
+returns-clause-writing g c =
+    let inv = c.copying.invariant in
+    record { map = inv.map; device = inv.device; reports = record { faults = record { fault = λ is. absurd (cc); no_fault = λ _. inv.quiet }; errors = tt } }

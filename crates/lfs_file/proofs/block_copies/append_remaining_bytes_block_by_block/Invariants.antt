@@ -15,7 +15,7 @@ invariant-copying g l =
     let block_size = l.fn.list.geometry.block_size in
     let old = g.D.BlockDevice.blocks l.fn.dev in
     let new = g.D.BlockDevice.blocks l.dev in
-    let base = bytes_of_skip_list old block_size l.fn.head l.fn.size in
+    let base = bytes_of_skip_list old block_size l.fn.base.head l.fn.base.size in
     record {
       growing : HasGrowingListOnDisk new now;
       same : l.list.geometry ≡ l.fn.list.geometry;
@@ -25,10 +25,10 @@ invariant-copying g l =
       device : CallKeepsTakenBlocksExceptUnwritten g.D.BlockDevice l.fn.map (unwritten_block_of_list was) l.fn.dev l.dev;
       own : CanEndGrowingListInOwnBlocks new l.list;
       some : growing_list_size_with_block_size block_size was ≤ growing_list_size_with_block_size block_size now;
-      top : growing_list_size_with_block_size block_size now ≤ max (growing_list_size_with_block_size block_size was) l.fn.size;
+      top : growing_list_size_with_block_size block_size now ≤ max (growing_list_size_with_block_size block_size was) l.fn.base.size;
       bytes : bytes_of_growing_list new now ++ drop (growing_list_size_with_block_size block_size now) base ≡ bytes_of_growing_list old was ++ drop (growing_list_size_with_block_size block_size was) base;
       quiet : fault_count_of_history (g.D.BlockDevice.history l.dev) ≡ fault_count_of_history (g.D.BlockDevice.history l.fn.dev);
     }
 
 abbrev pub decreases-copying : goal.decreases-copying
-decreases-copying g l = l.fn.size - growing_list_size_with_block_size l.list.geometry.block_size l.list
+decreases-copying g l = l.fn.base.size - growing_list_size_with_block_size l.list.geometry.block_size l.list

@@ -25,3 +25,13 @@ returns-then-size-limit-clause-written g c =
       has = c.write_buffered_content_at.ensures.rest;
       form = ap InMemory long ∙ sym (written_few c.args.limit c.args.place n (InMemory (length old)) (omega arith));
     }
+
+pub move_memory_contents_to_list_and_write-requires-clause-room : goal.move_memory_contents_to_list_and_write-requires-clause-room
+move_memory_contents_to_list_and_write-requires-clause-room g c =
+    let m = c.max-size.ensures in
+    let size = c.size.ensures in
+    let all = held_size c.args.list c.requires.quiet.resting.held in
+    let test = c.if-size-limit.false in
+    let some = c.requires.some in
+    let room = c.requires.room (omega arith) in
+    record { longer = omega arith; small = c.requires.small; room = omega arith }

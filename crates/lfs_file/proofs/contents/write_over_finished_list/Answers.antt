@@ -13,10 +13,10 @@ use Rattle.lfs_file.proofs.Forms.{length-written, written_few}
 use Rattle.lfs_file.proofs.contents.write_over_finished_list.Goals as goal
 
 pub returns-in_err-list-clause-device : goal.returns-in_err-list-clause-device
-returns-in_err-list-clause-device g c = used_reads g.D.BlockDevice c.args.map.now c.load_first_bytes_of_list_into_memory.ensures.device
+returns-in_err-list-clause-device g c = used_reads g.D.BlockDevice c.args.map.now c.load_first_bytes_of_list_into_memory.ensures.reading.device
 
 pub returns-then-size-limit-clause-device : goal.returns-then-size-limit-clause-device
-returns-then-size-limit-clause-device g c = used_reads g.D.BlockDevice c.args.map.now c.load_first_bytes_of_list_into_memory.ensures.device
+returns-then-size-limit-clause-device g c = used_reads g.D.BlockDevice c.args.map.now c.load_first_bytes_of_list_into_memory.ensures.reading.device
 
 pub returns-then-size-limit-clause-written : goal.returns-then-size-limit-clause-written
 returns-then-size-limit-clause-written g c =
@@ -34,7 +34,7 @@ returns-then-size-limit-clause-written g c =
     record {
       stands = record {
         idle = record {
-          count = c.requires.stored.count ∙ sym (ap length c.load_first_bytes_of_list_into_memory.ensures.device.same);
+          count = c.requires.stored.count ∙ sym (ap length c.load_first_bytes_of_list_into_memory.ensures.reading.device.same);
           none = λ b is. (let large = c.requires.large (c.requires.stored.flying b is).0 in absurd (omega arith));
         };
         resting = record { geometry = c.in_ok-list.ensures.resting.geometry ∙ sym ((c.write_buffered_content_at.ensures.holds d).geometry); held = c.write_buffered_content_at.ensures.held };

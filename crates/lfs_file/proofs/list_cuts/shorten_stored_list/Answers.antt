@@ -1,5 +1,6 @@
 use Rattle.std.proofs.Common.{ℕ, [], ◌≡◌, take, refl, sym, ap, ◌∙◌, subst, arith}
 use Rattle.std.specs.Prelude.{Contains, List}
+use Rattle.std.proofs.lemmas.Result.{err_from_is_err_and}
 use Rattle.lfs_device.specs.declared.geometry.Geometry.{Geometry}
 use Rattle.lfs_model.specs.Blocks.{Blocks}
 use Rattle.lfs_model.specs.SkipLists.{list_block_count_for_size, bytes_of_skip_list}
@@ -9,7 +10,7 @@ use Rattle.lfs_file.specs.Bases.{list_blocks_by_head_and_size}
 use Rattle.lfs_file.specs.Hand.{IsFinishedListConsistentWithMapAndDisk}
 use Rattle.lfs_file.specs.Releases.{ReleasesBlocksInFlight}
 use Rattle.lfs_file.proofs.Hands.{Contains-take}
-use Rattle.lfs_file.proofs.ContentsCalled.{read_on}
+use Rattle.lfs_file.proofs.ContentsCalled.{quiet, read_on, reported_as, reported_on}
 use Rattle.lfs_file.proofs.Copies.{base_list}
 use Rattle.lfs_file.proofs.Cuts.{cuts}
 use Rattle.lfs_file.proofs.Ends.{gone_of}
@@ -18,15 +19,32 @@ use Rattle.lfs_file.proofs.list_cuts.shorten_stored_list.Goals as goal
 pub release_base_list_blocks_from_index-requires-clause-within : goal.release_base_list_blocks_from_index-requires-clause-within
 release_base_list_blocks_from_index-requires-clause-within g c =
     let n : ℕ = (g.D.BlockDevice.geometry c.list_head_for_first_bytes.new.dev).block_size in
-    let more = list_block_count_for_size-more n c.args.keep c.args.stored.size c.requires.within in
+    let more = list_block_count_for_size-more n c.args.keep c.args.stored.size c.requires.length.1 in
     let same = c.blocks_for-count.ensures ∙ ap (λ (k : Geometry). list_block_count_for_size k.block_size c.args.keep) c.geometry.ensures in
     omega arith
 
-pub returns-in_err-release_base_list_blocks_from_index-clause-device : goal.returns-in_err-release_base_list_blocks_from_index-clause-device
-returns-in_err-release_base_list_blocks_from_index-clause-device g c = read_on g.D.BlockDevice c.list_head_for_first_bytes.ensures.reading.device c.release_base_list_blocks_from_index.ensures.device
+pub returns-in_err-release_base_list_blocks_from_index-clause-reading : goal.returns-in_err-release_base_list_blocks_from_index-clause-reading
+returns-in_err-release_base_list_blocks_from_index-clause-reading g c =
+    let p = err_from_is_err_and c.from_residual-in_err-release_base_list_blocks_from_index.result c.from_residual-in_err-release_base_list_blocks_from_index.ensures.1 in
+    let read = c.in_err-release_base_list_blocks_from_index.ensures.reading in
+    rw (p.1, p.2) (record {
+      device = read_on g.D.BlockDevice c.list_head_for_first_bytes.ensures.reading.device read.device;
+      reports = record {
+        faults = reported_on g.D.BlockDevice (quiet g.D.BlockDevice c.in_ok-head.ensures.reading.faults) (reported_as g.D.BlockDevice read.reports.faults);
+        errors = read.reports.errors;
+      };
+    })
 
-pub returns-clause-device : goal.returns-clause-device
-returns-clause-device g c = read_on g.D.BlockDevice c.list_head_for_first_bytes.ensures.reading.device c.release_base_list_blocks_from_index.ensures.device
+pub returns-clause-reading : goal.returns-clause-reading
+returns-clause-reading g c =
+    let read = c.in_ok-release_base_list_blocks_from_index.ensures.reading in
+    record {
+      device = read_on g.D.BlockDevice c.list_head_for_first_bytes.ensures.reading.device read.device;
+      reports = record {
+        faults = record { fault = λ is. absurd (cc); no_fault = λ _. quiet g.D.BlockDevice read.reports.faults ∙ quiet g.D.BlockDevice c.in_ok-head.ensures.reading.faults };
+        errors = tt;
+      };
+    }
 
 pub returns-clause-cut : goal.returns-clause-cut
 returns-clause-cut g c =
@@ -34,9 +52,9 @@ returns-clause-cut g c =
     let stored = c.args.stored in
     let d : Blocks = g.D.BlockDevice.blocks c.args.dev.now in
     let read = c.list_head_for_first_bytes.ensures.reading.device in
-    let all = c.release_base_list_blocks_from_index.ensures.device.same ∙ read.same in
-    let some = c.requires.some in
-    let within = c.requires.within in
+    let all = c.release_base_list_blocks_from_index.ensures.reading.device.same ∙ read.same in
+    let some = c.requires.length.0 in
+    let within = c.requires.length.1 in
     let front = c.in_ok-head.ensures.front (base_list d now.block_size stored.head stored.size (omega arith) c.requires.stored.base) in
     let count : c.blocks_for-count.result ≡ list_block_count_for_size now.block_size c.args.keep = c.blocks_for-count.ensures ∙ ap (λ (k : Geometry). list_block_count_for_size k.block_size c.args.keep) (c.geometry.ensures ∙ read.geometry) in
     let released = subst (λ (k : Geometry). ReleasesBlocksInFlight c.args.map.now c.release_base_list_blocks_from_index.new.map (gone_of stored.in_flight c.blocks_for-count.result (list_blocks_by_head_and_size d k.block_size stored.head stored.size))) read.geometry
@@ -54,9 +72,9 @@ returns-clause-front g c =
     let now : Geometry = g.D.BlockDevice.geometry c.args.dev.now in
     let stored = c.args.stored in
     let d : Blocks = g.D.BlockDevice.blocks c.args.dev.now in
-    let all = c.release_base_list_blocks_from_index.ensures.device.same ∙ c.list_head_for_first_bytes.ensures.reading.device.same in
-    let some = c.requires.some in
-    let within = c.requires.within in
+    let all = c.release_base_list_blocks_from_index.ensures.reading.device.same ∙ c.list_head_for_first_bytes.ensures.reading.device.same in
+    let some = c.requires.length.0 in
+    let within = c.requires.length.1 in
     let front = c.in_ok-head.ensures.front (base_list d now.block_size stored.head stored.size (omega arith) c.requires.stored.base) in
     record {
       flying = refl;

@@ -59,18 +59,23 @@ loading-preserved g c =
       quiet = quiet g.D.BlockDevice c.in_ok-count.ensures.reading.faults ∙ inv.quiet;
     }
 
-pub returns-in_err-count-clause-device : goal.returns-in_err-count-clause-device
-returns-in_err-count-clause-device g c = read_on g.D.BlockDevice c.loading.invariant.device c.read_at.ensures.reading.device
+pub returns-clause-reading : goal.returns-clause-reading
+returns-clause-reading g c =
+    let inv = c.loading.invariant in
+    record { device = inv.device; reports = record { faults = record { fault = λ is. absurd (cc); no_fault = λ _. inv.quiet }; errors = tt } }
 
-pub returns-in_err-count-clause-reports : goal.returns-in_err-count-clause-reports
-returns-in_err-count-clause-reports g c =
+pub returns-in_err-count-clause-reading : goal.returns-in_err-count-clause-reading
+returns-in_err-count-clause-reading g c =
     let inv = c.loading.invariant in
     let d : Blocks = g.D.BlockDevice.blocks c.args.dev.now in
     let now : Geometry = g.D.BlockDevice.geometry c.args.dev.now in
     let test = c.loading-test.true in
     let p = err_from_is_err_and c.from_residual-in_err-count.result c.from_residual-in_err-count.ensures.1 in
     rw (p.1, p.2) (record {
-      faults = reported_on g.D.BlockDevice c.loading.invariant.quiet (reported_as g.D.BlockDevice c.in_err-count.ensures.reading.faults);
-      errors = not_corrupt {T = ℕ} _ c.in_err-count.ensures.reading.errors (λ is. c.in_err-count.ensures.corrupt is
-          (listed_on d (g.D.BlockDevice.blocks c.loading.dev) now (g.D.BlockDevice.geometry c.loading.dev) c.args.stored.head c.args.stored.size inv.device.same inv.device.geometry (let within = c.requires.within in omega arith) c.requires.base));
+      device = read_on g.D.BlockDevice inv.device c.read_at.ensures.reading.device;
+      reports = record {
+        faults = reported_on g.D.BlockDevice inv.quiet (reported_as g.D.BlockDevice c.in_err-count.ensures.reading.faults);
+        errors = not_corrupt {T = ℕ} _ c.in_err-count.ensures.reading.errors (λ is. c.in_err-count.ensures.corrupt is
+            (listed_on d (g.D.BlockDevice.blocks c.loading.dev) now (g.D.BlockDevice.geometry c.loading.dev) c.args.stored.head c.args.stored.size inv.device.same inv.device.geometry (let within = c.requires.within in omega arith) c.requires.base));
+      };
     })

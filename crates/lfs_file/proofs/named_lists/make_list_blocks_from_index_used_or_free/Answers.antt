@@ -35,11 +35,8 @@ make_block_used_or_free-requires g c =
     let here = inv.here (omega arith) in
     omega (arith, within, here, inv.done.count, c.requires.map)
 
-pub returns-in_err-block-clause-device : goal.returns-in_err-block-clause-device
-returns-in_err-block-clause-device g c = read_on g.D.BlockDevice c.putting.invariant.device c.head_of_list_before_block.ensures.reading.device
-
-pub returns-in_err-block-clause-reports : goal.returns-in_err-block-clause-reports
-returns-in_err-block-clause-reports g c =
+pub returns-in_err-block-clause-reading : goal.returns-in_err-block-clause-reading
+returns-in_err-block-clause-reading g c =
     let inv = c.putting.invariant in
     let test = c.putting-test.true in
     let high = inv.high in
@@ -48,10 +45,14 @@ returns-in_err-block-clause-reports g c =
     let p = err_from_is_err_and c.from_residual.result c.from_residual.ensures.1 in
     let reported = c.in_err-block.ensures.reading in
     rw (p.1, p.2) (record {
-      faults = reported_on g.D.BlockDevice inv.quiet (reported_as g.D.BlockDevice reported.faults);
-      errors = never_corrupt {T = ℕ} _ reported.errors (λ is.
-          next_there (g.D.BlockDevice.blocks c.args.dev.now) _ c.args.count c.args.head (c.putting.index - 1) c.putting.block _ inv.device.same c.requires.chain (omega arith) (inv.here (omega arith)) (omega arith)
-          (let some = (c.in_err-block.ensures.corrupt is).0 in omega arith) (c.in_err-block.ensures.corrupt is).1);
+      device = read_on g.D.BlockDevice inv.device c.head_of_list_before_block.ensures.reading.device;
+      reports = record {
+        faults = reported_on g.D.BlockDevice inv.quiet (reported_as g.D.BlockDevice reported.faults);
+        errors = never_corrupt {T = ℕ} _ reported.errors (λ is.
+            next_there (g.D.BlockDevice.blocks c.args.dev.now) _ c.args.count c.args.head (c.putting.index - 1) c.putting.block _ inv.device.same c.requires.chain (omega arith) (inv.here (omega arith)) (omega arith)
+            (let some = (c.in_err-block.ensures.corrupt is).0 in omega arith) (c.in_err-block.ensures.corrupt is).1);
+      };
+      few = tt;
     })
 
 pub putting-preserved : goal.putting-preserved
@@ -87,13 +88,14 @@ returns-clause-put g c =
     let same : c.putting.index ≡ c.args.from = omega arith in
     subst (λ n. PutsBlocksInState (used_or_free_block_state c.args.used) c.args.map.now c.putting.map (drop n (list_blocks_from_head (g.D.BlockDevice.blocks c.args.dev.now) c.args.count c.args.head))) same inv.done
 
-pub returns-clause-few : goal.returns-clause-few
-returns-clause-few g c =
-    let few = c.putting.invariant.few in
-    let low = c.putting.invariant.low in
-    let high = c.putting.invariant.high in
+pub returns-clause-reading : goal.returns-clause-reading
+returns-clause-reading g c =
+    let inv = c.putting.invariant in
+    let few = inv.few in
+    let low = inv.low in
+    let high = inv.high in
     let test = c.putting-test.false in
-    omega arith
+    record { device = inv.device; reports = record { faults = record { fault = λ is. absurd (cc); no_fault = λ _. inv.quiet }; errors = tt }; few = omega arith }
 
 pub returns-clause-others : goal.returns-clause-others
 returns-clause-others g c = others_drop _ _ c.putting.index (list_blocks_from_head (g.D.BlockDevice.blocks c.args.dev.now) c.args.count c.args.head) (puts_others c.putting.invariant.done)

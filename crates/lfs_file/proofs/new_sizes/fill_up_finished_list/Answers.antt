@@ -6,7 +6,7 @@ use Rattle.lfs_file.specs.Growing.{size_of_growing_list}
 use Rattle.lfs_file.specs.Hand.{bytes_of_stored_list}
 use Rattle.lfs_file.specs.HandWrites.{IsUnfinishedListWithAtLeastOneByte, contents_bytes_of_unfinished_list}
 use Rattle.lfs_file.proofs.Owning.{list_from}
-use Rattle.lfs_file.proofs.ContentsCalled.{quiet, reported_as, reported_on, used_on, used_reads}
+use Rattle.lfs_file.proofs.ContentsCalled.{writes_as, writes_fail, writes_of_reads, writes_on}
 use Rattle.lfs_file.proofs.Flights.{length-base, part_fits}
 use Rattle.lfs_file.proofs.ContentsMemories.{lengthened}
 use Rattle.lfs_file.proofs.Spared.{KeepsUsedBlocksInMap-refl}
@@ -16,23 +16,32 @@ pub write_zeros-requires-clause-room : goal.write_zeros-requires-clause-room
 write_zeros-requires-clause-room g c =
     let hand = c.in_ok-begun.begun in
     let at = (c.in_ok-begun.ensures.begun c.args.map.now c.requires.stored).size in
-    let longer = c.requires.longer in
+    let longer = c.requires.room.longer in
     part_fits (g.D.BlockDevice.geometry c.args.dev.now) (g.D.BlockDevice.geometry c.begin_list_over_finished_list.new.dev) hand.base c.args.stored _ _ _ _ (size_of_growing_list hand.list + (c.args.size - c.args.stored.size)) c.args.size
-    c.begin_list_over_finished_list.ensures.device.geometry c.in_ok-begun.ensures.base (omega arith) refl refl c.requires.room
+    c.begin_list_over_finished_list.ensures.device.geometry c.in_ok-begun.ensures.base (omega arith) refl refl c.requires.room.room
 
-pub returns-in_err-begun-clause-device : goal.returns-in_err-begun-clause-device
-returns-in_err-begun-clause-device g c = used_reads g.D.BlockDevice c.args.map.now c.begin_list_over_finished_list.ensures.device
+pub write_zeros-requires-clause-small : goal.write_zeros-requires-clause-small
+write_zeros-requires-clause-small g c =
+    let at = (c.in_ok-begun.ensures.begun c.args.map.now c.requires.stored).size in
+    let longer = c.requires.room.longer in
+    let small = c.requires.room.small in
+    omega arith
 
-pub returns-in_err-write_zeros-clause-device : goal.returns-in_err-write_zeros-clause-device
-returns-in_err-write_zeros-clause-device g c = used_on g.D.BlockDevice (KeepsUsedBlocksInMap-refl c.args.map.now) (used_reads g.D.BlockDevice c.args.map.now c.begin_list_over_finished_list.ensures.device) c.write_zeros.ensures.device
+pub returns-in_err-begun-clause-writing : goal.returns-in_err-begun-clause-writing
+returns-in_err-begun-clause-writing g c =
+    let p = err_from_is_err_and c.from_residual.result c.from_residual.ensures.1 in
+    rw (p.1, p.2) (writes_as g.D.BlockDevice (writes_of_reads g.D.BlockDevice (KeepsUsedBlocksInMap-refl c.args.map.now) c.begin_list_over_finished_list.ensures.device c.in_err-begun.ensures.reports))
 
-pub returns-in_err-write_zeros-clause-reports : goal.returns-in_err-write_zeros-clause-reports
-returns-in_err-write_zeros-clause-reports g c =
+pub returns-in_err-write_zeros-clause-writing : goal.returns-in_err-write_zeros-clause-writing
+returns-in_err-write_zeros-clause-writing g c =
     let p = err_from_is_err_and c.from_residual-in_err-write_zeros.result c.from_residual-in_err-write_zeros.ensures.1 in
-    rw (p.1, p.2) (record { faults = reported_on g.D.BlockDevice (quiet g.D.BlockDevice c.in_ok-begun.ensures.reports.faults) (reported_as g.D.BlockDevice c.in_err-write_zeros.ensures.reports.faults); errors = c.in_err-write_zeros.ensures.reports.errors })
+    let first = writes_of_reads g.D.BlockDevice (KeepsUsedBlocksInMap-refl c.args.map.now) c.begin_list_over_finished_list.ensures.device c.in_ok-begun.ensures.reports in
+    rw (p.1, p.2) (writes_fail g.D.BlockDevice first c.write_zeros.ensures.map c.write_zeros.ensures.device c.in_err-write_zeros.ensures.reports)
 
-pub returns-clause-device : goal.returns-clause-device
-returns-clause-device g c = used_on g.D.BlockDevice (KeepsUsedBlocksInMap-refl c.args.map.now) (used_reads g.D.BlockDevice c.args.map.now c.begin_list_over_finished_list.ensures.device) c.write_zeros.ensures.device
+pub returns-clause-writing : goal.returns-clause-writing
+returns-clause-writing g c =
+    let first = writes_of_reads g.D.BlockDevice (KeepsUsedBlocksInMap-refl c.args.map.now) c.begin_list_over_finished_list.ensures.device c.in_ok-begun.ensures.reports in
+    writes_on g.D.BlockDevice first c.write_zeros.ensures.map c.write_zeros.ensures.device c.in_ok-write_zeros.ensures.reports
 
 pub returns-clause-filled : goal.returns-clause-filled
 returns-clause-filled g c =
@@ -43,7 +52,7 @@ returns-clause-filled g c =
     let hand = c.in_ok-begun.begun in
     let read = c.begin_list_over_finished_list.ensures.device in
     let at = c.in_ok-begun.ensures.begun c.args.map.now c.requires.stored in
-    let longer = c.requires.longer in
+    let longer = c.requires.room.longer in
     let sum = at.size in
     let zeroed = c.in_ok-write_zeros.ensures.zeroed in
     let end = zeroed.at.size in

@@ -1,10 +1,12 @@
 use Rattle.std.proofs.Common.{◌≡◌, ◌+◌, ◌-◌, length, replicate, refl, ap, ◌∙◌, arith}
+use Rattle.std.proofs.lemmas.Result.{err_from_is_err_and}
 use Rattle.lfs_device.specs.declared.geometry.Geometry.{Geometry}
 use Rattle.lfs_model.specs.Blocks.{Blocks}
 use Rattle.lfs_model.specs.Writers.{contents_after_write}
 use Rattle.lfs_file.specs.Growing.{size_of_growing_list}
 use Rattle.lfs_file.specs.Contents.{bytes_in_buffer}
 use Rattle.lfs_file.specs.HandWrites.{contents_bytes_of_unfinished_list}
+use Rattle.lfs_file.proofs.ContentsCalled.{quiet, reported_as, writes_well}
 use Rattle.lfs_file.proofs.ContentsMemories.{held_size, lengthened, no_base_fits}
 use Rattle.lfs_file.proofs.new_sizes.fill_up_memory_contents_into_unfinished_list.Goals as goal
 
@@ -15,8 +17,8 @@ pub write_zeros-requires-clause-small : goal.write_zeros-requires-clause-small
 write_zeros-requires-clause-small g c =
     let at = (c.unfinished_list_without_base_list-hand.ensures.begun c.args.map.now (g.D.BlockDevice.blocks c.args.dev.now) (g.D.BlockDevice.geometry c.args.dev.now) c.requires.quiet).size in
     let all = held_size c.args.list c.requires.quiet.resting.held in
-    let longer = c.requires.longer in
-    let small = c.requires.small in
+    let longer = c.requires.room.longer in
+    let small = c.requires.room.small in
     let size = c.size.ensures in
     omega arith
 
@@ -26,9 +28,9 @@ write_zeros-requires-clause-room g c =
     let hand = c.unfinished_list_without_base_list-hand.result in
     let at = (c.unfinished_list_without_base_list-hand.ensures.begun c.args.map.now (g.D.BlockDevice.blocks c.args.dev.now) now c.requires.quiet).size in
     let all = held_size c.args.list c.requires.quiet.resting.held in
-    let longer = c.requires.longer in
+    let longer = c.requires.room.longer in
     let size = c.size.ensures in
-    no_base_fits now now hand.base _ _ _ _ (size_of_growing_list hand.list + (c.args.size - c.size.result)) c.args.size refl c.unfinished_list_without_base_list-hand.ensures.base.1 (omega arith) refl refl c.requires.room
+    no_base_fits now now hand.base _ _ _ _ (size_of_growing_list hand.list + (c.args.size - c.size.result)) c.args.size refl c.unfinished_list_without_base_list-hand.ensures.base.1 (omega arith) refl refl (let room = c.requires.room.room in omega arith)
 
 pub returns-clause-filled : goal.returns-clause-filled
 returns-clause-filled g c =
@@ -37,7 +39,7 @@ returns-clause-filled g c =
     let old = bytes_in_buffer c.args.list in
     let at = c.unfinished_list_without_base_list-hand.ensures.begun c.args.map.now d (g.D.BlockDevice.geometry c.args.dev.now) c.requires.quiet in
     let all = held_size c.args.list c.requires.quiet.resting.held in
-    let longer = c.requires.longer in
+    let longer = c.requires.room.longer in
     let size = c.size.ensures in
     let sum = at.size in
     let zeroed = c.in_ok-write_zeros.ensures.zeroed in
@@ -49,3 +51,12 @@ returns-clause-filled g c =
       bytes = lengthened old (contents_bytes_of_unfinished_list d hand) _ (length old) (size_of_growing_list hand.list) c.args.size refl (omega arith) at.bytes sum
           (zeroed.at.bytes ∙ ap (λ n. contents_after_write (contents_bytes_of_unfinished_list d hand) (size_of_growing_list hand.list) (replicate n 0)) gap);
     }
+
+pub returns-in_err-write_zeros-clause-writing : goal.returns-in_err-write_zeros-clause-writing
+returns-in_err-write_zeros-clause-writing g c =
+    let p = err_from_is_err_and c.from_residual.result c.from_residual.ensures.1 in
+    let reports = c.in_err-write_zeros.ensures.reports in
+    rw (p.1, p.2) (record { map = c.write_zeros.ensures.map; device = c.write_zeros.ensures.device; reports = record { faults = reported_as g.D.BlockDevice reports.faults; errors = reports.errors } })
+
+pub returns-clause-writing : goal.returns-clause-writing
+returns-clause-writing g c = writes_well g.D.BlockDevice c.write_zeros.ensures.map c.write_zeros.ensures.device (quiet g.D.BlockDevice c.in_ok-write_zeros.ensures.reports.faults)

@@ -1,50 +1,71 @@
-use Rattle.std.proofs.Common.{◌≡◌, ◌+◌, ◌-◌, max, sym, ap, ◌∙◌, subst, arith}
+use Rattle.std.proofs.Common.{ℕ, ◌≡◌, ◌≢◌, ◌+◌, ◌*◌, ◌-◌, ◌<◌, ◌≤◌, Bool, if◌then◌else◌, max, sym, ap, ◌∙◌, subst, arith}
 use Rattle.lfs_device.specs.declared.geometry.Geometry.{Geometry}
 use Rattle.lfs_model.specs.Blocks.{Blocks}
 use Rattle.lfs_model.specs.SkipLists.{list_block_count_for_size}
 use Rattle.lfs_model.proofs.ListSizes.{list_block_count_for_size-more}
 use Rattle.lfs_file.specs.Growing.{size_of_growing_list}
+use Rattle.lfs_file.specs.Contents.{block_room_for_truncation}
+use Rattle.lfs_file.specs.Form.{InHand}
 use Rattle.lfs_file.specs.HandWrites.{IsUnfinishedListWithAtLeastOneByte, contents_bytes_of_unfinished_list, contents_length_of_unfinished_list}
 use Rattle.std.proofs.lemmas.Result.{err_from_is_err_and}
 use Rattle.lfs_file.proofs.Owning.{owned_kept}
-use Rattle.lfs_file.proofs.ContentsCalled.{quiet, reported_as, reported_on, used_on}
+use Rattle.lfs_file.proofs.ContentsCalled.{writes_as, writes_fail, writes_on}
 use Rattle.lfs_file.proofs.Flights.{in_flight_block_limit_of_stored_list-le, either_fits, length-hand, shaped}
 use Rattle.lfs_file.proofs.ContentsMemories.{lengthened}
-use Rattle.lfs_file.proofs.Spared.{KeepsUsedBlocksInMap-trans}
+use Rattle.lfs_file.proofs.Truncations.{room_anew, room_on}
 use Rattle.lfs_file.proofs.new_sizes.lengthen_unfinished_list.Goals as goal
+
+-- the room that the form of the contents takes: for the list in hand, or for another one over it
+on_room : (block_size size end base used all : ℕ) (flying : Bool) → max end base < size → used + block_room_for_truncation block_size size (InHand end base flying) ≤ all → end ≡ max end base
+    → used + list_block_count_for_size block_size size + (if flying then list_block_count_for_size block_size base else 0) ≤ all
+on_room block_size size end base used all flying longer room same = let e = room_on block_size size end base flying longer same in omega arith
+
+anew_room : (block_size size end base used all : ℕ) (flying : Bool) → max end base < size → used + block_room_for_truncation block_size size (InHand end base flying) ≤ all → end ≢ max end base → used + 2 * list_block_count_for_size block_size size ≤ all
+anew_room block_size size end base used all flying longer room ne = let e = room_anew block_size size end base flying longer ne in omega arith
 
 pub restart_unfinished_list_at_position-requires-clause-room : goal.restart_unfinished_list_at_position-requires-clause-room
 restart_unfinished_list_at_position-requires-clause-room g c ne =
     let hand = c.args.hand in
     let now : Geometry = g.D.BlockDevice.geometry c.args.dev.now in
     let len : c.max-length.result ≡ contents_length_of_unfinished_list hand = (let s = c.size.ensures in let l = c.max-length.ensures in omega arith) in
-    let longer = c.requires.longer in
-    let room = c.requires.anew (λ e. ne (e ∙ sym len)) in
+    let longer = c.requires.longer.0 in
+    let room = anew_room now.block_size c.args.size (size_of_growing_list hand.list) hand.base.size _ _ hand.base.in_flight longer c.requires.room (λ e. ne (e ∙ sym len)) in
     let few = in_flight_block_limit_of_stored_list-le now.block_size hand.base in
     let more = list_block_count_for_size-more now.block_size hand.base.size c.args.size (omega arith) in
     omega arith
 
-pub returns-in_err-write_zeros-clause-device : goal.returns-in_err-write_zeros-clause-device
-returns-in_err-write_zeros-clause-device g c = used_on g.D.BlockDevice c.in_ok-turned.ensures.map c.restart_unfinished_list_at_position.ensures.device c.write_zeros.ensures.device
+pub write_zeros-requires-clause-small : goal.write_zeros-requires-clause-small
+write_zeros-requires-clause-small g c =
+    let len : c.max-length.result ≡ contents_length_of_unfinished_list c.args.hand = (let s = c.size.ensures in let l = c.max-length.ensures in omega arith) in
+    let longer = c.requires.longer.0 in
+    let small = c.requires.longer.1 in
+    let at = c.in_ok-turned.ensures.turned.size in
+    omega arith
 
-pub returns-clause-device : goal.returns-clause-device
-returns-clause-device g c = used_on g.D.BlockDevice c.in_ok-turned.ensures.map c.restart_unfinished_list_at_position.ensures.device c.write_zeros.ensures.device
+pub returns-in_err-turned-clause-writing : goal.returns-in_err-turned-clause-writing
+returns-in_err-turned-clause-writing g c =
+    let p = err_from_is_err_and c.from_residual.result c.from_residual.ensures.1 in
+    rw (p.1, p.2) (writes_as g.D.BlockDevice c.in_err-turned.ensures.writing)
+
+pub returns-clause-writing : goal.returns-clause-writing
+returns-clause-writing g c = writes_on g.D.BlockDevice c.in_ok-turned.ensures.writing c.write_zeros.ensures.map c.write_zeros.ensures.device c.in_ok-write_zeros.ensures.reports
 
 pub write_zeros-requires-clause-room : goal.write_zeros-requires-clause-room
 write_zeros-requires-clause-room g c =
     let hand = c.args.hand in
     let now : Geometry = g.D.BlockDevice.geometry c.args.dev.now in
     let len : c.max-length.result ≡ contents_length_of_unfinished_list hand = (let s = c.size.ensures in let l = c.max-length.ensures in omega arith) in
-    let longer = c.requires.longer in
+    let longer = c.requires.longer.0 in
     let turned = c.in_ok-turned.turned in
     let at = c.in_ok-turned.ensures.turned.size in
     let over = c.in_ok-turned.ensures.over.over in
-    let keeps = c.in_ok-turned.ensures.map in
+    let keeps = c.in_ok-turned.ensures.writing.map in
     let most : max (contents_length_of_unfinished_list hand) c.args.size ≡ c.args.size = omega arith in
     let same : list_block_count_for_size now.block_size (max (contents_length_of_unfinished_list hand) c.args.size) ≡ list_block_count_for_size now.block_size c.args.size = ap (list_block_count_for_size now.block_size) most in
     either_fits now (g.D.BlockDevice.geometry c.restart_unfinished_list_at_position.new.dev) turned.base hand.base _ _ _ _ (size_of_growing_list hand.list) (contents_length_of_unfinished_list hand) (contents_length_of_unfinished_list hand) c.args.size
-    (size_of_growing_list turned.list + (c.args.size - c.max-length.result)) c.restart_unfinished_list_at_position.ensures.device.geometry keeps.used keeps.count (omega arith)
-    (λ e. over.same (e ∙ sym len)) (λ ne. over.size (λ e. ne (e ∙ len))) c.requires.on (λ ne. let room = c.requires.anew ne in omega arith)
+    (size_of_growing_list turned.list + (c.args.size - c.max-length.result)) c.restart_unfinished_list_at_position.ensures.writing.device.geometry keeps.used keeps.count (omega arith)
+    (λ e. over.same (e ∙ sym len)) (λ ne. over.size (λ e. ne (e ∙ len))) (on_room now.block_size c.args.size (size_of_growing_list hand.list) hand.base.size _ _ hand.base.in_flight longer c.requires.room)
+    (λ ne. let room = anew_room now.block_size c.args.size (size_of_growing_list hand.list) hand.base.size _ _ hand.base.in_flight longer c.requires.room ne in omega arith)
 
 pub returns-clause-lengthened : goal.returns-clause-lengthened
 returns-clause-lengthened g c =
@@ -53,22 +74,22 @@ returns-clause-lengthened g c =
     let d : Blocks = g.D.BlockDevice.blocks c.args.dev.now in
     let going = c.requires.going in
     let len : c.max-length.result ≡ contents_length_of_unfinished_list hand = (let s = c.size.ensures in let l = c.max-length.ensures in omega arith) in
-    let longer = c.requires.longer in
+    let longer = c.requires.longer.0 in
     let at = c.in_ok-turned.ensures.turned in
     let sum = at.size in
     let zeroed = c.in_ok-write_zeros.ensures.zeroed in
     let end = zeroed.at.size in
     let all = length-hand d geometry.block_size (g.D.BlockDevice.geometry c.args.dev.now).block_count hand.list hand.base geometry.valid.no_smaller (shaped d _ _ going.geometry (g.met.D.BlockDevice.shape c.args.dev.now)) going.list.begun.growing going.list.begun.list in
     record {
-      going = subst (λ (k : Geometry). IsUnfinishedListWithAtLeastOneByte c.write_zeros.new.map (g.D.BlockDevice.blocks c.write_zeros.new.dev) k c.write_zeros.new.hand) c.restart_unfinished_list_at_position.ensures.device.geometry (zeroed.going (omega arith));
+      going = subst (λ (k : Geometry). IsUnfinishedListWithAtLeastOneByte c.write_zeros.new.map (g.D.BlockDevice.blocks c.write_zeros.new.dev) k c.write_zeros.new.hand) c.restart_unfinished_list_at_position.ensures.writing.device.geometry (zeroed.going (omega arith));
       size = omega arith;
       bytes = lengthened (contents_bytes_of_unfinished_list d hand) _ _ c.max-length.result _ c.args.size (all ∙ sym len) (omega arith) at.bytes sum zeroed.at.bytes;
     }
 
-pub returns-in_err-write_zeros-clause-reports : goal.returns-in_err-write_zeros-clause-reports
-returns-in_err-write_zeros-clause-reports g c =
+pub returns-in_err-write_zeros-clause-writing : goal.returns-in_err-write_zeros-clause-writing
+returns-in_err-write_zeros-clause-writing g c =
     let p = err_from_is_err_and c.from_residual-in_err-write_zeros.result c.from_residual-in_err-write_zeros.ensures.1 in
-    rw (p.1, p.2) (record { faults = reported_on g.D.BlockDevice (quiet g.D.BlockDevice c.in_ok-turned.ensures.reports.faults) (reported_as g.D.BlockDevice c.in_err-write_zeros.ensures.reports.faults); errors = c.in_err-write_zeros.ensures.reports.errors })
+    rw (p.1, p.2) (writes_fail g.D.BlockDevice c.in_ok-turned.ensures.writing c.write_zeros.ensures.map c.write_zeros.ensures.device c.in_err-write_zeros.ensures.reports)
 
 pub returns-clause-over : goal.returns-clause-over
 returns-clause-over g c =
@@ -82,8 +103,5 @@ returns-clause-over g c =
         size = λ ne. ap (λ s. s.size) base ∙ over.size (λ e. ne (e ∙ len));
         flying = λ ne. ap (λ s. s.in_flight) base ∙ over.flying (λ e. ne (e ∙ len));
       };
-      owned = owned_kept _ _ (g.D.BlockDevice.geometry c.args.dev.now) (g.D.BlockDevice.geometry c.restart_unfinished_list_at_position.new.dev) _ _ _ _ _ c.restart_unfinished_list_at_position.ensures.device.geometry c.write_zeros.ensures.map c.in_ok-turned.ensures.over.owned c.write_zeros.ensures.base;
+      owned = owned_kept _ _ (g.D.BlockDevice.geometry c.args.dev.now) (g.D.BlockDevice.geometry c.restart_unfinished_list_at_position.new.dev) _ _ _ _ _ c.restart_unfinished_list_at_position.ensures.writing.device.geometry c.write_zeros.ensures.map c.in_ok-turned.ensures.over.owned c.write_zeros.ensures.base;
     }
-
-pub returns-in_err-write_zeros-clause-map : goal.returns-in_err-write_zeros-clause-map
-returns-in_err-write_zeros-clause-map g c = KeepsUsedBlocksInMap-trans c.in_ok-turned.ensures.map c.write_zeros.ensures.map

@@ -11,7 +11,7 @@ pub returns-clause-quiet : goal.returns-clause-quiet
 returns-clause-quiet g c =
     let d : Blocks = g.D.BlockDevice.blocks c.args.dev.now in
     record {
-      idle = record { count = c.release_all_blocks_in_flight.ensures.map.count ∙ c.requires.stored.count ∙ sym (ap length c.load_first_bytes_of_list_into_memory.ensures.device.same); none = c.release_all_blocks_in_flight.ensures.none };
+      idle = record { count = c.release_all_blocks_in_flight.ensures.map.count ∙ c.requires.stored.count ∙ sym (ap length c.load_first_bytes_of_list_into_memory.ensures.reading.device.same); none = c.release_all_blocks_in_flight.ensures.none };
       resting = record { geometry = c.in_ok-list.ensures.resting.geometry ∙ sym ((c.write_buffered_content_at.ensures.holds d).geometry); held = c.write_buffered_content_at.ensures.held };
     }
 

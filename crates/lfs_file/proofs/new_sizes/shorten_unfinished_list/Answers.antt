@@ -1,4 +1,6 @@
-use Rattle.std.proofs.Common.{ℕ, List, take, sym, ap, ◌∙◌, subst, arith}
+use Rattle.std.proofs.Common.{ℕ, ◌≡◌, ◌<◌, List, take, sym, ap, ◌∙◌, subst, arith}
+use Rattle.std.proofs.lemmas.Result.{err_from_is_err_and}
+use Rattle.lfs_file.specs.Growing.{size_of_growing_list}
 use Rattle.lfs_device.specs.declared.geometry.Geometry.{Geometry}
 use Rattle.lfs_model.specs.Writers.{bytes_padded_with_zeros}
 use Rattle.lfs_file.specs.Contents.{AreContentsConsistentWithMapAndDisk, writer_contents_bytes_in_memory_or_blocks}
@@ -7,31 +9,59 @@ use Rattle.lfs_file.specs.Hand.{IsFinishedListConsistentWithMapAndDisk, bytes_of
 use Rattle.lfs_file.specs.HandWrites.{contents_length_of_unfinished_list}
 use Rattle.lfs_file.specs.BlockOwners.{AreUsedBlocksOfListAmongOwnBlocks, blocks_of_contents, blocks_of_stored_list}
 use Rattle.lfs_file.proofs.Owning.{owned_on, owned_right}
-use Rattle.lfs_file.proofs.ContentsCalled.{used_on}
+use Rattle.lfs_file.proofs.ContentsCalled.{writes_as, writes_fail, writes_on}
+use Rattle.lfs_file.proofs.Truncations.{room_shorter}
 use Rattle.lfs_file.proofs.new_sizes.shorten_unfinished_list.Goals as goal
 
-pub truncate_finished_list-requires-clause-stored : goal.truncate_finished_list-requires-clause-stored
-truncate_finished_list-requires-clause-stored g c =
-    subst (λ (k : Geometry). IsFinishedListConsistentWithMapAndDisk c.end_unfinished_list.new.map (g.D.BlockDevice.blocks c.end_unfinished_list.new.dev) k.block_size c.in_ok-stored.stored) (sym c.end_unfinished_list.ensures.device.geometry) c.in_ok-stored.ensures.ended.stored
+pub end_unfinished_list-requires-clause-going : goal.end_unfinished_list-requires-clause-going
+end_unfinished_list-requires-clause-going g c = c.requires.can.stands
 
-pub truncate_finished_list-requires-clause-room : goal.truncate_finished_list-requires-clause-room
-truncate_finished_list-requires-clause-room g c many longer =
-    let count = c.in_ok-stored.ensures.ended.count in
+pub end_unfinished_list-requires-clause-room : goal.end_unfinished_list-requires-clause-room
+end_unfinished_list-requires-clause-room g c =
+    let hand = c.args.hand in
     let shorter = c.requires.shorter in
-    absurd (omega arith)
+    let room = c.requires.can.fits.room (λ e. absurd (omega arith)) in
+    let e = room_shorter (g.D.BlockDevice.geometry c.args.dev.now).block_size c.args.size (size_of_growing_list hand.list) hand.base.size hand.base.in_flight shorter in
+    omega arith
 
-pub returns-in_err-cut-clause-device : goal.returns-in_err-cut-clause-device
-returns-in_err-cut-clause-device g c = used_on g.D.BlockDevice c.in_ok-stored.ensures.map c.end_unfinished_list.ensures.device c.truncate_finished_list.ensures.device
+pub truncate_finished_list-requires : goal.truncate_finished_list-requires
+truncate_finished_list-requires g c =
+    let is = c.end_unfinished_list.ensures.writing.device.geometry in
+    let count : c.in_ok-stored.stored.size ≡ contents_length_of_unfinished_list c.args.hand = c.in_ok-stored.ensures.ended.count in
+    let shorter = c.requires.shorter in
+    let large : c.args.limit < contents_length_of_unfinished_list c.args.hand = c.requires.can.fits.large in
+    record {
+      stands = subst (λ (k : Geometry). IsFinishedListConsistentWithMapAndDisk c.end_unfinished_list.new.map (g.D.BlockDevice.blocks c.end_unfinished_list.new.dev) k.block_size c.in_ok-stored.stored) (sym is) c.in_ok-stored.ensures.ended.stored;
+      fits = record {
+        large = λ flying. omega arith;
+        short = subst (λ (k : Geometry). c.args.limit < k.block_size) (sym is) c.requires.can.fits.short;
+        small = c.requires.can.fits.small;
+        room = λ needs. (let longer : c.in_ok-stored.stored.size < c.args.size = needs.1 in absurd (omega arith));
+      };
+    }
 
-pub returns-clause-device : goal.returns-clause-device
-returns-clause-device g c = used_on g.D.BlockDevice c.in_ok-stored.ensures.map c.end_unfinished_list.ensures.device c.truncate_finished_list.ensures.device
+pub returns-in_err-stored-clause-writing : goal.returns-in_err-stored-clause-writing
+returns-in_err-stored-clause-writing g c =
+    let p = err_from_is_err_and c.from_residual.result c.from_residual.ensures.1 in
+    rw (p.1, p.2) (writes_as g.D.BlockDevice c.in_err-stored.ensures.writing)
+
+pub returns-in_err-cut-clause-writing : goal.returns-in_err-cut-clause-writing
+returns-in_err-cut-clause-writing g c =
+    let p = err_from_is_err_and c.from_residual-in_err-cut.result c.from_residual-in_err-cut.ensures.1 in
+    let cut = c.in_err-cut.ensures.writing in
+    rw (p.1, p.2) (writes_fail g.D.BlockDevice c.in_ok-stored.ensures.writing cut.map cut.device cut.reports)
+
+pub returns-clause-writing : goal.returns-clause-writing
+returns-clause-writing g c =
+    let cut = c.in_ok-cut.ensures.writing in
+    writes_on g.D.BlockDevice c.in_ok-stored.ensures.writing cut.map cut.device cut.reports
 
 pub returns-clause-truncated : goal.returns-clause-truncated
 returns-clause-truncated g c =
     let stored = c.in_ok-stored.stored in
     let ended = c.in_ok-stored.ensures.ended in
     let cut = c.in_ok-cut.ensures.truncated in
-    let is = c.end_unfinished_list.ensures.device.geometry in
+    let is = c.end_unfinished_list.ensures.writing.device.geometry in
     let d = g.D.BlockDevice.blocks c.end_unfinished_list.new.dev in
     record {
       stands = subst (λ (k : Geometry). AreContentsConsistentWithMapAndDisk c.truncate_finished_list.new.map (g.D.BlockDevice.blocks c.truncate_finished_list.new.dev) k c.in_ok-cut.cut) is cut.stands;
@@ -42,6 +72,6 @@ returns-clause-truncated g c =
 
 pub returns-clause-owned : goal.returns-clause-owned
 returns-clause-owned g c =
-    owned_right _ (owned_on c.truncate_finished_list.ensures.map c.in_ok-stored.ensures.own.owned
+    owned_right _ (owned_on c.truncate_finished_list.ensures.writing.map c.in_ok-stored.ensures.own.owned
     (subst (λ (k : Geometry). AreUsedBlocksOfListAmongOwnBlocks c.truncate_finished_list.new.map (blocks_of_stored_list (g.D.BlockDevice.blocks c.end_unfinished_list.new.dev) k.block_size c.in_ok-stored.stored)
-    (blocks_of_contents (g.D.BlockDevice.blocks c.truncate_finished_list.new.dev) k.block_size c.in_ok-cut.cut)) c.end_unfinished_list.ensures.device.geometry c.in_ok-cut.ensures.owned))
+    (blocks_of_contents (g.D.BlockDevice.blocks c.truncate_finished_list.new.dev) k.block_size c.in_ok-cut.cut)) c.end_unfinished_list.ensures.writing.device.geometry c.in_ok-cut.ensures.owned))

@@ -1,10 +1,14 @@
-use Rattle.std.proofs.Common.{ℕ, ◌≡◌, List, length, sym, ap, ◌∙◌, arith}
+use Rattle.std.proofs.Common.{ℕ, ◌≡◌, ◌+◌, ◌<◌, ◌≤◌, inl, List, length, sym, ap, ◌∙◌, arith}
+use Rattle.std.proofs.lemmas.Result.{err_from_is_err_and}
+use Rattle.lfs_model.specs.BlockSets.{used_count}
+use Rattle.lfs_model.specs.SkipLists.{list_block_count_for_size}
+use Rattle.lfs_file.specs.BaseRoom.{in_flight_block_limit_of_stored_list}
 use Rattle.lfs_device.specs.declared.geometry.Geometry.{Geometry}
 use Rattle.lfs_model.specs.Blocks.{Blocks}
 use Rattle.lfs_file.specs.Form.{Finished, InHand, InMemory}
 use Rattle.lfs_file.specs.Hand.{bytes_of_stored_list}
 use Rattle.lfs_file.proofs.Owning.{hand_owned, owned_is}
-use Rattle.lfs_file.proofs.ContentsCalled.{used_reads}
+use Rattle.lfs_file.proofs.ContentsCalled.{quiet, reported_as, used_reads, writes_as, writes_none, writes_of_reads, writes_same, writes_well}
 use Rattle.lfs_file.proofs.Flights.{length-base}
 use Rattle.lfs_file.proofs.ContentsMemories.{shortened_bytes}
 use Rattle.lfs_file.proofs.Truncations.{length-resized, resized_none, truncated_cut, truncated_few, truncated_longer, truncated_same}
@@ -16,10 +20,10 @@ returns-then-size-stored-clause-truncated g c =
     let d : Blocks = g.D.BlockDevice.blocks c.args.dev.now in
     let now : Geometry = g.D.BlockDevice.geometry c.args.dev.now in
     let old : List ℕ = bytes_of_stored_list d now.block_size stored in
-    let all = length-base d now.block_size now.block_count stored.head stored.size now.valid.no_smaller (g.met.D.BlockDevice.shape c.args.dev.now) c.requires.stored.base in
+    let all = length-base d now.block_size now.block_count stored.head stored.size now.valid.no_smaller (g.met.D.BlockDevice.shape c.args.dev.now) c.requires.stands.base in
     let same : c.args.size ≡ stored.size = c.if-size-stored.true in
     record {
-      stands = c.requires.stored;
+      stands = c.requires.stands;
       has = resized_none old c.args.size (same ∙ sym all);
       form = truncated_same c.args.limit c.args.size (Finished stored.size stored.in_flight) same;
     }
@@ -34,11 +38,46 @@ returns-then-size-limit-clause-truncated g c =
       form = ap InMemory (ap length c.in_ok-list.ensures.bytes ∙ length-resized c.args.size old) ∙ truncated_few c.args.limit c.args.size (Finished stored.size stored.in_flight) c.if-size-stored.false c.if-size-limit.true;
     }
 
-pub returns-in_err-list-clause-device : goal.returns-in_err-list-clause-device
-returns-in_err-list-clause-device g c = used_reads g.D.BlockDevice c.args.map.now c.shorten_list_into_memory.ensures.device
+pub shorten_list_into_memory-requires-clause-stored : goal.shorten_list_into_memory-requires-clause-stored
+shorten_list_into_memory-requires-clause-stored g c = c.requires.stands
 
-pub returns-then-size-limit-clause-device : goal.returns-then-size-limit-clause-device
-returns-then-size-limit-clause-device g c = used_reads g.D.BlockDevice c.args.map.now c.shorten_list_into_memory.ensures.device
+pub shorten_list_into_memory-requires-clause-short : goal.shorten_list_into_memory-requires-clause-short
+shorten_list_into_memory-requires-clause-short g c = omega (arith, c.if-size-limit.true, c.requires.fits.short)
+
+pub fill_up_finished_list-requires-clause-stored : goal.fill_up_finished_list-requires-clause-stored
+fill_up_finished_list-requires-clause-stored g c = c.requires.stands
+
+pub fill_up_finished_list-requires-clause-room : goal.fill_up_finished_list-requires-clause-room
+fill_up_finished_list-requires-clause-room g c =
+    let n : ℕ = (g.D.BlockDevice.geometry c.args.dev.now).block_size in
+    let longer : c.args.stored.size < c.args.size = c.if-stored-size.true in
+    let room : used_count c.args.map.now + (list_block_count_for_size n c.args.size + in_flight_block_limit_of_stored_list n c.args.stored) ≤ length c.args.map.now = c.requires.fits.room (c.if-size-limit.false, longer) in
+    record { longer = longer; small = c.requires.fits.small; room = omega arith }
+
+pub shorten_stored_list-requires-clause-stored : goal.shorten_stored_list-requires-clause-stored
+shorten_stored_list-requires-clause-stored g c = c.requires.stands
+
+pub returns-then-size-stored-clause-writing : goal.returns-then-size-stored-clause-writing
+returns-then-size-stored-clause-writing g c = writes_none g.D.BlockDevice c.args.map.now c.args.dev.now
+
+pub returns-in_err-list-clause-writing : goal.returns-in_err-list-clause-writing
+returns-in_err-list-clause-writing g c =
+    let p = err_from_is_err_and c.from_residual.result c.from_residual.ensures.1 in
+    let read = c.in_err-list.ensures.reading in
+    rw (p.1, p.2) (writes_as g.D.BlockDevice (writes_of_reads g.D.BlockDevice c.shorten_list_into_memory.ensures.map read.device read.reports))
+
+pub returns-then-size-limit-clause-writing : goal.returns-then-size-limit-clause-writing
+returns-then-size-limit-clause-writing g c =
+    let read = c.in_ok-list.ensures.reading in
+    writes_same g.D.BlockDevice (writes_of_reads g.D.BlockDevice c.shorten_list_into_memory.ensures.map read.device read.reports)
+
+pub returns-in_err-hand-clause-writing : goal.returns-in_err-hand-clause-writing
+returns-in_err-hand-clause-writing g c =
+    let p = err_from_is_err_and c.from_residual-in_err-hand.result c.from_residual-in_err-hand.ensures.1 in
+    rw (p.1, p.2) (writes_as g.D.BlockDevice c.in_err-hand.ensures.writing)
+
+pub returns-then-stored-size-clause-writing : goal.returns-then-stored-size-clause-writing
+returns-then-stored-size-clause-writing g c = writes_same g.D.BlockDevice c.in_ok-hand.ensures.writing
 
 pub returns-then-stored-size-clause-truncated : goal.returns-then-stored-size-clause-truncated
 returns-then-stored-size-clause-truncated g c =
@@ -53,11 +92,20 @@ returns-then-stored-size-clause-truncated g c =
           ∙ truncated_longer c.args.limit c.args.size (Finished stored.size stored.in_flight) c.if-stored-size.true c.if-size-limit.false;
     }
 
-pub returns-in_err-cut-clause-device : goal.returns-in_err-cut-clause-device
-returns-in_err-cut-clause-device g c = used_reads g.D.BlockDevice c.args.map.now c.shorten_stored_list.ensures.device
+pub returns-in_err-cut-clause-writing : goal.returns-in_err-cut-clause-writing
+returns-in_err-cut-clause-writing g c =
+    let p = err_from_is_err_and c.from_residual-in_err-cut.result c.from_residual-in_err-cut.ensures.1 in
+    let read = c.in_err-cut.ensures.reading in
+    rw (p.1, p.2) (record {
+      map = c.shorten_stored_list.ensures.map;
+      device = used_reads g.D.BlockDevice c.args.map.now read.device;
+      reports = record { faults = reported_as g.D.BlockDevice read.reports.faults; errors = inl read.reports.errors };
+    })
 
-pub returns-clause-device : goal.returns-clause-device
-returns-clause-device g c = used_reads g.D.BlockDevice c.args.map.now c.shorten_stored_list.ensures.device
+pub returns-clause-writing : goal.returns-clause-writing
+returns-clause-writing g c =
+    let read = c.in_ok-cut.ensures.reading in
+    writes_well g.D.BlockDevice c.shorten_stored_list.ensures.map (used_reads g.D.BlockDevice c.args.map.now read.device) (quiet g.D.BlockDevice read.reports.faults)
 
 pub returns-clause-truncated : goal.returns-clause-truncated
 returns-clause-truncated g c =
@@ -65,7 +113,7 @@ returns-clause-truncated g c =
     let d : Blocks = g.D.BlockDevice.blocks c.args.dev.now in
     let now : Geometry = g.D.BlockDevice.geometry c.args.dev.now in
     let old : List ℕ = bytes_of_stored_list d now.block_size stored in
-    let all = length-base d now.block_size now.block_count stored.head stored.size now.valid.no_smaller (g.met.D.BlockDevice.shape c.args.dev.now) c.requires.stored.base in
+    let all = length-base d now.block_size now.block_count stored.head stored.size now.valid.no_smaller (g.met.D.BlockDevice.shape c.args.dev.now) c.requires.stands.base in
     let ended = c.in_ok-cut.ensures.cut in
     let less = c.if-stored-size.false in
     let ne = c.if-size-stored.false in

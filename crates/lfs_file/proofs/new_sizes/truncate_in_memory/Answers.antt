@@ -1,9 +1,13 @@
-use Rattle.std.proofs.Common.{ℕ, ◌≡◌, List, [], length, min, sym, ap, ◌∙◌, arith}
+use Rattle.std.proofs.Common.{ℕ, ◌≡◌, ◌+◌, ◌<◌, ◌≤◌, List, [], length, min, sym, ap, ◌∙◌, arith}
+use Rattle.std.proofs.lemmas.Result.{err_from_is_err_and}
+use Rattle.lfs_model.specs.BlockSets.{used_count}
+use Rattle.lfs_model.specs.SkipLists.{list_block_count_for_size}
 use Rattle.lfs_device.specs.declared.geometry.Geometry.{Geometry}
 use Rattle.lfs_model.specs.Blocks.{Blocks}
 use Rattle.lfs_model.specs.Writers.{contents_after_write}
 use Rattle.lfs_file.specs.Contents.{bytes_in_buffer}
 use Rattle.lfs_file.specs.Form.{InHand, InMemory}
+use Rattle.lfs_file.proofs.ContentsCalled.{writes_as, writes_none, writes_same}
 use Rattle.lfs_file.proofs.ContentsMemories.{held_size}
 use Rattle.lfs_file.proofs.Truncations.{length-resized, resized, truncated_held, truncated_longer}
 use Rattle.lfs_file.proofs.new_sizes.truncate_in_memory.Goals as goal
@@ -14,7 +18,7 @@ returns-then-size-limit-clause-truncated g c =
     let base = c.in_ok-hand.ensures.base in
     let hand = c.in_ok-hand.hand in
     let many = c.if-size-limit.true in
-    let few = c.requires.few in
+    let few = c.requires.fits.large in
     record {
       stands = filled.going;
       has = filled.bytes;
@@ -26,7 +30,7 @@ pub returns-clause-truncated : goal.returns-clause-truncated
 returns-clause-truncated g c =
     let d : Blocks = g.D.BlockDevice.blocks c.args.dev.now in
     let old : List ℕ = bytes_in_buffer c.args.list in
-    let quiet = c.requires.quiet in
+    let quiet = c.requires.stands in
     let all = held_size c.args.list quiet.resting.held in
     let size = c.size.ensures in
     let low = c.min.ensures in
@@ -44,7 +48,28 @@ returns-clause-truncated g c =
 pub write_buffered_content_at-requires-clause-room : goal.write_buffered_content_at-requires-clause-room
 write_buffered_content_at-requires-clause-room g c =
     let d : Blocks = g.D.BlockDevice.blocks c.args.dev.now in
-    let same = ap (λ (k : Geometry). k.block_size) ((c.truncate_buffered_content.ensures.holds d).geometry ∙ sym c.requires.quiet.resting.geometry) in
+    let same = ap (λ (k : Geometry). k.block_size) ((c.truncate_buffered_content.ensures.holds d).geometry ∙ sym c.requires.stands.resting.geometry) in
     let few = c.if-size-limit.false in
-    let short = c.requires.short in
+    let short = c.requires.fits.short in
     omega arith
+
+pub fill_up_memory_contents_into_unfinished_list-requires-clause-quiet : goal.fill_up_memory_contents_into_unfinished_list-requires-clause-quiet
+fill_up_memory_contents_into_unfinished_list-requires-clause-quiet g c = c.requires.stands
+
+pub fill_up_memory_contents_into_unfinished_list-requires-clause-room : goal.fill_up_memory_contents_into_unfinished_list-requires-clause-room
+fill_up_memory_contents_into_unfinished_list-requires-clause-room g c =
+    let few : length (bytes_in_buffer c.args.list) ≤ c.args.limit = c.requires.fits.large in
+    let many : c.args.limit < c.args.size = c.if-size-limit.true in
+    let room : used_count c.args.map.now + list_block_count_for_size (g.D.BlockDevice.geometry c.args.dev.now).block_size c.args.size ≤ length c.args.map.now = c.requires.fits.room many in
+    record { longer = omega arith; small = c.requires.fits.small; room = omega arith }
+
+pub returns-in_err-hand-clause-writing : goal.returns-in_err-hand-clause-writing
+returns-in_err-hand-clause-writing g c =
+    let p = err_from_is_err_and c.from_residual.result c.from_residual.ensures.1 in
+    rw (p.1, p.2) (writes_as g.D.BlockDevice c.in_err-hand.ensures.writing)
+
+pub returns-then-size-limit-clause-writing : goal.returns-then-size-limit-clause-writing
+returns-then-size-limit-clause-writing g c = writes_same g.D.BlockDevice c.in_ok-hand.ensures.writing
+
+pub returns-clause-writing : goal.returns-clause-writing
+returns-clause-writing g c = writes_none g.D.BlockDevice c.args.map.now c.args.dev.now

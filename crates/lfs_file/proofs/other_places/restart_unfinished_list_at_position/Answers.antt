@@ -1,16 +1,25 @@
 use Rattle.std.proofs.Common.{rules, sym, subst}
+use Rattle.std.proofs.lemmas.Result.{err_from_is_err_and}
 use Rattle.lfs_model.specs.Blocks.{Blocks}
 use Rattle.lfs_file.specs.BlockOwners.{AreUsedBlocksOfListAmongOwnBlocks, blocks_of_stored_list}
 use Rattle.lfs_file.specs.declared.stored_list.StoredList.{StoredList}
 use Rattle.lfs_file.proofs.Owning.{owned_all}
-use Rattle.lfs_file.proofs.ContentsCalled.{used_read}
+use Rattle.lfs_file.proofs.ContentsCalled.{used_reads, writes_as, writes_fail, writes_on}
+use Rattle.lfs_file.proofs.Spared.{KeepsUsedBlocksInMap-refl}
 use Rattle.lfs_file.proofs.other_places.restart_unfinished_list_at_position.Goals as goal
 
-pub returns-in_err-hand-clause-device : goal.returns-in_err-hand-clause-device
-returns-in_err-hand-clause-device g c = used_read g.D.BlockDevice c.end_unfinished_list.ensures.device c.begin_list_over_finished_list.ensures.device
+pub returns-in_err-base-clause-writing : goal.returns-in_err-base-clause-writing
+returns-in_err-base-clause-writing g c =
+    let p = err_from_is_err_and c.from_residual.result c.from_residual.ensures.1 in
+    rw (p.1, p.2) (writes_as g.D.BlockDevice c.in_err-base.ensures.writing)
 
-pub returns-clause-device : goal.returns-clause-device
-returns-clause-device g c = used_read g.D.BlockDevice c.end_unfinished_list.ensures.device c.begin_list_over_finished_list.ensures.device
+pub returns-in_err-hand-clause-writing : goal.returns-in_err-hand-clause-writing
+returns-in_err-hand-clause-writing g c =
+    let p = err_from_is_err_and c.from_residual-in_err-hand.result c.from_residual-in_err-hand.ensures.1 in
+    rw (p.1, p.2) (writes_fail g.D.BlockDevice c.in_ok-base.ensures.writing (KeepsUsedBlocksInMap-refl _) (used_reads g.D.BlockDevice _ c.begin_list_over_finished_list.ensures.device) c.in_err-hand.ensures.reports)
+
+pub returns-clause-writing : goal.returns-clause-writing
+returns-clause-writing g c = writes_on g.D.BlockDevice c.in_ok-base.ensures.writing (KeepsUsedBlocksInMap-refl _) (used_reads g.D.BlockDevice _ c.begin_list_over_finished_list.ensures.device) c.in_ok-hand.ensures.reports
 
 pub returns-then-size-place-clause-over : goal.returns-then-size-place-clause-over
 returns-then-size-place-clause-over g c = record { over = search rules; owned = owned_all _ _ }

@@ -30,16 +30,13 @@ releasing-init g c =
       quiet = refl;
     }
 
-pub returns-in_err-block-clause-device : goal.returns-in_err-block-clause-device
-returns-in_err-block-clause-device g c = read_on g.D.BlockDevice c.releasing.invariant.device c.head_of_list_before_block.ensures.reading.device
-
 -- a list's blocks are all there
 never_corrupt : {T : Type 0} (x : Error) → (x ≡ Error.Io) ⊎ (x ≡ Error.Corrupt) → (◌≡◌ {A = Result T Error} (Err x) (Err Error.Corrupt) → ⊥) → x ≡ Error.Io
 never_corrupt x (inl is) other = is
 never_corrupt x (inr is) other = absurd (other (ap Err is))
 
-pub returns-in_err-block-clause-reports : goal.returns-in_err-block-clause-reports
-returns-in_err-block-clause-reports g c =
+pub returns-in_err-block-clause-reading : goal.returns-in_err-block-clause-reading
+returns-in_err-block-clause-reading g c =
     let inv = c.releasing.invariant in
     let test = c.releasing-test.true in
     let low = inv.low in
@@ -48,10 +45,13 @@ returns-in_err-block-clause-reports g c =
     let same = ap (λ (k : Geometry). k.block_count) inv.device.geometry in
     let p = err_from_is_err_and c.from_residual.result c.from_residual.ensures.1 in
     rw (p.1, p.2) (record {
-      faults = reported_on g.D.BlockDevice c.releasing.invariant.quiet (reported_as g.D.BlockDevice c.in_err-block.ensures.reading.faults);
-      errors = never_corrupt {T = ℕ} _ c.in_err-block.ensures.reading.errors (λ is.
-          next_there (g.D.BlockDevice.blocks c.args.dev.now) _ c.args.count c.args.head (c.releasing.index - 1) c.releasing.block _ inv.device.same c.requires.chain (omega arith) (inv.here (omega arith)) (omega arith)
-          (c.in_err-block.ensures.corrupt is).0 (c.in_err-block.ensures.corrupt is).1);
+      device = read_on g.D.BlockDevice c.releasing.invariant.device c.head_of_list_before_block.ensures.reading.device;
+      reports = record {
+        faults = reported_on g.D.BlockDevice c.releasing.invariant.quiet (reported_as g.D.BlockDevice c.in_err-block.ensures.reading.faults);
+        errors = never_corrupt {T = ℕ} _ c.in_err-block.ensures.reading.errors (λ is.
+            next_there (g.D.BlockDevice.blocks c.args.dev.now) _ c.args.count c.args.head (c.releasing.index - 1) c.releasing.block _ inv.device.same c.requires.chain (omega arith) (inv.here (omega arith)) (omega arith)
+            (c.in_err-block.ensures.corrupt is).0 (c.in_err-block.ensures.corrupt is).1);
+      };
     })
 
 pub releasing-preserved : goal.releasing-preserved

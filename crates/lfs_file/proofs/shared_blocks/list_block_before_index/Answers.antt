@@ -1,4 +1,4 @@
-use Rattle.std.proofs.Common.{ℕ, ◌≡◌, ◌+◌, ◌-◌, slice_index, refl, ap, ◌∙◌, arith}
+use Rattle.std.proofs.Common.{ℕ, ◌≡◌, ◌-◌, slice_index, refl, ap, ◌∙◌, arith}
 use Rattle.std.proofs.lemmas.Result.{err_from_is_err_and}
 use Rattle.lfs_device.specs.declared.geometry.Geometry.{Geometry}
 use Rattle.lfs_model.specs.Blocks.{Blocks}
@@ -18,11 +18,8 @@ going-init g c = record {
   few = omega arith;
 }
 
-pub returns-in_err-block-clause-device : goal.returns-in_err-block-clause-device
-returns-in_err-block-clause-device g c = read_on g.D.BlockDevice c.going.invariant.device c.head_of_list_before_block.ensures.reading.device
-
-pub returns-in_err-block-clause-reports : goal.returns-in_err-block-clause-reports
-returns-in_err-block-clause-reports g c =
+pub returns-in_err-block-clause-reading : goal.returns-in_err-block-clause-reading
+returns-in_err-block-clause-reading g c =
     let inv = c.going.invariant in
     let test = c.going-test.true in
     let high = inv.high in
@@ -31,10 +28,14 @@ returns-in_err-block-clause-reports g c =
     let p = err_from_is_err_and c.from_residual.result c.from_residual.ensures.1 in
     let reported = c.in_err-block.ensures.reading in
     rw (p.1, p.2) (record {
-      faults = reported_on g.D.BlockDevice inv.quiet (reported_as g.D.BlockDevice reported.faults);
-      errors = never_corrupt {T = ℕ} _ reported.errors (λ is.
-          next_there (g.D.BlockDevice.blocks c.args.dev.now) _ c.args.count c.args.head (c.going.at - 1) c.going.block _ inv.device.same c.requires.chain (omega arith) (inv.here (omega arith)) (omega arith)
-          (c.in_err-block.ensures.corrupt is).0 (c.in_err-block.ensures.corrupt is).1);
+      device = read_on g.D.BlockDevice inv.device c.head_of_list_before_block.ensures.reading.device;
+      reports = record {
+        faults = reported_on g.D.BlockDevice inv.quiet (reported_as g.D.BlockDevice reported.faults);
+        errors = never_corrupt {T = ℕ} _ reported.errors (λ is.
+            next_there (g.D.BlockDevice.blocks c.args.dev.now) _ c.args.count c.args.head (c.going.at - 1) c.going.block _ inv.device.same c.requires.chain (omega arith) (inv.here (omega arith)) (omega arith)
+            (c.in_err-block.ensures.corrupt is).0 (c.in_err-block.ensures.corrupt is).1);
+      };
+      few = tt;
     })
 
 pub going-preserved : goal.going-preserved
@@ -63,11 +64,11 @@ returns-clause-block g c =
     let same : c.going.at ≡ c.args.index = omega arith in
     λ some. inv.here (omega arith) ∙ ap (λ n. slice_index (list_blocks_from_head (g.D.BlockDevice.blocks c.args.dev.now) c.args.count c.args.head) (n - 1)) same
 
-pub returns-clause-few : goal.returns-clause-few
-returns-clause-few g c =
+pub returns-clause-reading : goal.returns-clause-reading
+returns-clause-reading g c =
     let inv = c.going.invariant in
     let few = inv.few in
     let low = inv.low in
     let high = inv.high in
     let test = c.going-test.false in
-    omega arith
+    record { device = inv.device; reports = record { faults = record { fault = λ is. absurd (cc); no_fault = λ _. inv.quiet }; errors = tt }; few = omega arith }

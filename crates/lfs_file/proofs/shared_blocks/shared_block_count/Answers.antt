@@ -1,4 +1,4 @@
-use Rattle.std.proofs.Common.{ℕ, ◌≡◌, ◌≢◌, ◌+◌, ◌-◌, ◌<◌, ◌≤◌, slice_index, sym, ap, ◌∙◌, subst, arith}
+use Rattle.std.proofs.Common.{ℕ, ◌≡◌, ◌≢◌, ◌-◌, ◌<◌, slice_index, sym, ap, ◌∙◌, subst, arith}
 use Rattle.std.proofs.lemmas.Result.{err_from_is_err_and}
 use Rattle.lfs_device.specs.declared.geometry.Geometry.{Geometry}
 use Rattle.lfs_model.specs.Blocks.{Blocks}
@@ -13,8 +13,14 @@ use Rattle.lfs_file.proofs.shared_blocks.shared_block_count.Goals as goal
 at_same : (d e : Blocks) (count head index block : ℕ) → e ≡ d → (0 < index → block ≡ slice_index (list_blocks_from_head e count head) (index - 1)) → 0 < index → block ≡ slice_index (list_blocks_from_head d count head) (index - 1)
 at_same d e count head index block same is some = is some ∙ ap (λ (x : Blocks). slice_index (list_blocks_from_head x count head) (index - 1)) same
 
-pub returns-in_err-twin-clause-device : goal.returns-in_err-twin-clause-device
-returns-in_err-twin-clause-device g c = read_on g.D.BlockDevice c.list_block_before_index.ensures.device c.list_block_before_index-2.ensures.device
+pub returns-in_err-twin-clause-reading : goal.returns-in_err-twin-clause-reading
+returns-in_err-twin-clause-reading g c =
+    let p = err_from_is_err_and c.from_residual-in_err-twin.result c.from_residual-in_err-twin.ensures.1 in
+    let read = c.in_err-twin.ensures.reading in
+    rw (p.1, p.2) (record {
+      device = read_on g.D.BlockDevice c.list_block_before_index.ensures.reading.device read.device;
+      reports = record { faults = reported_on g.D.BlockDevice (quiet g.D.BlockDevice c.in_ok-block.ensures.reading.reports.faults) (reported_as g.D.BlockDevice read.reports.faults); errors = read.reports.errors };
+    })
 
 pub returns-then-index-eq0-clause-shared : goal.returns-then-index-eq0-clause-shared
 returns-then-index-eq0-clause-shared g c =
@@ -25,16 +31,16 @@ pub sharing-init : goal.sharing-init
 sharing-init g c =
     let d : Blocks = g.D.BlockDevice.blocks c.args.dev.now in
     let least = c.min-index.ensures in
-    let one = c.in_ok-block.ensures.few in
-    let two = c.in_ok-twin.ensures.few in
+    let one = c.in_ok-block.ensures.reading.few in
+    let two = c.in_ok-twin.ensures.reading.few in
     record {
       within = omega arith;
       below = omega arith;
       here = c.in_ok-block.ensures.block;
-      there = at_same d _ c.args.other_count c.args.other c.min-index.result c.in_ok-twin.twin c.list_block_before_index.ensures.device.same c.in_ok-twin.ensures.block;
+      there = at_same d _ c.args.other_count c.args.other c.min-index.result c.in_ok-twin.twin c.list_block_before_index.ensures.reading.device.same c.in_ok-twin.ensures.block;
       most = λ first second. absurd (omega arith);
-      device = read_on g.D.BlockDevice c.list_block_before_index.ensures.device c.list_block_before_index-2.ensures.device;
-      quiet = quiet g.D.BlockDevice c.in_ok-twin.ensures.reports.faults ∙ quiet g.D.BlockDevice c.in_ok-block.ensures.reports.faults;
+      device = read_on g.D.BlockDevice c.list_block_before_index.ensures.reading.device c.list_block_before_index-2.ensures.reading.device;
+      quiet = quiet g.D.BlockDevice c.in_ok-twin.ensures.reading.reports.faults ∙ quiet g.D.BlockDevice c.in_ok-block.ensures.reading.reports.faults;
       few = omega arith;
     }
 
@@ -77,11 +83,8 @@ head_of_list_before_block-requires-in-sharing g c =
     let same = ap (λ (k : Geometry). k.block_count) (c.head_of_list_before_block.ensures.reading.device.geometry ∙ inv.device.geometry) in
     omega arith
 
-pub returns-in_err-block-2-clause-device : goal.returns-in_err-block-2-clause-device
-returns-in_err-block-2-clause-device g c = read_on g.D.BlockDevice c.sharing.invariant.device c.head_of_list_before_block.ensures.reading.device
-
-pub returns-in_err-block-2-clause-reports : goal.returns-in_err-block-2-clause-reports
-returns-in_err-block-2-clause-reports g c =
+pub returns-in_err-block-2-clause-reading : goal.returns-in_err-block-2-clause-reading
+returns-in_err-block-2-clause-reading g c =
     let inv = c.sharing.invariant in
     let test = c.sharing-test.true in
     let within = inv.within in
@@ -90,18 +93,17 @@ returns-in_err-block-2-clause-reports g c =
     let p = err_from_is_err_and c.from_residual-in_err-block-2.result c.from_residual-in_err-block-2.ensures.1 in
     let reported = c.in_err-block-2.ensures.reading in
     rw (p.1, p.2) (record {
-      faults = reported_on g.D.BlockDevice inv.quiet (reported_as g.D.BlockDevice reported.faults);
-      errors = never_corrupt {T = ℕ} _ reported.errors (λ is.
-          next_there (g.D.BlockDevice.blocks c.args.dev.now) _ c.args.count c.args.head (c.sharing.index - 1) c.sharing.block _ inv.device.same c.requires.chain (omega arith) (inv.here (omega arith)) (omega arith)
-          (c.in_err-block-2.ensures.corrupt is).0 (c.in_err-block-2.ensures.corrupt is).1);
+      device = read_on g.D.BlockDevice c.sharing.invariant.device c.head_of_list_before_block.ensures.reading.device;
+      reports = record {
+        faults = reported_on g.D.BlockDevice inv.quiet (reported_as g.D.BlockDevice reported.faults);
+        errors = never_corrupt {T = ℕ} _ reported.errors (λ is.
+            next_there (g.D.BlockDevice.blocks c.args.dev.now) _ c.args.count c.args.head (c.sharing.index - 1) c.sharing.block _ inv.device.same c.requires.chain (omega arith) (inv.here (omega arith)) (omega arith)
+            (c.in_err-block-2.ensures.corrupt is).0 (c.in_err-block-2.ensures.corrupt is).1);
+      };
     })
 
-pub returns-in_err-twin-2-clause-device : goal.returns-in_err-twin-2-clause-device
-returns-in_err-twin-2-clause-device g c =
-    read_on g.D.BlockDevice (read_on g.D.BlockDevice c.sharing.invariant.device c.head_of_list_before_block.ensures.reading.device) c.head_of_list_before_block-in-sharing.ensures.reading.device
-
-pub returns-in_err-twin-2-clause-reports : goal.returns-in_err-twin-2-clause-reports
-returns-in_err-twin-2-clause-reports g c =
+pub returns-in_err-twin-2-clause-reading : goal.returns-in_err-twin-2-clause-reading
+returns-in_err-twin-2-clause-reading g c =
     let inv = c.sharing.invariant in
     let test = c.sharing-test.true in
     let below = inv.below in
@@ -111,10 +113,13 @@ returns-in_err-twin-2-clause-reports g c =
     let p = err_from_is_err_and c.from_residual-in_err-twin-2.result c.from_residual-in_err-twin-2.ensures.1 in
     let reported = c.in_err-twin-2.ensures.reading in
     rw (p.1, p.2) (record {
-      faults = reported_on g.D.BlockDevice (quiet g.D.BlockDevice c.in_ok-block-2.ensures.reading.faults ∙ inv.quiet) (reported_as g.D.BlockDevice reported.faults);
-      errors = never_corrupt {T = ℕ} _ reported.errors (λ is.
-          next_there (g.D.BlockDevice.blocks c.args.dev.now) _ c.args.other_count c.args.other (c.sharing.index - 1) c.sharing.twin _ (first.same ∙ inv.device.same) c.requires.other (omega arith) (inv.there (omega arith)) (omega arith)
-          (c.in_err-twin-2.ensures.corrupt is).0 (c.in_err-twin-2.ensures.corrupt is).1);
+      device = read_on g.D.BlockDevice (read_on g.D.BlockDevice c.sharing.invariant.device c.head_of_list_before_block.ensures.reading.device) c.head_of_list_before_block-in-sharing.ensures.reading.device;
+      reports = record {
+        faults = reported_on g.D.BlockDevice (quiet g.D.BlockDevice c.in_ok-block-2.ensures.reading.faults ∙ inv.quiet) (reported_as g.D.BlockDevice reported.faults);
+        errors = never_corrupt {T = ℕ} _ reported.errors (λ is.
+            next_there (g.D.BlockDevice.blocks c.args.dev.now) _ c.args.other_count c.args.other (c.sharing.index - 1) c.sharing.twin _ (first.same ∙ inv.device.same) c.requires.other (omega arith) (inv.there (omega arith)) (omega arith)
+            (c.in_err-twin-2.ensures.corrupt is).0 (c.in_err-twin-2.ensures.corrupt is).1);
+      };
     })
 
 pub sharing-preserved : goal.sharing-preserved

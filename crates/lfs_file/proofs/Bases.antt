@@ -1,5 +1,5 @@
 -- A list whose blocks stay as they are.
-use Rattle.std.proofs.Common.{ℕ, ◌≡◌, ◌*◌, ◌-◌, ◌<◌, ◌^◌, get_or, List, take, ap, ◌∙◌, flat_map}
+use Rattle.std.proofs.Common.{ℕ, ◌≡◌, get_or, List, take, ap, ◌∙◌, flat_map}
 use Rattle.std.specs.Prelude.{All}
 use Rattle.std.specs.List.{enumerate_from}
 use Rattle.std.proofs.lemmas.List.Elements.{recursion_from_All}

@@ -20,7 +20,7 @@ use crate::list_starts::begin_list_over_finished_list;
 use crate::memory::{load_first_bytes_of_list_into_memory, move_memory_contents_to_list_and_write};
 use crate::other_places::write_to_unfinished_list_at_position;
 use crate::stored_list::StoredList;
-use crate::writes::{PendingList, fill_gap_and_write_bytes};
+use crate::writes::{PendingList, fill_gap_and_write_bytes, write_within_block};
 use lfs_blocks::BlockMap;
 use lfs_device::{BlockDevice, Error, Geometry};
 use std::alloc::Global;
@@ -170,6 +170,10 @@ fn write_to_unfinished_list<D: BlockDevice>(
     ensures device { CallKeepsUsedBlocks D.BlockDevice map.old dev.old dev.new }
     ensures reports { ReportsIoOrNoMemory D.BlockDevice dev.old dev.new result }
 {
+    let mut hand = hand;
+    if write_within_block(&mut hand, place, bytes) {
+        return Ok(WriterContents::InHand(hand));
+    }
     let hand = write_to_unfinished_list_at_position(alloc, dev, map, hand, place, bytes)?;
     Ok(WriterContents::InHand(hand))
 }

@@ -22,7 +22,7 @@ returns-then-write_within_block-clause-written g c =
     let parts = and_parts _ _ (sym c.if-write_within_block.ensures.fits) in
     subst (λ (h : PendingList). AreConsistentContentsWithBytesAndForm c.args.map.now d now (InHand h) (contents_after_write (contents_bytes_of_unfinished_list d hand) c.args.place bytes) (storage_form_after_write c.args.limit c.args.place (length bytes) (storage_form_of_contents (InHand hand))))
     (sym c.if-write_within_block.ensures.written)
-    (written_within c.args.map.now d now hand bytes c.requires.going parts.1 c.args.limit c.args.place now.block_count (g.met.D.BlockDevice.shape c.args.dev.now) (eqb-true _ _ parts.0) c.requires.large)
+    (written_within c.args.map.now d now hand bytes c.requires.stands parts.1 c.args.limit c.args.place now.block_count (g.met.D.BlockDevice.shape c.args.dev.now) (eqb-true _ _ parts.0) c.requires.fits.large)
 
 pub returns-clause-written : goal.returns-clause-written
 returns-clause-written g c =
@@ -35,7 +35,7 @@ returns-clause-written g c =
     subst (λ (h : PendingList). AreConsistentContentsWithBytesAndForm c.write_to_unfinished_list_at_position.new.map (g.D.BlockDevice.blocks c.write_to_unfinished_list_at_position.new.dev) now (InHand c.in_ok-hand.hand) (contents_after_write (contents_bytes_of_unfinished_list d h) c.args.place c.args.bytes.now) (storage_form_after_write c.args.limit c.args.place (length c.args.bytes.now) (storage_form_of_contents (InHand h)))) same (record {
       stands = wrote.going;
       has = wrote.bytes;
-      form = written_hand c.args.limit c.args.place (length c.args.bytes.now) (size_of_growing_list hand.list) hand.base.size hand.base.in_flight _ _ _ (subst (λ (h : PendingList). c.args.limit < contents_length_of_unfinished_list h) (sym same) c.requires.large) wrote.size
+      form = written_hand c.args.limit c.args.place (length c.args.bytes.now) (size_of_growing_list hand.list) hand.base.size hand.base.in_flight _ _ _ (subst (λ (h : PendingList). c.args.limit < contents_length_of_unfinished_list h) (sym same) c.requires.fits.large) wrote.size
           (λ e. (ap (λ s. s.size) (over.same e), ap (λ s. s.in_flight) (over.same e))) (λ ne. (over.size ne, over.flying ne));
     })
 

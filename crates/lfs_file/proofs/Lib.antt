@@ -45,4 +45,5 @@ pub mod Truncations
 pub mod Used
 pub mod Walked
 pub mod Ways
+pub mod Within
 pub mod Words

@@ -1,5 +1,5 @@
 -- A list that grows, as contracts see it.
-use Rattle.std.specs.Prelude.{ℕ, Bool, true, false, ◌≡◌, ◌≢◌, ◌≤◌, ◌<◌, ◌+◌, ◌-◌, ◌*◌, List, [], ◌∷◌, ◌++◌, length, take, drop, slice_index, All}
+use Rattle.std.specs.Prelude.{ℕ, Bool, true, false, ◌≡◌, ◌≢◌, ◌≤◌, ◌<◌, ◌+◌, ◌-◌, ◌*◌, List, [], ◌∷◌, ◌++◌, length, take, drop, slice_index, All, ◌&&◌, nat_lt}
 use Rattle.std.specs.List.{flat_map, enumerate_from}
 use Rattle.lfs_model.specs.Blocks.{Blocks, block_bytes_by_number}
 use Rattle.lfs_model.specs.SkipLists.{pointer_count_of_list_block, byte_count_before_list_block, data_capacity_of_list_block, list_blocks_from_head, list_block_count_for_size, AreListBlocks, data_of_list_block}
@@ -76,6 +76,10 @@ AreLastBytesShorterThanBlock block_size g = length g.rest < data_capacity_of_lis
 -- how many blocks the list needs for so many bytes more
 abbrev pub count_of_blocks_to_append : GrowingList → ℕ → ℕ
 count_of_blocks_to_append g n = list_block_count_for_size g.geometry.block_size (size_of_growing_list g + n) - (g.full + length (unwritten_block_of_list g))
+
+-- a block waits for bytes, and is not full after so many more
+abbrev pub fit_in_unwritten_block : GrowingList → ℕ → Bool
+fit_in_unwritten_block g n = nat_lt 0 (length (unwritten_block_of_list g)) && nat_lt (length g.rest + n) (data_capacity_of_list_block g.geometry.block_size g.full)
 
 -- the rest is in a block that was handed in for it
 pub record AreLastBytesForUnwrittenBlock (disk : Blocks) (full head : ℕ) (rest : List ℕ) (b : ℕ) : Type 0 where

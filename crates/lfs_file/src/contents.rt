@@ -1,18 +1,18 @@
 // The contents of an open writer, and writes to them.
 
-ghost use Rattle.std.specs.Prelude.{◌≡◌, ◌≤◌, ◌<◌, ◌+◌, ◌^◌, length, max, true, IfOk, IfErr};
+ghost use Rattle.std.specs.Prelude.{◌≡◌, ◌≤◌, ◌<◌, ◌+◌, ◌^◌, length, IfOk, IfErr};
 ghost use Rattle.lfs_model.specs.Blocks.{Blocks};
 ghost use Rattle.lfs_model.specs.BlockSets.{BlockStateList, used_count};
 ghost use Rattle.lfs_model.specs.SkipLists.{list_block_count_for_size};
 ghost use Rattle.lfs_model.specs.Writers.{contents_after_write};
 ghost use Rattle.lfs_file.specs.Calls.{ReportsIoOrNoMemory};
 ghost use Rattle.lfs_file.specs.ContentsCalls.{CallKeepsUsedBlocks};
-ghost use Rattle.lfs_file.specs.Contents.{CanWriteContents, AreConsistentContentsWithBytesAndForm, HasNoBlockInFlight, IsInMemoryWithNoBlockInFlight, writer_contents_bytes_in_memory_or_blocks, storage_form_of_contents, bytes_in_buffer, block_room_for_write};
+ghost use Rattle.lfs_file.specs.Contents.{CanWriteContents, AreConsistentContentsWithBytesAndForm, HasNoBlockInFlight, writer_contents_bytes_in_memory_or_blocks, storage_form_of_contents, bytes_in_buffer};
 ghost use Rattle.lfs_file.specs.Form as form;
 ghost use Rattle.lfs_file.specs.Form.{storage_form_after_write};
 ghost use Rattle.lfs_file.specs.Hand.{IsFinishedListConsistentWithMapAndDisk, KeepsUsedBlocksInMap, bytes_of_stored_list};
 ghost use Rattle.lfs_file.specs.BaseRoom.{in_flight_block_limit_of_stored_list};
-ghost use Rattle.lfs_file.specs.HandWrites.{IsWrittenUnfinishedListOfContentsEndingAt, IsUnfinishedListWithAtLeastOneByte, contents_bytes_of_unfinished_list, contents_length_of_unfinished_list};
+ghost use Rattle.lfs_file.specs.HandWrites.{IsWrittenUnfinishedListOfContentsEndingAt, contents_bytes_of_unfinished_list};
 ghost use Rattle.lfs_file.specs.BlockOwners.{AreUsedBlocksOfListAmongOwnBlocks, KeepsBlocksOfStoredList, blocks_of_contents};
 
 use crate::Extender;
@@ -20,7 +20,7 @@ use crate::list_starts::begin_list_over_finished_list;
 use crate::memory::{load_first_bytes_of_list_into_memory, move_memory_contents_to_list_and_write};
 use crate::other_places::write_to_unfinished_list_at_position;
 use crate::stored_list::StoredList;
-use crate::writes::{PendingList, fill_gap_and_write_bytes};
+use crate::writes::{PendingList, fill_gap_and_write_bytes, write_within_block};
 use lfs_blocks::BlockMap;
 use lfs_device::{BlockDevice, Error, Geometry};
 use std::alloc::Global;
@@ -66,12 +66,7 @@ fn write_contents_in_memory<D: BlockDevice>(
     place: u32,
     bytes: &[u8],
 ) -> Result<WriterContents, Error>
-    requires quiet { IsInMemoryWithNoBlockInFlight map.old (D.blocks dev.old) (D.geometry dev.old) list }
-    requires few { length (bytes_in_buffer list) ≤ limit }
-    requires short { limit < (D.geometry dev.old).block_size }
-    requires some { 1 ≤ length bytes.now }
-    requires small { place + length bytes.now < 2 ^ 31 }
-    requires room { limit < max (length (bytes_in_buffer list)) (place + length bytes.now) → used_count map.old + list_block_count_for_size (D.geometry dev.old).block_size (place + length bytes.now) ≤ length map.old }
+    requires { CanWriteContents map.old (D.blocks dev.old) (D.geometry dev.old) (WriterContents.InMemory list) limit place (length bytes.now) }
     ensures written { IfOk result (λ c. AreConsistentContentsWithBytesAndForm map.new (D.blocks dev.new) (D.geometry dev.old) c
         (contents_after_write (bytes_in_buffer list) place bytes.now) (storage_form_after_write limit place (length bytes.now) (form.InMemory (length (bytes_in_buffer list))))) }
     ensures owned { IfOk result (λ c. AreUsedBlocksOfListAmongOwnBlocks map.new (blocks_of_contents (D.blocks dev.old) (D.geometry dev.old).block_size (WriterContents.InMemory list)) (blocks_of_contents (D.blocks dev.new) (D.geometry dev.old).block_size c)) }
@@ -125,12 +120,7 @@ fn write_over_finished_list<D: BlockDevice>(
     place: u32,
     bytes: &[u8],
 ) -> Result<WriterContents, Error>
-    requires stored { IsFinishedListConsistentWithMapAndDisk map.old (D.blocks dev.old) (D.geometry dev.old).block_size stored }
-    requires large { stored.in_flight ≡ true → limit < stored.size }
-    requires short { limit < (D.geometry dev.old).block_size }
-    requires some { 1 ≤ length bytes.now }
-    requires small { place + length bytes.now < 2 ^ 31 }
-    requires room { limit < max stored.size (place + length bytes.now) → used_count map.old + list_block_count_for_size (D.geometry dev.old).block_size (place + length bytes.now) + in_flight_block_limit_of_stored_list (D.geometry dev.old).block_size stored ≤ length map.old }
+    requires { CanWriteContents map.old (D.blocks dev.old) (D.geometry dev.old) (WriterContents.Finished stored) limit place (length bytes.now) }
     ensures written { IfOk result (λ c. AreConsistentContentsWithBytesAndForm map.new (D.blocks dev.new) (D.geometry dev.old) c
         (contents_after_write (bytes_of_stored_list (D.blocks dev.old) (D.geometry dev.old).block_size stored) place bytes.now) (storage_form_after_write limit place (length bytes.now) (form.Finished stored.size stored.in_flight))) }
     ensures owned { IfOk result (λ c. AreUsedBlocksOfListAmongOwnBlocks map.new (blocks_of_contents (D.blocks dev.old) (D.geometry dev.old).block_size (WriterContents.Finished stored)) (blocks_of_contents (D.blocks dev.new) (D.geometry dev.old).block_size c)) }
@@ -158,11 +148,7 @@ fn write_to_unfinished_list<D: BlockDevice>(
     place: u32,
     bytes: &[u8],
 ) -> Result<WriterContents, Error>
-    requires going { IsUnfinishedListWithAtLeastOneByte map.old (D.blocks dev.old) (D.geometry dev.old) hand }
-    requires large { limit < contents_length_of_unfinished_list hand }
-    requires some { 1 ≤ length bytes.now }
-    requires small { place + length bytes.now < 2 ^ 31 }
-    requires room { used_count map.old + block_room_for_write (D.geometry dev.old).block_size place (length bytes.now) (storage_form_of_contents (WriterContents.InHand hand)) ≤ length map.old }
+    requires { CanWriteContents map.old (D.blocks dev.old) (D.geometry dev.old) (WriterContents.InHand hand) limit place (length bytes.now) }
     ensures written { IfOk result (λ c. AreConsistentContentsWithBytesAndForm map.new (D.blocks dev.new) (D.geometry dev.old) c
         (contents_after_write (contents_bytes_of_unfinished_list (D.blocks dev.old) hand) place bytes.now) (storage_form_after_write limit place (length bytes.now) (storage_form_of_contents (WriterContents.InHand hand)))) }
     ensures owned { IfOk result (λ c. AreUsedBlocksOfListAmongOwnBlocks map.new (blocks_of_contents (D.blocks dev.old) (D.geometry dev.old).block_size (WriterContents.InHand hand)) (blocks_of_contents (D.blocks dev.new) (D.geometry dev.old).block_size c)) }
@@ -170,6 +156,10 @@ fn write_to_unfinished_list<D: BlockDevice>(
     ensures device { CallKeepsUsedBlocks D.BlockDevice map.old dev.old dev.new }
     ensures reports { ReportsIoOrNoMemory D.BlockDevice dev.old dev.new result }
 {
+    let mut hand = hand;
+    if write_within_block(&mut hand, place, bytes) {
+        return Ok(WriterContents::InHand(hand));
+    }
     let hand = write_to_unfinished_list_at_position(alloc, dev, map, hand, place, bytes)?;
     Ok(WriterContents::InHand(hand))
 }

@@ -1,4 +1,5 @@
 ghost use Rattle.std.specs.Prelude.{◌≡◌, ◌≤◌, ◌<◌, ◌+◌, ◌-◌, ◌*◌, ◌^◌, ◌++◌, ◌∷◌, [], length, take, drop, replicate, OnOk, IfOk, IfErr};
+ghost use Rattle.std.specs.Bool.{OnFalse, OnTrue};
 ghost use Rattle.lfs_file.specs.Appended.{IsBlockAppendedToList};
 ghost use Rattle.lfs_file.specs.Calls.{ReportsNoErrorButIo, ReportsIoOrNoMemory};
 ghost use Rattle.lfs_file.specs.Counts.{AddsOneEraseAndProgramPerBlock};
@@ -7,7 +8,7 @@ ghost use Rattle.lfs_file.specs.Extending.{CanFinishGrowingList, IsDeviceBlockOu
 ghost use Rattle.lfs_file.specs.FewReads.{FillsBlocksByFewReads, ResumesByFewReads, WritesLastBlockByFewReads};
 ghost use Rattle.lfs_file.specs.Fields.{HasOneBlockBufferAndConsistentNumbers, growing_list_view};
 ghost use Rattle.lfs_file.specs.Finished.{IsSkipListWithBytesAndBlocks};
-ghost use Rattle.lfs_file.specs.Growing.{HasAllBytesInBuffer, HasUnwrittenBlockAmongTheseBlocks, blocks_of_growing_list, bytes_of_growing_list, size_of_growing_list, count_of_blocks_to_append, block_for_next_bytes_with_used_count, unwritten_block_of_list};
+ghost use Rattle.lfs_file.specs.Growing.{HasAllBytesInBuffer, HasUnwrittenBlockAmongTheseBlocks, blocks_of_growing_list, fit_in_unwritten_block, bytes_of_growing_list, size_of_growing_list, count_of_blocks_to_append, block_for_next_bytes_with_used_count, unwritten_block_of_list};
 ghost use Rattle.lfs_file.specs.Known.{AreKnownListBlocks};
 ghost use Rattle.lfs_device.specs.Calls.{ChangesOnlyThisBlock, ChangesOnlyTheseBlocks, ReadsOnly};
 ghost use Rattle.lfs_model.specs.Blocks.{block_bytes_by_number, bytes_after_overwrite_at};
@@ -244,6 +245,29 @@ impl Extender {
             return 0;
         }
         blocks_for(state.geometry.block_size, state.size + n) - (state.front.count + begun)
+    }
+
+    /// Appends bytes in memory, where they fit into the block that waits for bytes and don't fill it.
+    /// Returns whether they do; where they don't, nothing changes.
+    ///
+    /// The caller's condition is that the whole list then has at most 2,147,483,647 bytes.
+    pub(crate) fn push_within_block(&mut self, bytes: &[u8]) -> bool
+        requires { size_of_growing_list self.old + length bytes.now < 2 ^ 31 }
+        ensures fits { result ≡ fit_in_unwritten_block self.old (length bytes.now) }
+        ensures pushed { OnTrue result (self.new ≡ record self.old { rest = self.old.rest ++ bytes.now }) }
+        ensures same { OnFalse result (self.new ≡ self.old) }
+    {
+        let state = &mut *self.state;
+        let RestLocation::Handed(_) = state.stand else {
+            return false;
+        };
+        if bytes.len() >= (state.geometry.block_size - state.filled) as usize {
+            return false;
+        }
+        overwrite_buffer_bytes(&mut state.buffer, state.filled as usize, bytes);
+        state.filled += bytes.len() as u32;
+        state.size += bytes.len() as u32;
+        true
     }
 
     // Returns the block that takes the next bytes, and how many of the blocks that were handed in

@@ -1,11 +1,12 @@
 // Bytes that are written at a place.
 
-ghost use Rattle.std.specs.Prelude.{◌≡◌, ◌≤◌, ◌<◌, ◌+◌, ◌^◌, length, min, OnOk};
+ghost use Rattle.std.specs.Prelude.{◌≡◌, ◌≤◌, ◌<◌, ◌+◌, ◌++◌, ◌^◌, ◌&&◌, ◌==◌, length, min, OnOk};
+ghost use Rattle.std.specs.Bool.{OnFalse, OnTrue};
 ghost use Rattle.lfs_model.specs.BlockSets.{used_count};
 ghost use Rattle.lfs_model.specs.SkipLists.{list_block_count_for_size};
 ghost use Rattle.lfs_model.specs.Writers.{contents_after_write};
 ghost use Rattle.lfs_file.specs.Calls.{ReportsIoOrNoMemory};
-ghost use Rattle.lfs_file.specs.Growing.{size_of_growing_list};
+ghost use Rattle.lfs_file.specs.Growing.{fit_in_unwritten_block, size_of_growing_list};
 ghost use Rattle.lfs_file.specs.ContentsCalls.{CallKeepsUsedBlocks};
 ghost use Rattle.lfs_file.specs.Hand.{KeepsUsedBlocksInMap};
 ghost use Rattle.lfs_file.specs.BaseRoom.{in_flight_block_limit_of_stored_list};
@@ -28,6 +29,19 @@ pub struct PendingList {
     pub list: Extender,
     pub base: StoredList,
     pub shared: u32,
+}
+
+/// Writes bytes in memory at a place where the list in hand ends, if the block in hand isn't full
+/// then. Returns whether it did; otherwise nothing changes.
+///
+/// The caller's condition is that the bytes end before 2,147,483,648.
+pub(crate) fn write_within_block(hand: &mut PendingList, place: u32, bytes: &[u8]) -> bool
+    requires { place + length bytes.now < 2 ^ 31 }
+    ensures fits { result ≡ ((size_of_growing_list hand.old.list == place) && fit_in_unwritten_block hand.old.list (length bytes.now)) }
+    ensures written { OnTrue result (hand.new ≡ record hand.old { list = record hand.old.list { rest = hand.old.list.rest ++ bytes.now } }) }
+    ensures same { OnFalse result (hand.new ≡ hand.old) }
+{
+    hand.list.size() == place && hand.list.push_within_block(bytes)
 }
 
 /// Writes bytes, at least one, at the end of those in hand.

@@ -27,15 +27,15 @@ returns-then-size-limit-clause-written g c =
     let n : ℕ = length c.args.bytes.now in
     let m = c.max-size.ensures in
     let test = c.if-size-limit.true in
-    let all = length-base d geometry.block_size geometry.block_count stored.head stored.size geometry.valid.no_smaller (g.met.D.BlockDevice.shape c.args.dev.now) c.requires.stored.base in
+    let all = length-base d geometry.block_size geometry.block_count stored.head stored.size geometry.valid.no_smaller (g.met.D.BlockDevice.shape c.args.dev.now) c.requires.stands.base in
     let kept : bytes_in_buffer c.in_ok-list.list ≡ old = c.in_ok-list.ensures.bytes ∙ take_all stored.size old (omega arith) in
     let has : bytes_in_buffer c.write_buffered_content_at.new.self ≡ contents_after_write old c.args.place c.args.bytes.now = c.write_buffered_content_at.ensures.rest ∙ ap (λ (l : List ℕ). contents_after_write l c.args.place c.args.bytes.now) kept in
     let long : length (bytes_in_buffer c.write_buffered_content_at.new.self) ≡ max stored.size (c.args.place + n) = ap length has ∙ length-written old c.args.place c.args.bytes.now ∙ ap (λ k. max k (c.args.place + n)) all in
     record {
       stands = record {
         idle = record {
-          count = c.requires.stored.count ∙ sym (ap length c.load_first_bytes_of_list_into_memory.ensures.reading.device.same);
-          none = λ b is. (let large = c.requires.large (c.requires.stored.flying b is).0 in absurd (omega arith));
+         count = c.requires.stands.count ∙ sym (ap length c.load_first_bytes_of_list_into_memory.ensures.reading.device.same);
+         none = λ b is. (let large = c.requires.fits.large (c.requires.stands.flying b is).0 in absurd (omega arith));
         };
         resting = record { geometry = c.in_ok-list.ensures.resting.geometry ∙ sym ((c.write_buffered_content_at.ensures.holds d).geometry); held = c.write_buffered_content_at.ensures.held };
       };

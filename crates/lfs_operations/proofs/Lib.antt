@@ -58,7 +58,6 @@ pub mod UnlinkedSteps
 pub mod MovRename
 pub mod MovLater
 pub mod RecoverDeltas
-pub mod RecoverPlaced
 pub mod RecoverLists
 pub mod RecoverLoop
 pub mod RecoverSteps

@@ -30,7 +30,7 @@ use Rattle.lfs_operations.specs.MovingAcross.{tree_with_moved_entry}
 use Rattle.lfs_operations.specs.MovingOnto.{CanReplaceEntryAcrossPairs, CanReplaceFileAcrossPairs, CanReplaceDirectoryAcrossPairs, IsFileReplacedAcrossPairs, replace_entry_across_pairs_changes}
 use Rattle.lfs_operations.specs.Dropping.{ShowsTreeAfterPairDrops}
 use Rattle.lfs_operations.specs.Removing.{is_pair_dropped_with_slot}
-use Rattle.lfs_operations.proofs.Held.{IsEntryIfOther, each_pair, fits_there, here, other_entries}
+use Rattle.lfs_operations.proofs.Held.{IsEntryIfOther, each_pair, fits_there, other_entries}
 use Rattle.lfs_operations.proofs.MovSet.{HasTurned, set_onto, walk_by}
 use Rattle.lfs_operations.proofs.MovStep.{IsFirst, first_survives, first_turned, grown, mid_ends, mid_shows, rename_becomes, rename_completed, rename_once, same_at}
 use Rattle.lfs_operations.proofs.RenameMade.{Leaves, fits_without, leaves_without}

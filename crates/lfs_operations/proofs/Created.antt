@@ -2,45 +2,13 @@
 use Rattle.std.proofs.Common.{ℕ, ◌≡◌, ◌≤◌, true, List, [], ◌∷◌, ◌++◌, length, Some, refl, sym, ap, ap₂, subst, ◌∙◌, arith, length-append, insert}
 use Rattle.std.specs.Prelude.{Contains}
 use Rattle.std.specs.Option.{option_and_then}
-use Rattle.std.proofs.lemmas.Bool.{ne_eqb}
-use Rattle.lfs_model.specs.TreeEdits.{tree_after_creation}
-use Rattle.lfs_model.specs.Changes.{raw_pair_content_after_changes}
-use Rattle.lfs_model.specs.Content.{RawPairContent, raw_content_of_pair_at, pair_content_if_slots_complete}
-use Rattle.lfs_model.specs.EntryTypes.{file_name_type, inline_struct_type}
-use Rattle.lfs_model.specs.Cut.{CanSplitSlotsIntoTwoPairs}
-use Rattle.lfs_model.specs.Disk.{Disk}
-use Rattle.lfs_model.specs.History.{DeviceCallEvent}
-use Rattle.lfs_model.specs.InDirectory.{IsPlaceWhereNameBelongs}
-use Rattle.lfs_model.specs.LoggedContent.{IsNameOrStructTheFormatAllows}
-use Rattle.lfs_model.specs.Names.{Name}
+use Rattle.lfs_operations.proofs.Common.{ne_eqb, tree_after_creation, raw_pair_content_after_changes, RawPairContent, raw_content_of_pair_at, pair_content_if_slots_complete, file_name_type, CanSplitSlotsIntoTwoPairs, Disk, DeviceCallEvent, IsPlaceWhereNameBelongs, IsNameOrStructTheFormatAllows, Name, SurvivesPowerLossInCallsSince, Slot, PairContent, same_pair, path_of_bytes_or_root, Pair, blocks_of_pairs, pair_address_named_by_tail, Session, Tree, FileNode, IsAcceptedImage, IsPathToDirectory, entries_by_directory_in_thread, tree_on_disk, IsImageAfterTreeChange, IsImageAfterCompletedOperation, no_move_from, recovered_from, commit_step, complete_insert, complete_length, completed_parts, completed_from, creates_with_struct, does_nothing, slot_with, insert_cut, nothing_there, place_at, insert_here, IsPlace, some_filled, site, thread_is, is_site, same, number_is, place_of_belongs, Site, thread_at, begin_of, logged_changed, type_of_tag-tag_of_type_id_and_length, length_of_tag-tag_of_type_id_and_length, pair_content_after_changes, PowerLossLeavesSuchBlocksAfterCleanErases, KeptThread, thread_pair_at_index, complete_content_after_changes}
+use Rattle.lfs_model.specs.EntryTypes.{inline_struct_type}
 use Rattle.lfs_model.specs.Operations as ops
 use Rattle.lfs_model.specs.Operations.{FlagsOfOpen}
-use Rattle.lfs_model.specs.PowerLoss.{SurvivesPowerLossInCallsSince}
-use Rattle.lfs_model.specs.Slots.{Slot, PairContent, same_pair}
 use Rattle.lfs_model.specs.SlotEdits.{new_file_slot}
-use Rattle.lfs_model.specs.Refusals.{path_of_bytes_or_root}
-use Rattle.lfs_model.specs.Thread.{Pair, blocks_of_pairs, pair_address_named_by_tail}
-use Rattle.lfs_model.specs.Session.{Session}
-use Rattle.lfs_model.specs.Tree.{Tree, FileNode}
-use Rattle.lfs_model.specs.View.{IsAcceptedImage}
-use Rattle.lfs_model.specs.Shown.{IsPathToDirectory, entries_by_directory_in_thread, tree_on_disk}
-use Rattle.lfs_model.proofs.Changes.{IsImageAfterTreeChange}
-use Rattle.lfs_model.proofs.Committed.{IsImageAfterCompletedOperation, no_move_from, recovered_from, commit_step}
-use Rattle.lfs_model.proofs.Completed.{complete_insert, complete_length, completed_parts, completed_from}
-use Rattle.lfs_model.proofs.Effects.{creates_with_struct, does_nothing, slot_with}
-use Rattle.lfs_model.proofs.Halves.{insert_cut}
-use Rattle.lfs_model.proofs.Indexes.{nothing_there}
-use Rattle.lfs_model.proofs.Moves.{place_at, file_comes, insert_here}
-use Rattle.lfs_model.proofs.Names.{IsPlace}
-use Rattle.lfs_model.proofs.OneCommit.{create_completed, some_filled}
-use Rattle.lfs_model.proofs.Searches.{site, thread_is, is_site, same, number_is, place_of_belongs}
-use Rattle.lfs_model.proofs.Sites.{Site, thread_at, begin_of}
-use Rattle.lfs_model.proofs.StoredChanges.{logged_changed}
-use Rattle.lfs_model.proofs.WrittenAnew.{type_of_tag-tag_of_type_id_and_length, length_of_tag-tag_of_type_id_and_length}
-use Rattle.lfs_pair.specs.Commit.{pair_content_after_changes}
-use Rattle.lfs_thread.specs.Device.{PowerLossLeavesSuchBlocksAfterCleanErases}
-use Rattle.lfs_thread.specs.Kept.{KeptThread}
-use Rattle.lfs_thread.specs.Steps.{thread_pair_at_index, complete_content_after_changes}
+use Rattle.lfs_model.proofs.Moves.{file_comes}
+use Rattle.lfs_model.proofs.OneCommit.{create_completed}
 use Rattle.lfs_operations.specs.Changing.{IsPairNotKeptUnchanged, CanChangeOrSplitPair, IsLeftByStoppedChangeOrSplit, IsPairChangedOrSplit}
 use Rattle.lfs_operations.specs.Creating.{CanCreateFileInPair, IsFileCreated, file_creation_changes, tree_with_new_file}
 use Rattle.lfs_operations.proofs.Altered.{commit_alters}

@@ -1,30 +1,7 @@
 -- A pair that went from the thread, in an accepted image: what the device holds then, and which blocks the image uses.
 use Rattle.std.proofs.Common.{ℕ, ◌≡◌, ◌≢◌, ◌⊎◌, inl, inr, ◌+◌, ◌-◌, ◌≤◌, Bool, true, false, cond, nat_eq, eqb-true, eq-eqb, List, [], ◌∷◌, ◌++◌, length, Option, Some, refl, sym, ap, ap₂, subst, subst₂, ◌∙◌, arith, append_assoc, length-append, length-set, set, slice_get}
 use Rattle.std.specs.Prelude.{Contains, ◌↔◌}
-use Rattle.std.proofs.lemmas.List.Elements.{All-from_recursion, recursion_from_All}
-use Rattle.std.proofs.lemmas.Option.{same_Some}
-use Rattle.lfs_model.specs.BlockSets.{AreExactlyTheUsedBlocks, BlockStateList, BlockState, IsBlockInFlight, IsBlockMarkedUsedInMap}
-use Rattle.lfs_model.specs.BlockSets.BlockState.{Free, InFlight, Used}
-use Rattle.lfs_model.specs.Blocks.{Blocks}
-use Rattle.lfs_model.specs.Content.{content_of_pair_at}
-use Rattle.lfs_model.specs.Disk.{Disk}
-use Rattle.lfs_model.specs.LoggedContent.{AreMoveStateFieldsWithinBitWidths}
-use Rattle.lfs_model.specs.PowerLoss.{HasTreeBeforeOrAfterOperation, disk_with_blocks}
-use Rattle.lfs_model.specs.Profile.{IsWritableImage}
-use Rattle.lfs_model.specs.Slots.{Gstate, IsContentFittingPair, PairContent, Slot}
-use Rattle.lfs_model.specs.Thread.{Pair, blocks_of_pairs, gstate_of_pairs, blocks_of_pair_address}
-use Rattle.lfs_model.specs.Tree.{Tree}
-use Rattle.lfs_model.specs.View.{IsAcceptedImage}
-use Rattle.lfs_model.specs.Shown.{all_slots_not_moved, tree_on_disk, used_blocks}
-use Rattle.lfs_model.proofs.BlockSets.{Contains-occurrence_count_of_number, occurrence_count_of_number-Contains, slice_get-set_other, slice_get-set_same}
-use Rattle.lfs_model.proofs.Changes.{SameFiles, slots_files}
-use Rattle.lfs_model.proofs.Counts.{Each, occurrence_count_of_number, count_append, count_here, each_append, each_left, each_right, once_from_distinct}
-use Rattle.lfs_model.proofs.Files.{HasSameFileBlocksOfStructOnDisks}
-use Rattle.lfs_model.proofs.Global.{HasNoMove}
-use Rattle.lfs_model.proofs.Sites.{Site, thread_at}
-use Rattle.lfs_model.proofs.Splices.{IsDevice, count_files, file_blocks_of_slots, slots_of_pairs_in_order, unmoved_in}
-use Rattle.lfs_thread.specs.Kept.{KeptThread}
-use Rattle.lfs_thread.specs.Steps.{IsPairWrittenOnDisk, SlotsBeginWithSuperblock, thread_pair_at_index, block_map_with_freed_pair}
+use Rattle.lfs_operations.proofs.Common.{All-from_recursion, recursion_from_All, same_Some, AreExactlyTheUsedBlocks, BlockStateList, BlockState, IsBlockInFlight, IsBlockMarkedUsedInMap, Free, InFlight, Used, Blocks, content_of_pair_at, Disk, AreMoveStateFieldsWithinBitWidths, HasTreeBeforeOrAfterOperation, disk_with_blocks, IsWritableImage, Gstate, IsContentFittingPair, PairContent, Slot, Pair, blocks_of_pairs, gstate_of_pairs, blocks_of_pair_address, Tree, IsAcceptedImage, all_slots_not_moved, tree_on_disk, used_blocks, Contains-occurrence_count_of_number, occurrence_count_of_number-Contains, slice_get-set_other, slice_get-set_same, SameFiles, slots_files, Each, occurrence_count_of_number, count_append, count_here, each_append, each_left, each_right, once_from_distinct, HasSameFileBlocksOfStructOnDisks, HasNoMove, Site, thread_at, IsDevice, count_files, file_blocks_of_slots, slots_of_pairs_in_order, unmoved_in, KeptThread, IsPairWrittenOnDisk, SlotsBeginWithSuperblock, thread_pair_at_index, block_map_with_freed_pair}
 use Rattle.lfs_operations.specs.Dropping.{CanDropPairAt, HasSameBlocksInFlight, IsLeftByStoppedPairDrop, IsNextPairDropped, content_after_next_pair_drop, tail_over_dropped_pair}
 use Rattle.lfs_operations.specs.MoveEnds.{blocks_dropped_at_move_end, map_after_move_ends}
 use Rattle.lfs_operations.proofs.DroppedTails.{front_is, gone_is, gstate_is, without_is}

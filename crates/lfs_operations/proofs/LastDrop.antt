@@ -1,24 +1,6 @@
 -- The last step of an operation drops a pair that no path leads to any more.
 use Rattle.std.proofs.Common.{ℕ, ◌≡◌, inr, ◌+◌, ◌-◌, ◌≤◌, false, List, [], ◌∷◌, ◌++◌, length, refl, sym, ap, subst, ◌∙◌, arith}
-use Rattle.lfs_model.specs.Blocks.{Blocks}
-use Rattle.lfs_model.specs.BlockSets.{AreExactlyTheUsedBlocks}
-use Rattle.lfs_model.specs.Disk.{Disk, block_count}
-use Rattle.lfs_model.specs.PowerLoss.{HasTreeBeforeOrAfterOperation as IsLeftOf, disk_with_blocks}
-use Rattle.lfs_model.specs.Slots.{PairContent, zero_gstate}
-use Rattle.lfs_model.specs.Thread.{Pair, blocks_of_pairs, gstate_of_pairs, is_hard_tail, root_directory_address_of_pairs, pair_count_before_root, blocks_of_pair_address}
-use Rattle.lfs_model.specs.Tree.{Tree}
-use Rattle.lfs_model.specs.View.{IsAcceptedImage}
-use Rattle.lfs_model.specs.Steps.{DirectoryAddressByPath}
-use Rattle.lfs_model.specs.Shown.{all_slots_not_moved, tree_on_disk, used_blocks}
-use Rattle.lfs_model.proofs.Alike.{ArePairsWithSameAddressesAndSlots, alike_append, alike_itself}
-use Rattle.lfs_model.proofs.Counts.{occurrence_count_of_number, count_append, count_here, once_from_distinct}
-use Rattle.lfs_model.proofs.Global.{HasNoMove}
-use Rattle.lfs_model.proofs.RmdirSteps.{IsGone}
-use Rattle.lfs_model.proofs.Splices.{file_blocks_of_slots}
-use Rattle.lfs_model.proofs.StepsTaken.{IsWritableImageAfterTreeChange}
-use Rattle.lfs_model.proofs.Superblocks.{IsChain}
-use Rattle.lfs_thread.specs.Kept.{KeptThread}
-use Rattle.lfs_thread.specs.Steps.{HasSameGeometry, IsPairWrittenOnDisk, thread_pair_at_index}
+use Rattle.lfs_operations.proofs.Common.{Blocks, AreExactlyTheUsedBlocks, Disk, block_count, HasTreeBeforeOrAfterOperation as IsLeftOf, disk_with_blocks, PairContent, zero_gstate, Pair, blocks_of_pairs, gstate_of_pairs, is_hard_tail, root_directory_address_of_pairs, pair_count_before_root, blocks_of_pair_address, Tree, IsAcceptedImage, DirectoryAddressByPath, all_slots_not_moved, tree_on_disk, used_blocks, ArePairsWithSameAddressesAndSlots, alike_append, alike_itself, occurrence_count_of_number, count_append, count_here, once_from_distinct, HasNoMove, IsGone, file_blocks_of_slots, IsWritableImageAfterTreeChange, IsChain, KeptThread, HasSameGeometry, IsPairWrittenOnDisk, thread_pair_at_index}
 use Rattle.lfs_operations.specs.Dropping.{CanDropPairAt, IsNextPairDropped, ShowsTreeAfterPairDrops, IsLeftByStoppedPairDrop, HasSameBlocksInFlight, content_after_next_pair_drop}
 use Rattle.lfs_operations.specs.Ready.{IsImageReadyForChange, KeepsPairCountBeforeRoot}
 use Rattle.lfs_operations.proofs.Dropped.{HasMapWithout, IsToBeDropped, can_drop_pair, device_left, front_there, gone_there, left_dropped, map_dropped, pairs_left, slots_left, state_left, tail_left, used_left}

@@ -1,3 +1,4 @@
+pub mod Common
 pub mod Taking
 pub mod Putting
 pub mod Placing
@@ -22,6 +23,7 @@ pub mod MovSet
 pub mod MovFirsts
 pub mod MovEnd
 pub mod MovTurned
+pub mod TurnedSync
 pub mod MovAcross
 pub mod MovEnding
 pub mod MovStep

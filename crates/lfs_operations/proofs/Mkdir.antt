@@ -1,44 +1,13 @@
 -- A directory that comes, as two steps of the thread.
 use Rattle.std.proofs.Common.{ℕ, ◌≡◌, ◌+◌, ◌<◌, ◌≤◌, ◌^◌, ◌⊎◌, inl, inr, true, List, [], ◌∷◌, ◌++◌, length, Some, refl, sym, ap, ap₂, subst, ◌∙◌, arith, append_assoc, length-append, insert, slice_get}
 use Rattle.std.specs.Prelude.{All, Contains}
-use Rattle.std.proofs.lemmas.List.Elements.{recursion_from_All}
+use Rattle.lfs_operations.proofs.Common.{recursion_from_All, tree_after_creation, Blocks, AreBlocksEqualExceptThese, IsBlockFree, IsBlockInFlight, Free, content_of_pair_at, Disk, block_count, charged_entry_size_limit_in_pair, IsPlaceWhereNameBelongs, Are32BitPairAddresses, Name, HasTreeBeforeOrAfterOperation as IsLeftOf, disk_with_blocks, PairContent, IsContentFittingPair, Gstate, Slot, zero_gstate, gstate_xor, same_pair, new_directory_slot, pair_with_slots, Pair, blocks_of_pairs, gstate_of_pairs, is_hard_tail, pair_address_named_by_tail, pair_count_before_root, blocks_of_pair_address, blocks_of_two_pair_addresses, DirectoryNode, IsEntryWithinWritableLimits, IsWritableImage, IsAcceptedImage, IsPathToDirectory, entries_by_directory_in_thread, tree_on_disk, Became, last_site, chain_now, InTwo, mkdir_in_two, IsImageAfterCompletedOperation, no_move_from, recovered_from, each_right, HasNoMove, gstate_assoc, gstate_cons, gstate_moved, gstate_self, sync_bit_delta, gstate_with_inverted_sync_bit, turned_is, entry_small, place_at, insert_here, IsPlace, step_writable, site, thread_is, is_site, same, number_is, place_of_belongs, IsTrueOfSomeElement, Site, among_left, among_right, begin_of, dirs_at, thread_at, IsSite, IsChain, KeptThread, CanThreadInFreshPair, IsFreshPairThreadedIn, PowerLossLeavesPairOldOrThreadedIn, ThreadChangesOnlyTheseBlocks, thread_pair_at_index, complete_content_after_changes}
 use Rattle.lfs_device.specs.Bytes.{AreAllBlockElementsBelow256}
-use Rattle.lfs_model.specs.TreeEdits.{tree_after_creation}
-use Rattle.lfs_model.specs.Blocks.{Blocks, AreBlocksEqualExceptThese}
-use Rattle.lfs_model.specs.BlockSets.{IsBlockFree, IsBlockInFlight}
-use Rattle.lfs_model.specs.BlockSets.BlockState.{Free}
-use Rattle.lfs_model.specs.Content.{content_of_pair_at}
 use Rattle.lfs_model.specs.declared.limits.Profile.{Profile}
-use Rattle.lfs_model.specs.Disk.{Disk, block_count, charged_entry_size_limit_in_pair}
-use Rattle.lfs_model.specs.InDirectory.{IsPlaceWhereNameBelongs}
-use Rattle.lfs_model.specs.LoggedContent.{Are32BitPairAddresses}
-use Rattle.lfs_model.specs.Names.{Name}
 use Rattle.lfs_model.specs.Operations as ops
-use Rattle.lfs_model.specs.PowerLoss.{HasTreeBeforeOrAfterOperation as IsLeftOf, disk_with_blocks}
-use Rattle.lfs_model.specs.Slots.{PairContent, IsContentFittingPair, Gstate, Slot, entry_charge_with_longest_inline_contents, zero_gstate, gstate_xor, same_pair}
-use Rattle.lfs_model.specs.SlotEdits.{new_directory_slot, pair_with_slots}
-use Rattle.lfs_model.specs.Thread.{Pair, blocks_of_pairs, gstate_of_pairs, is_hard_tail, pair_address_named_by_tail, pair_count_before_root, blocks_of_pair_address, blocks_of_two_pair_addresses}
-use Rattle.lfs_model.specs.Tree.{DirectoryNode}
-use Rattle.lfs_model.specs.Profile.{IsEntryWithinWritableLimits, IsWritableImage}
-use Rattle.lfs_model.specs.View.{IsAcceptedImage}
-use Rattle.lfs_model.specs.Shown.{IsPathToDirectory, entries_by_directory_in_thread, tree_on_disk}
-use Rattle.lfs_model.proofs.Became.{Became}
-use Rattle.lfs_model.proofs.Beside.{change, last_site}
-use Rattle.lfs_model.proofs.Changes.{chain_now}
-use Rattle.lfs_model.proofs.Chained.{InTwo, mkdir_in_two}
-use Rattle.lfs_model.proofs.Committed.{IsImageAfterCompletedOperation, no_move_from, recovered_from}
-use Rattle.lfs_model.proofs.Counts.{each_right}
-use Rattle.lfs_model.proofs.Global.{HasNoMove, gstate_assoc, gstate_cons, gstate_moved, gstate_self, sync_bit_delta, gstate_with_inverted_sync_bit, turned_is}
-use Rattle.lfs_model.proofs.Halves.{entry_small}
-use Rattle.lfs_model.proofs.Moves.{place_at, insert_here}
-use Rattle.lfs_model.proofs.Names.{IsPlace}
-use Rattle.lfs_model.proofs.Profiles.{step_writable}
-use Rattle.lfs_model.proofs.Searches.{site, thread_is, is_site, same, number_is, place_of_belongs}
-use Rattle.lfs_model.proofs.Sites.{IsTrueOfSomeElement, Site, among_left, among_right, begin_of, dirs_at, thread_at, IsSite}
+use Rattle.lfs_model.specs.Slots.{entry_charge_with_longest_inline_contents}
+use Rattle.lfs_model.proofs.Beside.{change}
 use Rattle.lfs_model.proofs.StepsTaken as taken
-use Rattle.lfs_model.proofs.Superblocks.{IsChain}
-use Rattle.lfs_thread.specs.Kept.{KeptThread}
-use Rattle.lfs_thread.specs.Steps.{CanThreadInFreshPair, IsFreshPairThreadedIn, PowerLossLeavesPairOldOrThreadedIn, ThreadChangesOnlyTheseBlocks, thread_pair_at_index, complete_content_after_changes}
 use Rattle.lfs_operations.specs.Changing.{IsPairNotKeptUnchanged, AreTwoFreeBlocks, CanChangeOrSplitPair, HasTwoFreeBlocks, IsLeftByStoppedChangeOrSplit, IsPairChangedOrSplit, map_with_two_blocks_in_flight}
 use Rattle.lfs_operations.specs.Making.{ArePairAndLastPairOfDirectoryAltered, CanMakeDirectoryAt, FitsPairWithTailToNewPair, HasSoManyFreeBlocks, IsLastPairOfHardTailRun, IsDirectoryMade, changes_adding_entry_for_directory_pair, changes_threading_new_pair, tree_with_new_directory}
 use Rattle.lfs_operations.proofs.Altered.{put_alters}

@@ -1,25 +1,6 @@
 -- The end of a set move where the pair goes with the slot, as a step of the thread.
 use Rattle.std.proofs.Common.{ℕ, ◌≡◌, ◌≢◌, ◌⊎◌, inl, inr, ◌-◌, true, false, List, [], ◌∷◌, ◌++◌, length, refl, sym, ap, ap₂, subst, ◌∙◌, arith, append-nil, length-append, remove, subst₂}
-use Rattle.lfs_model.specs.Disk.{Disk}
-use Rattle.lfs_model.specs.History.{DeviceCallEvent}
-use Rattle.lfs_model.specs.LoggedContent.{AreMoveStateFieldsWithinBitWidths}
-use Rattle.lfs_model.specs.PowerLoss.{SurvivesPowerLossInCallsSince}
-use Rattle.lfs_model.specs.Slots.{PairContent, Gstate, Slot, same_pair}
-use Rattle.lfs_model.specs.Thread.{Pair, gstate_of_pairs, is_hard_tail, pair_count_before_root}
-use Rattle.lfs_model.specs.View.{IsAcceptedImage}
-use Rattle.lfs_model.specs.Profile.{IsWritableImage}
-use Rattle.lfs_model.specs.Shown.{directories_in_thread, tree_on_disk, used_blocks}
-use Rattle.lfs_model.proofs.Alike.{ArePairsWithSameAddressesAndSlots, alike_append, alike_itself}
-use Rattle.lfs_model.proofs.Counts.{occurrence_count_of_number}
-use Rattle.lfs_model.proofs.Histories.{IsTrueAfterAnyPowerLossSince-weaker}
-use Rattle.lfs_model.proofs.Indexes.{HasSite, site_of_number}
-use Rattle.lfs_model.proofs.MoveSets.{addresses_of_first_pairs_of_directories}
-use Rattle.lfs_model.proofs.Sites.{IsTrueOfSomeElement, Site, among_left, among_parts, among_right, thread_at}
-use Rattle.lfs_model.proofs.StepsTaken.{IsWritableImageAfterTreeChange}
-use Rattle.lfs_model.proofs.Writable.{ends_in_hard_tail}
-use Rattle.lfs_thread.specs.Device.{PowerLossLeavesSuchBlocksAfterCleanErases}
-use Rattle.lfs_thread.specs.Kept.{KeptThread}
-use Rattle.lfs_thread.specs.Steps.{IsPairWrittenOnDisk, empty_pair_at_anchor, thread_pair_at_index, block_map_with_freed_pair}
+use Rattle.lfs_operations.proofs.Common.{Disk, DeviceCallEvent, AreMoveStateFieldsWithinBitWidths, SurvivesPowerLossInCallsSince, PairContent, Gstate, Slot, same_pair, Pair, gstate_of_pairs, is_hard_tail, pair_count_before_root, IsAcceptedImage, IsWritableImage, directories_in_thread, tree_on_disk, used_blocks, ArePairsWithSameAddressesAndSlots, alike_append, alike_itself, occurrence_count_of_number, IsTrueAfterAnyPowerLossSince-weaker, HasSite, site_of_number, addresses_of_first_pairs_of_directories, IsTrueOfSomeElement, Site, among_left, among_parts, among_right, thread_at, IsWritableImageAfterTreeChange, ends_in_hard_tail, PowerLossLeavesSuchBlocksAfterCleanErases, KeptThread, IsPairWrittenOnDisk, empty_pair_at_anchor, thread_pair_at_index, block_map_with_freed_pair, HasNoMove}
 use Rattle.lfs_operations.specs.Dropping.{CanDropPairAt, IsNextPairDropped, IsLeftByStoppedPairDrop, content_after_next_pair_drop}
 use Rattle.lfs_operations.specs.MoveEnds.{CanEndMoveAt, HasEndedMoveAt, is_pair_named_by_hard_tail}
 use Rattle.lfs_operations.proofs.Dropped.{IsToBeDropped, can_drop_pair, device_left, grouped, is, left_dropped, pairs_left, slots_left, state_left, tail_left}
@@ -31,7 +12,6 @@ use Rattle.lfs_operations.proofs.Removed.{flag_ends}
 use Rattle.lfs_operations.proofs.RemovedWhole.{only_slot, over_hard, StandsBehind, stands_behind}
 use Rattle.lfs_operations.specs.EndingMove.{gstate_without_move}
 use Rattle.lfs_operations.proofs.RecoverBefore.{go_alike}
-use Rattle.lfs_model.proofs.Global.{HasNoMove}
 
 sync_state : (g : Gstate) → AreMoveStateFieldsWithinBitWidths (gstate_without_move g)
 sync_state g = record { kind = omega arith; id = omega arith; pair = (omega arith, omega arith) }

@@ -1,48 +1,10 @@
 -- The first step of a rename across pairs, as a step of the thread, and what the second one makes of it.
 use Rattle.std.proofs.Common.{ℕ, ◌≡◌, ◌≢◌, ◌+◌, ◌-◌, ◌<◌, ◌≤◌, ◌⊎◌, inl, inr, Bool, true, false, cond, take, List, [], ◌∷◌, ◌++◌, length, Option, Some, refl, sym, ap, ap₂, subst, ◌∙◌, arith, append_assoc, length-append, get_or, set, remove}
-use Rattle.std.proofs.lemmas.Bool.{le-ltb, lt-ltb}
-use Rattle.lfs_model.specs.Blocks.{Blocks}
-use Rattle.lfs_model.specs.BlockSets.{AreExactlyTheUsedBlocks}
-use Rattle.lfs_model.specs.BlockSets.BlockState.{Free, InFlight}
-use Rattle.lfs_model.specs.Changes.{PairContentChange}
-use Rattle.lfs_model.specs.Content.{content_after_log_entries, current_block_of_two, empty_raw_pair_content, raw_content_of_pair_at}
-use Rattle.lfs_model.specs.Disk.{block_count, Disk, block_bytes_on_disk}
-use Rattle.lfs_model.specs.History.{DeviceCallEvent}
-use Rattle.lfs_model.specs.Log.{log_entries_of_block}
+use Rattle.lfs_operations.proofs.Common.{le-ltb, lt-ltb, Blocks, AreExactlyTheUsedBlocks, Free, InFlight, PairContentChange, content_after_log_entries, current_block_of_two, empty_raw_pair_content, raw_content_of_pair_at, block_count, Disk, block_bytes_on_disk, DeviceCallEvent, log_entries_of_block, Name, HasTreeBeforeOrAfterOperation as IsLeftOf, SurvivesPowerLossInCallsSince, disk_with_blocks, Slot, Gstate, gstate_xor, zero_gstate, same_pair, slot_of_path, Pair, blocks_of_pairs, gstate_of_pairs, is_hard_tail, pair_count_before_root, Path, Tree, last_name_of_path, tree_after_rename, Session, path_of_bytes_or_root, directories_in_thread, all_slots_not_moved, skip_list_blocks_of_struct, tree_on_disk, used_blocks, IsAcceptedImage, IsWritableImage, flat_map, ArePairsWithSameAddressesAndSlots, IsImageAfterTreeChange, rearranged_chain, IsImageAfterCompletedOperation, occurrence_count_of_number, count_append, count_here, once_from_distinct, IsTrueAfterAnyPowerLossSince-weaker, remove_here, addresses_of_first_pairs_of_directories, set_rearranged, pair_itself, IsNoDirectory, target_slots, IsTrueOfSomeElement, Site, among_left, among_parts, among_right, dirs_at, thread_at, file_blocks_of_slots, IsWritableImageAfterTreeChange, IsChain, pairs_behind, OldStays, from_old, two, ends_in_hard_tail, PowerLossLeavesSuchBlocksAfterCleanErases, KeptThread, HasSameGeometry, empty_pair_at_anchor, thread_pair_at_index}
 use Rattle.std.specs.Option.{option_and_then}
-use Rattle.lfs_model.specs.Names.{Name}
-use Rattle.lfs_model.specs.PowerLoss.{HasTreeBeforeOrAfterOperation as IsLeftOf, SurvivesPowerLossInCallsSince, disk_with_blocks}
-use Rattle.lfs_model.specs.Slots.{Slot, Gstate, gstate_xor, zero_gstate, same_pair}
-use Rattle.lfs_model.specs.SlotEdits.{slot_of_path}
-use Rattle.lfs_model.specs.Thread.{Pair, blocks_of_pairs, gstate_of_pairs, is_hard_tail, pair_count_before_root}
-use Rattle.lfs_model.specs.Tree.{Path, Tree}
-use Rattle.lfs_model.specs.TreeEdits.{last_name_of_path, tree_after_rename}
 use Rattle.lfs_model.specs.Operations as ops
-use Rattle.lfs_model.specs.Session.{Session}
-use Rattle.lfs_model.specs.Refusals.{path_of_bytes_or_root}
-use Rattle.lfs_model.specs.Shown.{directories_in_thread, all_slots_not_moved, skip_list_blocks_of_struct, tree_on_disk, used_blocks}
-use Rattle.lfs_model.specs.View.{IsAcceptedImage}
-use Rattle.lfs_model.specs.Profile.{IsWritableImage}
-use Rattle.std.specs.List.{flat_map}
-use Rattle.lfs_model.proofs.Alike.{ArePairsWithSameAddressesAndSlots}
 use Rattle.lfs_model.proofs.LeftFiles.{ends_same}
-use Rattle.lfs_model.proofs.Changes.{IsImageAfterTreeChange, rearranged_chain}
-use Rattle.lfs_model.proofs.Committed.{IsImageAfterCompletedOperation}
-use Rattle.lfs_model.proofs.Counts.{occurrence_count_of_number, count_append, count_here, once_from_distinct}
-use Rattle.lfs_model.proofs.Histories.{IsTrueAfterAnyPowerLossSince-weaker}
-use Rattle.lfs_model.proofs.Moves.{remove_here}
-use Rattle.lfs_model.proofs.MoveSets.{addresses_of_first_pairs_of_directories, set_rearranged}
-use Rattle.lfs_model.proofs.Pairs.{pair_itself}
-use Rattle.lfs_model.proofs.RenamedAcross.{IsNoDirectory, target_slots}
-use Rattle.lfs_model.proofs.Sites.{IsTrueOfSomeElement, Site, among_left, among_parts, among_right, dirs_at, thread_at}
-use Rattle.lfs_model.proofs.Splices.{file_blocks_of_slots}
-use Rattle.lfs_model.proofs.StepsTaken.{IsWritableImageAfterTreeChange, taken_then}
-use Rattle.lfs_model.proofs.Superblocks.{IsChain, pairs_behind}
-use Rattle.lfs_model.proofs.TwoPlaces.{OldStays, from_old, two}
-use Rattle.lfs_model.proofs.Writable.{ends_in_hard_tail}
-use Rattle.lfs_thread.specs.Device.{PowerLossLeavesSuchBlocksAfterCleanErases}
-use Rattle.lfs_thread.specs.Kept.{KeptThread}
-use Rattle.lfs_thread.specs.Steps.{HasSameGeometry, empty_pair_at_anchor, thread_pair_at_index}
+use Rattle.lfs_model.proofs.StepsTaken.{taken_then}
 use Rattle.lfs_operations.specs.Changing.{IsLeftByStoppedChangeOrSplit, IsPairChangedOrSplit}
 use Rattle.lfs_operations.specs.Dropping.{ShowsTreeAfterPairDrops, HasSameBlocksInFlight}
 use Rattle.lfs_operations.specs.MoveEnds.{CanEndMoveAt, HasEndedMoveAt, blocks_dropped_at_move_end, content_after_move_ends, is_pair_named_by_hard_tail, gstate_naming_moved_slot, pairs_after_move_ends}

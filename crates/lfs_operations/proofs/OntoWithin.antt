@@ -1,53 +1,22 @@
 -- A rename onto an empty directory within a pair: where the directory's pair stands, and what the two steps come to.
-use Rattle.std.proofs.Common.{ℕ, ◌≡◌, ◌+◌, ◌-◌, true, false, slice_get, List, [], ◌∷◌, ◌++◌, length, Some, None, refl, sym, ap, subst, ◌∙◌, arith, append-nil, length-append}
+use Rattle.std.proofs.Common.{subst₂, ℕ, ◌≡◌, ◌-◌, true, slice_get, List, [], ◌∷◌, ◌++◌, length, Some, None, refl, sym, ap, subst, ◌∙◌, arith, append-nil, length-append}
 use Rattle.std.specs.Prelude.{All}
-use Rattle.std.proofs.lemmas.List.Elements.{recursion_from_All}
-use Rattle.lfs_model.specs.TreeEdits.{tree_after_rename, path_without_prefix}
-use Rattle.lfs_model.specs.BlockSets.{AreExactlyTheUsedBlocks}
-use Rattle.lfs_model.specs.Blocks.{Blocks}
-use Rattle.lfs_model.specs.Names.{Name}
+use Rattle.lfs_operations.proofs.Common.{recursion_from_All, tree_after_rename, path_without_prefix, AreExactlyTheUsedBlocks, Blocks, Name, HasTreeBeforeOrAfterOperation as IsLeftOf, disk_with_blocks, slot_of_path, pair_with_slots, Slot, gstate_xor, zero_gstate, same_pair, Pair, gstate_of_pairs, root_directory_address_of_pairs, pair_count_before_root, Path, directory_address_at_path, IsAcceptedImage, IsWritableImage, IsPathToDirectory, all_slots_not_moved, directories_in_thread, entries_by_directory_in_thread, tree_on_disk, used_blocks, ArePairsWithSameAddressesAndSlots, fits_same, IsImageAfterTreeChange, SameFiles, HasSameFileBlocksOfStructOnDisks, IsImageAfterCompletedOperation, no_move_from, occurrence_count_of_number, IsStep, entry_only, get_here, place_at, shown_before, shown_behind, site_shows, last_is, directory_addresses_after_rename, sibling_apart, IsReplaced, step_chain, is_site, same, site, slot_of_stands, thread_is, IsSite, Site, begin_of, dirs_at, thread_at, file_blocks_of_slots, IsWritableImageAfterTreeChange, IsChain, KeptThread, IsPairChanged, thread_pair_at_index, sync_bit_delta, HasNoMove, some_filled}
 use Rattle.lfs_model.specs.Operations as ops
-use Rattle.lfs_model.specs.PowerLoss.{HasTreeBeforeOrAfterOperation as IsLeftOf, disk_with_blocks}
-use Rattle.lfs_model.specs.SlotEdits.{slot_of_path, pair_with_slots}
-use Rattle.lfs_model.specs.Slots.{Slot, zero_gstate, same_pair}
-use Rattle.lfs_model.specs.Thread.{Pair, gstate_of_pairs, is_hard_tail, root_directory_address_of_pairs, pair_count_before_root}
-use Rattle.lfs_model.specs.Tree.{Path, directory_address_at_path}
-use Rattle.lfs_model.specs.View.{IsAcceptedImage}
-use Rattle.lfs_model.specs.Profile.{IsWritableImage}
-use Rattle.lfs_model.specs.Shown.{IsPathToDirectory, all_slots_not_moved, directories_in_thread, entries_by_directory_in_thread, tree_on_disk, used_blocks}
-use Rattle.lfs_model.proofs.Alike.{ArePairsWithSameAddressesAndSlots}
-use Rattle.lfs_model.proofs.Became.{fits_same}
-use Rattle.lfs_model.proofs.Changes.{IsImageAfterTreeChange, SameFiles}
-use Rattle.lfs_model.proofs.Files.{HasSameFileBlocksOfStructOnDisks}
-use Rattle.lfs_model.proofs.Committed.{IsImageAfterCompletedOperation, no_move_from}
-use Rattle.lfs_model.proofs.Counts.{occurrence_count_of_number}
-use Rattle.lfs_model.proofs.Moves.{IsStep, entry_only, get_here, place_at, shown_before, shown_behind, step_each}
-use Rattle.lfs_model.proofs.Indexes.{site_shows}
-use Rattle.lfs_model.proofs.Paths.{last_is}
-use Rattle.lfs_model.proofs.Renames.{directory_addresses_after_rename}
+use Rattle.lfs_model.proofs.Moves.{step_each}
 use Rattle.lfs_model.proofs.RenamedWithinOnto.{IsRenameWithinOnto, within_onto_completed}
-use Rattle.lfs_model.proofs.RenameSteps.{sibling_apart}
-use Rattle.lfs_model.proofs.Replacing.{IsReplaced}
-use Rattle.lfs_model.proofs.RmdirSteps.{step_chain}
-use Rattle.lfs_model.proofs.Searches.{is_site, same, site, slot_of_stands, thread_is}
-use Rattle.lfs_model.proofs.Sites.{IsSite, Site, begin_of, dirs_at, thread_at}
-use Rattle.lfs_model.proofs.Splices.{file_blocks_of_slots}
-use Rattle.lfs_model.proofs.StepsTaken.{IsWritableImageAfterTreeChange}
-use Rattle.lfs_model.proofs.Superblocks.{IsChain}
-use Rattle.lfs_thread.specs.Kept.{KeptThread}
-use Rattle.lfs_thread.specs.Steps.{IsPairChanged, IsPairWrittenOnDisk, empty_pair_at_anchor, thread_pair_at_index, thread_pairs_with_content_replaced_at_index}
 use Rattle.lfs_operations.specs.Dropping.{IsNextPairDropped, IsLeftByStoppedPairDrop, HasSameBlocksInFlight}
 use Rattle.lfs_operations.specs.Editing.{CanEditEntryOfPair}
 use Rattle.lfs_operations.specs.Renaming.{tree_with_renamed_entry}
 use Rattle.lfs_operations.specs.RenamingOver.{CanRenameOntoDirectoryInPair, CanReplaceDirectoryInPair, IsEntryRenamedOntoDirectory, replace_directory_in_pair_changes}
 use Rattle.lfs_operations.proofs.OntoGone.{replaced_by, replaced_drops}
 use Rattle.lfs_operations.proofs.Owning.{turned_count, used_same}
-use Rattle.lfs_operations.proofs.RenameOver.{HasOver, gstate_now, has_over, over_content, over_fits, pair_now, same_made, step, taken, target_held}
+use Rattle.lfs_operations.proofs.RenameOver.{HasOver, has_over, over_changed, over_fits, over_follows, target_held, turning}
+use Rattle.lfs_operations.proofs.MovTurned.{ChangedOne}
+use Rattle.lfs_operations.proofs.TurnedSync.{pair_turned, state_turned, step_turned, taken_turned}
 use Rattle.lfs_operations.proofs.RenamePlaced.{blocks_now, with_name}
-use Rattle.lfs_operations.proofs.RmdirPlaces.{HasFront, directory_led, get_some, has_front, number_of_first, shows_nothing, HasPlaceOver, place_over}
+use Rattle.lfs_operations.proofs.RmdirPlaces.{HasOwnPair, led_to, own_pair, HasFront, HasPlaceOver, place_over}
 use Rattle.lfs_operations.proofs.LastDrop.{IsAllButDropped, alike_end, left_last, shows_dropped, taken_end}
-use Rattle.lfs_model.proofs.Global.{HasNoMove}
-use Rattle.lfs_model.proofs.OneCommit.{some_filled}
 
 -- ---- the two steps
 
@@ -115,25 +84,12 @@ module _ (t : KeptThread) (index id place : ℕ) (name : Name) (gone : ℕ) (ren
   entry_there = ap (λ s. slice_get s (place_at w l2)) (site_shows t.disk w p l2 (target ∷ []) r2 can.at accepted site_is (no_move_from (thread_at w (p ∷ [])) settled) same_begin held
       ∙ ap (λ s. shown_before w l2 ++ (s ++ shown_behind w r2)) (entry_only target over.target.stands.entry)) ∙ get_here (shown_before w l2) (shown_behind w r2) target
 
-  led : IsPathToDirectory (thread_at w (p ∷ [])) (can.path ++ target.name ∷ []) over.to
-  led = directory_led t.disk (thread_at w (p ∷ [])) can.path can.at (place_at w l2) target over.to accepted leads entry_there over.branch
+  own : HasOwnPair t w.chain (dirs_at w (p ∷ [])) gone over.to
+  own = own_pair t can.ready w.chain (dirs_at w (p ∷ [])) there site_is.chain can.path name over.to gone
+      (led_to t can.ready can.path can.at can.leads can.first index place name over.target can.begins over.to over.branch) rename.below rename.at rename.empty rename.alone
 
-  front : HasFront (dirs_at w (p ∷ [])) over.to
-  front = has_front t.disk w.chain (dirs_at w (p ∷ [])) can.path target.name over.to accepted site_is.chain led
-
-  first_is : (gone ≡ length (w.chain ++ front.front) + 1) × (front.first ≡ o)
-  first_is = number_of_first t.disk w.chain (dirs_at w (p ∷ [])) over.to accepted front gone o
-      (subst (λ z. slice_get z gone ≡ Some o) there (get_some t.pairs gone empty_pair_at_anchor rename.below)) rename.at
-
-  alone_first : is_hard_tail front.first.content.tail ≡ false
-  alone_first = ap (λ (z : Pair). is_hard_tail z.content.tail) first_is.1 ∙ rename.alone
-
-  empty : entries_by_directory_in_thread (thread_at w (p ∷ [])) over.to ≡ []
-  empty = shows_nothing t.disk w.chain (dirs_at w (p ∷ [])) over.to accepted site_is.chain (no_move_from (thread_at w (p ∷ [])) settled) front alone_first
-      (ap (λ (z : Pair). z.content.slots) first_is.1 ∙ rename.empty)
-
-  dirs_are : dirs_at w (p ∷ []) ≡ front.front ++ front.before ∷ o ∷ (front.run ++ front.after)
-  dirs_are = front.is ∙ ap (λ z. front.front ++ front.before ∷ z ∷ (front.run ++ front.after)) first_is.1
+  abbrev front : HasFront (dirs_at w (p ∷ [])) over.to
+  front = own.front
 
   not_itself : p ≡ o → ⊥
   not_itself e = some_filled l2 r2 target (sym held ∙ ap (λ (z : Pair). z.content.slots) e ∙ rename.empty)
@@ -144,23 +100,20 @@ module _ (t : KeptThread) (index id place : ℕ) (name : Name) (gone : ℕ) (ren
   h = has_over t index id place name over
 
   abbrev q : Pair
-  q = record { at = p.at; content = over_content t index id place name over h.x h.y }
+  q = pair_turned (turning t index id place name over h)
 
-  written : IsPairWrittenOnDisk t index (over_content t index id place name over h.x h.y) m.disk
-  written = subst (λ z. IsPairWrittenOnDisk t index z m.disk) (same_made t index id place name over r.content r.made) r.written
-
-  pairs_now : m.pairs ≡ thread_at w (q ∷ [])
-  pairs_now = r.pairs ∙ ap (thread_pairs_with_content_replaced_at_index t index) (same_made t index id place name over r.content r.made) ∙ pair_now t index id place name over h
+  abbrev x : ChangedOne t index w p (h.x ++ with_name u name ∷ h.y) (gstate_xor p.content.move sync_bit_delta) m
+  x = over_changed t index id place name over h m r
 
   stepped : IsStep t.disk m.disk w p [] q [] [] [] h.l h.olds h.news h.r
-  stepped = step t index id place name over h m.disk written
+  stepped = step_turned (turning t index id place name over h) m.disk x.turned
 
   taken_now : IsWritableImageAfterTreeChange t.disk t.pairs m.disk m.pairs (tree_after_rename (can.path ++ can.name ∷ []) (can.path ++ name ∷ [])) (directory_addresses_after_rename (can.path ++ can.name ∷ []) (can.path ++ name ∷ []))
-  taken_now = subst (λ z. IsWritableImageAfterTreeChange t.disk t.pairs m.disk z (tree_after_rename from to) (directory_addresses_after_rename from to)) (sym pairs_now)
-      (subst (λ z. IsWritableImageAfterTreeChange t.disk z m.disk (thread_at w (q ∷ [])) (tree_after_rename from to) (directory_addresses_after_rename from to)) (sym there) (taken t index id place name over h m.disk written))
+  taken_now = subst₂ (λ y z. IsWritableImageAfterTreeChange t.disk y m.disk z (tree_after_rename from to) (directory_addresses_after_rename from to)) (sym there) (sym x.pairs)
+      (taken_turned (turning t index id place name over h) (tree_after_rename from to) (directory_addresses_after_rename from to) (over_follows t index id place name over h) m.disk x.turned)
 
   placed : HasPlaceOver w p q o over.to (length front.front)
-  placed = place_over w p q o over.to rename.at accepted.thread.distinct refl front.front front.before (front.run ++ front.after) dirs_are front.soft not_itself
+  placed = place_over w p q o over.to rename.at accepted.thread.distinct refl front.front front.before (front.run ++ front.after) own.dirs_are front.soft not_itself
 
   used_now : (b : ℕ) → occurrence_count_of_number b (used_blocks m.disk m.pairs) ≡ occurrence_count_of_number b (used_blocks t.disk t.pairs)
   used_now b =
@@ -174,19 +127,19 @@ module _ (t : KeptThread) (index id place : ℕ) (name : Name) (gone : ℕ) (ren
         was = h.placed.was;
         is = stepped.is;
       }) (λ b. let n = blocks_now t index (replace_directory_in_pair_changes t index id place name) w p h.l h.olds h.news h.r (target ∷ []) u (with_name u name) h.placed m.disk stepped.device.geometry files b in omega arith) b in
-      let f = ap (λ z. occurrence_count_of_number b (used_blocks m.disk z)) pairs_now in
+      let f = ap (λ z. occurrence_count_of_number b (used_blocks m.disk z)) x.pairs in
       let g = ap (λ z. occurrence_count_of_number b (used_blocks t.disk z)) there in
       let none : occurrence_count_of_number b (file_blocks_of_slots t.disk (target ∷ [])) ≡ 0 = ap (λ z. occurrence_count_of_number b (file_blocks_of_slots t.disk (record target { struct = z } ∷ []))) over.branch in
       omega arith
 
   thread_now : m.pairs ≡ w.chain ++ (placed.front ++ placed.x ∷ o ∷ placed.back)
-  thread_now = pairs_now ∙ ap (λ z. w.chain ++ z) placed.there
+  thread_now = x.pairs ∙ ap (λ z. w.chain ++ z) placed.there
 
   chain_now : IsChain w.chain (placed.front ++ placed.x ∷ o ∷ placed.back)
   chain_now = subst (IsChain w.chain) placed.there (step_chain t.disk m.disk w p [] q [] [] [] h.l h.olds h.news h.r stepped)
 
   no_move_now : HasNoMove (gstate_of_pairs m.pairs)
-  no_move_now = subst HasNoMove (sym (ap gstate_of_pairs pairs_now ∙ gstate_now t index id place name over h)) (record { kind = refl; id = refl; pair = refl })
+  no_move_now = subst HasNoMove (sym (ap gstate_of_pairs x.pairs ∙ state_turned (turning t index id place name over h))) (record { kind = refl; id = refl; pair = refl })
 
   pub replacing : IsAllButDropped t m o gone (tree_after_rename (can.path ++ can.name ∷ []) (can.path ++ name ∷ [])) (directory_addresses_after_rename (can.path ++ can.name ∷ []) (can.path ++ name ∷ []))
   replacing = record {
@@ -199,21 +152,21 @@ module _ (t : KeptThread) (index id place : ℕ) (name : Name) (gone : ℕ) (ren
     back = placed.back;
     there = thread_now;
     is_chain = chain_now;
-    number = (let a = length-append w.chain placed.front in let b = length-append w.chain front.front in let n = placed.number in let f = first_is.0 in omega arith);
+    number = (let a = length-append w.chain placed.front in let b = length-append w.chain front.front in let n = placed.number in let f = own.number in omega arith);
     soft = placed.soft;
     drops = replaced_drops t m from to over.to w.chain placed.front placed.x o placed.back can.ready taken_now no_move_now thread_now chain_now
         (subst (λ z. IsReplaced (directory_address_at_path (entries_by_directory_in_thread z) (root_directory_address_of_pairs z)) from to over.to) (sym there)
         (subst (λ (n : Name). IsReplaced (directory_address_at_path (entries_by_directory_in_thread (thread_at w (p ∷ []))) (root_directory_address_of_pairs (thread_at w (p ∷ [])))) from (can.path ++ n ∷ []) over.to) over.target.stands.named
-        (replaced_by t.disk (thread_at w (p ∷ [])) can.path can.at (place_at w l2) target over.to from accepted leads entry_there over.branch empty
+        (replaced_by t.disk (thread_at w (p ∷ [])) can.path can.at (place_at w l2) target over.to from accepted leads entry_there over.branch own.empty
         (ap (λ (n : Name). path_without_prefix from (can.path ++ n ∷ [])) over.target.stands.named ∙ apart))))
-        (λ Q k. subst (λ z. All (λ y. Q y.at) (directories_in_thread z)) (sym pairs_now)
+        (λ Q k. subst (λ z. All (λ y. Q y.at) (directories_in_thread z)) (sym x.pairs)
         (step_each t.disk m.disk w p [] q [] [] [] h.l h.olds h.news h.r stepped can.path can.at leads same_begin Q (subst (λ z. All (λ y. Q y.at) (directories_in_thread z)) there k)))
         rename.at rename.alone;
     empty = rename.empty;
     used = subst (λ s. AreExactlyTheUsedBlocks s (used_blocks m.disk m.pairs)) (sym r.map) (used_same t.map (used_blocks t.disk t.pairs) (used_blocks m.disk m.pairs) used_now can.ready.used);
     size = ap length r.map ∙ can.ready.size ∙ sym r.written.shape.count;
     flying = subst (HasSameBlocksInFlight t.map) (sym r.map) (λ b. ((λ k. k), (λ k. k)));
-    root = ap pair_count_before_root pairs_now ∙ step_chain t.disk m.disk w p [] q [] [] [] h.l h.olds h.news h.r stepped ∙ sym (ap pair_count_before_root there ∙ site_is.chain);
+    root = ap pair_count_before_root x.pairs ∙ step_chain t.disk m.disk w p [] q [] [] [] h.l h.olds h.news h.r stepped ∙ sym (ap pair_count_before_root there ∙ site_is.chain);
     shape = r.written.shape;
   }
 

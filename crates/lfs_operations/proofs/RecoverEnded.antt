@@ -1,17 +1,6 @@
 -- A recovery ends a set move: which pair the step is about, and what it comes to.
 use Rattle.std.proofs.Common.{ℕ, ◌≡◌, ◌≢◌, ◌≤◌, ◌<◌, ◌+◌, ◌-◌, ◌⊎◌, inl, inr, ◌&&◌, ◌==◌, Bool, true, false, List, [], ◌∷◌, ◌++◌, length, take, refl, sym, ap, ap₂, subst, ◌∙◌, arith, append_assoc, length-append, eqb-true, eq-eqb, nat_lt}
-use Rattle.std.proofs.lemmas.Bool.{and_parts, cases_lt, lt-ltb}
-use Rattle.std.proofs.lemmas.List.Elements.{recursion_from_All}
-use Rattle.lfs_model.specs.Shown.{used_blocks}
-use Rattle.lfs_model.specs.Thread.{Pair, gstate_of_pairs, is_hard_tail, pair_count_before_root}
-use Rattle.lfs_model.specs.View.{HasSuperblockIfAnySlot}
-use Rattle.lfs_model.proofs.Counts.{once_from_distinct}
-use Rattle.lfs_model.proofs.Global.{HasNoMove}
-use Rattle.lfs_model.proofs.Indexes.{HasSite, site_of_number}
-use Rattle.lfs_model.proofs.Pairs.{pair_back}
-use Rattle.lfs_model.proofs.Writable.{ends_in_hard_tail}
-use Rattle.lfs_thread.specs.Kept.{KeptThread}
-use Rattle.lfs_thread.specs.Steps.{thread_pair_at_index}
+use Rattle.lfs_operations.proofs.Common.{and_parts, cases_lt, lt-ltb, recursion_from_All, used_blocks, Pair, gstate_of_pairs, is_hard_tail, pair_count_before_root, HasSuperblockIfAnySlot, once_from_distinct, HasNoMove, HasSite, site_of_number, pair_back, ends_in_hard_tail, KeptThread, thread_pair_at_index}
 use Rattle.lfs_operations.specs.Deltas.{has_hard_tail_at}
 use Rattle.lfs_operations.specs.EndingMove.{CanEndMove, HasEndedMove, HasMovedSlotInPair, has_one_slot_after_hard_tail}
 use Rattle.lfs_operations.specs.MoveEnds.{CanEndMoveAt, HasEndedMoveAt, is_pair_named_by_hard_tail, pair_written_at_move_end}

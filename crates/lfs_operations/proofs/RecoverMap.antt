@@ -1,17 +1,6 @@
 -- Which blocks the map has on the way: those of the image, and those of lists that only pairs had that are gone.
 use Rattle.std.proofs.Common.{ℕ, ◌-◌, ◌≡◌, ◌+◌, ◌≤◌, List, [], ◌∷◌, ◌++◌, length, refl, sym, ap, ap₂, subst, ◌∙◌, arith}
-use Rattle.lfs_model.specs.BlockSets.{AreExactlyTheUsedBlocks}
-use Rattle.lfs_model.specs.Disk.{SameGeometry, block_count}
-use Rattle.lfs_model.specs.Slots.{Gstate}
-use Rattle.lfs_model.specs.Thread.{Pair, blocks_of_pairs, blocks_of_pair_address, gstate_of_pairs}
-use Rattle.lfs_model.specs.Shown.{all_slots_not_moved, used_blocks}
-use Rattle.lfs_model.proofs.Alike.{ArePairsWithSameAddressesAndSlots}
-use Rattle.lfs_model.proofs.Changes.{SameFiles, slots_files}
-use Rattle.lfs_model.proofs.Counts.{occurrence_count_of_number, count_append}
-use Rattle.lfs_model.proofs.Global.{HasNoMove}
-use Rattle.lfs_model.proofs.Sites.{Site}
-use Rattle.lfs_model.proofs.Splices.{file_blocks_of_slots, slots_of_pairs_in_order, unmoved_in}
-use Rattle.lfs_thread.specs.Kept.{KeptThread}
+use Rattle.lfs_operations.proofs.Common.{AreExactlyTheUsedBlocks, SameGeometry, block_count, Gstate, Pair, blocks_of_pairs, blocks_of_pair_address, gstate_of_pairs, all_slots_not_moved, used_blocks, ArePairsWithSameAddressesAndSlots, SameFiles, slots_files, occurrence_count_of_number, count_append, HasNoMove, Site, file_blocks_of_slots, slots_of_pairs_in_order, unmoved_in, KeptThread}
 use Rattle.lfs_operations.specs.Dropping.{HasSameBlocksInFlight, IsNextPairDropped}
 use Rattle.lfs_operations.proofs.Dropped.{HasMapWithout, IsToBeDropped, map_left, map_without, used_left}
 pub use Rattle.lfs_operations.proofs.Owning.{count_used}

@@ -1,27 +1,9 @@
 -- The steps of a recovery, on the disk that they write and on those that a stop leaves.
 use Rattle.std.proofs.Common.{ℕ, ◌≡◌, ◌<◌, ◌≤◌, ◌+◌, ◌-◌, ◌⊎◌, inl, inr, true, false, List, [], ◌∷◌, ◌++◌, length, Some, refl, sym, ap, subst, ◌∙◌, arith, length-append}
-use Rattle.std.proofs.lemmas.Option.{same_Some}
-use Rattle.lfs_model.specs.Blocks.{Blocks}
-use Rattle.lfs_model.specs.Disk.{Disk}
-use Rattle.lfs_model.specs.PowerLoss.{HasTreeBeforeOrAfterOperation as IsLeftOf, disk_with_blocks}
-use Rattle.lfs_model.specs.Slots.{IsContentFittingPair, Gstate, gstate_xor, zero_gstate, same_pair}
-use Rattle.lfs_model.specs.Thread.{Pair, gstate_of_pairs, is_hard_tail, pair_count_before_root}
-use Rattle.lfs_model.specs.Tree.{Path}
-use Rattle.lfs_model.specs.View.{IsAcceptedImage}
-use Rattle.lfs_model.specs.Profile.{IsWritableImage}
-use Rattle.lfs_model.specs.Shown.{IsPathToDirectory, tree_on_disk}
-use Rattle.lfs_model.proofs.Alike.{ArePairsWithSameAddressesAndSlots, alike_append, alike_itself}
-use Rattle.lfs_model.proofs.Global.{HasNoMove, gstate_assoc, gstate_cons, gstate_right, gstate_self}
-use Rattle.lfs_model.proofs.Indexes.{HasSite, site_of_number}
-use Rattle.lfs_model.proofs.Moves.{AllReached, AllReachedBut, IsStep}
-use Rattle.lfs_model.proofs.Profiles.{step_writable}
-use Rattle.lfs_model.proofs.Rests.{site_gstate_moved, slots_stay}
-use Rattle.lfs_model.proofs.Sites.{Site, thread_at}
-use Rattle.lfs_model.proofs.Splices.{IsDevice, stays_shape}
-use Rattle.lfs_model.proofs.StepsTaken.{IsWritableImageAfterTreeChange, taken_before, within_at, within_same}
-use Rattle.lfs_model.proofs.Unthreaded.{IsReady, IsUnthreaded, Unthreads, unthread}
-use Rattle.lfs_thread.specs.Kept.{KeptThread}
-use Rattle.lfs_thread.specs.Steps.{PowerLossLeavesPairOldOrChanged, IsPairWrittenOnDisk, complete_content_after_changes, thread_pair_at_index, thread_pairs_with_content_replaced_at_index}
+use Rattle.lfs_operations.proofs.Common.{same_Some, Blocks, Disk, HasTreeBeforeOrAfterOperation as IsLeftOf, disk_with_blocks, IsContentFittingPair, Gstate, gstate_xor, zero_gstate, same_pair, Pair, gstate_of_pairs, is_hard_tail, pair_count_before_root, Path, IsAcceptedImage, IsWritableImage, IsPathToDirectory, tree_on_disk, ArePairsWithSameAddressesAndSlots, alike_append, alike_itself, HasNoMove, gstate_assoc, gstate_cons, gstate_right, gstate_self, HasSite, site_of_number, AllReached, AllReachedBut, IsStep, step_writable, site_gstate_moved, Site, thread_at, IsDevice, stays_shape, IsWritableImageAfterTreeChange, taken_before, within_at, IsReady, IsUnthreaded, KeptThread, PowerLossLeavesPairOldOrChanged, IsPairWrittenOnDisk, complete_content_after_changes, thread_pair_at_index, thread_pairs_with_content_replaced_at_index}
+use Rattle.lfs_model.proofs.Rests.{slots_stay}
+use Rattle.lfs_model.proofs.StepsTaken.{within_same}
+use Rattle.lfs_model.proofs.Unthreaded.{Unthreads, unthread}
 use Rattle.lfs_operations.specs.Deltas.{gstate_setting_changes, delta_reaching_gstate, content_reaching_gstate}
 use Rattle.lfs_operations.proofs.Threads.{one_now, pair_is, placed_one}
 use Rattle.lfs_operations.proofs.Placing.{device, left_still, left_after}

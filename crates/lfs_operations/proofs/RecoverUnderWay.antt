@@ -1,32 +1,9 @@
 -- How far a recovery is, from its beginning to its end.
 use Rattle.std.proofs.Common.{ℕ, suc, zero, ◌≡◌, ◌≢◌, ◌+◌, ◌-◌, ◌<◌, ◌≤◌, ◌⊎◌, inl, inr, true, false, cond, nat_eq, eq-eqb, List, [], ◌∷◌, ◌++◌, length, take, drop, Option, Some, None, refl, sym, ap, ap₂, subst, ◌∙◌, arith, append_assoc, length-append, slice_get}
 use Rattle.std.specs.Prelude.{is_some, slice_index_or}
-use Rattle.std.proofs.lemmas.Bool.{ne_eqb}
-use Rattle.lfs_model.specs.Blocks.{Blocks}
-use Rattle.lfs_model.specs.Disk.{Disk}
-use Rattle.lfs_model.specs.Layout.{directory_address_of_pair, directory_address_continued_by_hard_tail}
-use Rattle.lfs_model.specs.History.{IsTrueOfEachCallSince}
-use Rattle.lfs_model.specs.PowerLoss.{HasTreeBeforeOrAfterOperation as IsLeftOf, SurvivesPowerLossInCallsSince, disk_with_blocks}
-use Rattle.lfs_model.specs.Slots.{Gstate, zero_gstate, same_pair}
-use Rattle.lfs_model.specs.Thread.{Pair, blocks_of_pairs, pairs_from_root_directory_on, first_pair_address, gstate_of_pairs, pair_count_before_root, blocks_of_pair_address}
-use Rattle.lfs_model.specs.View.{IsAcceptedImage}
-use Rattle.lfs_model.specs.Shown.{IsDirectoryAddressReachedBySomePath, tree_on_disk, used_blocks}
-use Rattle.lfs_model.specs.Profile.{IsWritableImage}
-use Rattle.lfs_model.proofs.AfterStops.{survives_then}
-use Rattle.lfs_model.proofs.Counts.{occurrence_count_of_number, count_append, once_from_distinct}
-use Rattle.lfs_model.proofs.Found.{HasDirectory, chain_of_thread, led_directory}
-use Rattle.lfs_model.proofs.Global.{HasNoMove}
-use Rattle.lfs_model.proofs.Histories.{IsTrueOfEachCallSince-weaker, IsTrueAfterAnyPowerLossSince-weaker, goes_on_by}
-use Rattle.lfs_model.proofs.Layouts.{joined_singles, onward_all}
-use Rattle.lfs_model.proofs.Listings.{Ends}
-use Rattle.lfs_model.proofs.Pairs.{pair_back, pair_itself, pair_on}
+use Rattle.lfs_operations.proofs.Common.{ne_eqb, Blocks, Disk, directory_address_of_pair, directory_address_continued_by_hard_tail, IsTrueOfEachCallSince, HasTreeBeforeOrAfterOperation as IsLeftOf, SurvivesPowerLossInCallsSince, disk_with_blocks, Gstate, zero_gstate, same_pair, Pair, blocks_of_pairs, pairs_from_root_directory_on, first_pair_address, gstate_of_pairs, pair_count_before_root, blocks_of_pair_address, IsAcceptedImage, IsDirectoryAddressReachedBySomePath, tree_on_disk, used_blocks, IsWritableImage, survives_then, occurrence_count_of_number, count_append, once_from_distinct, HasDirectory, chain_of_thread, led_directory, HasNoMove, IsTrueAfterAnyPowerLossSince-weaker, joined_singles, onward_all, Ends, pair_back, pair_itself, pair_on, same_number, file_blocks_of_slots, slots_of_pairs_in_order, IsReady, IsUnthreaded, same_parts, PowerLossLeavesSuchBlocksAfterCleanErases, KeptThread, HasSameGeometry, ThreadChangesOnlyTheseBlocks, empty_pair_at_anchor, thread_pair_at_index}
+use Rattle.lfs_model.proofs.Histories.{IsTrueOfEachCallSince-weaker, goes_on_by}
 use Rattle.lfs_model.proofs.Recovering.{recovery_begins}
-use Rattle.lfs_model.proofs.Searches.{same_number}
-use Rattle.lfs_model.proofs.Splices.{file_blocks_of_slots, slots_of_pairs_in_order}
-use Rattle.lfs_model.proofs.Unthreaded.{IsReady, IsUnthreaded, same_parts}
-use Rattle.lfs_thread.specs.Device.{PowerLossLeavesSuchBlocksAfterCleanErases}
-use Rattle.lfs_thread.specs.Kept.{KeptThread}
-use Rattle.lfs_thread.specs.Steps.{HasSameGeometry, ThreadChangesOnlyTheseBlocks, empty_pair_at_anchor, thread_pair_at_index}
 use Rattle.lfs_operations.specs.Recovering.{AreUnreachedPairNumbers, AreUnreachedPairNumbersFrom, CanDropUnreachedPairs, list_blocks_of_numbered_pairs, gstate_zero_after_last_unreached_pair_drop}
 use Rattle.lfs_operations.specs.Dropping.{HasSameBlocksInFlight, CanDropPairAt, IsLeftByStoppedPairDrop, IsNextPairDropped, content_after_next_pair_drop}
 use Rattle.lfs_operations.proofs.RecoverLists.{lists_kept, lists_more, numbered}

@@ -4,40 +4,9 @@ use Rattle.std.specs.Prelude.{IfErr, is_err}
 use Rattle.lfs_device.specs.declared.error.Error.{Error}
 use Rattle.lfs_device.specs.declared.error.Error.TheVariants.{Io, NoMemory}
 use Rattle.std.specs.Option.{option_and_then}
-use Rattle.std.proofs.lemmas.Bool.{eqb-false}
-use Rattle.std.proofs.lemmas.Option.{same_Some}
-use Rattle.std.proofs.lemmas.List.Sums.{sum_by-append, sum_by-cons}
-use Rattle.lfs_model.specs.TreeEdits.{tree_after_removal}
-use Rattle.lfs_model.specs.BlockSets.BlockState.{Free, InFlight}
-use Rattle.lfs_model.specs.Changes.{Delete, raw_pair_content_after_changes}
-use Rattle.lfs_model.specs.Content.{RawPairContent, pair_content_if_slots_complete, raw_content_of_pair_at}
-use Rattle.lfs_model.specs.Disk.{Disk}
-use Rattle.lfs_model.specs.History.{DeviceCallEvent}
+use Rattle.lfs_operations.proofs.Common.{eqb-false, same_Some, sum_by-append, sum_by-cons, tree_after_removal, Free, InFlight, Delete, raw_pair_content_after_changes, RawPairContent, pair_content_if_slots_complete, raw_content_of_pair_at, Disk, DeviceCallEvent, SurvivesPowerLossInCallsSince, PairContent, IsContentFittingPair, Slot, same_pair, slot_size, Pair, blocks_of_pairs, first_pair_address, pair_address_named_by_tail, Tree, IsPathToDirectory, skip_list_blocks_of_struct, tree_on_disk, Name, IsImageAfterTreeChange, IsImageAfterCompletedOperation, commit_step, recovered_from, complete_length, complete_remove, completed_from, completed_parts, count_append, deletes, does_first, does_nothing, IsTrueAfterAnyPowerLossSince-weaker, Ends, file_goes, remove_here, is_site, number_is, same, same_number, site, thread_is, pair_back, pair_on, IsPairAtAddress, IsDistinct, Site, begin_of, thread_at, ends_in_hard_tail, PowerLossLeavesSuchBlocksAfterCleanErases, KeptThread, ThreadView, CanChangePair, IoMeantFaultNoMemoryWroteNothing, IsPairChanged, PowerLossLeavesPairOldOrChanged, IsCommitRefused, complete_content_after_changes, thread_pair_at_index}
 use Rattle.lfs_model.specs.Operations as ops
-use Rattle.lfs_model.specs.PowerLoss.{SurvivesPowerLossInCallsSince}
-use Rattle.lfs_model.specs.Slots.{PairContent, IsContentFittingPair, Slot, same_pair, slot_size}
-use Rattle.lfs_model.specs.Thread.{Pair, blocks_of_pairs, first_pair_address, pair_address_named_by_tail}
-use Rattle.lfs_model.specs.Tree.{Tree}
-use Rattle.lfs_model.specs.Shown.{IsPathToDirectory, skip_list_blocks_of_struct, tree_on_disk}
-use Rattle.lfs_model.specs.Names.{Name}
-use Rattle.lfs_model.proofs.Changes.{IsImageAfterTreeChange}
-use Rattle.lfs_model.proofs.Committed.{IsImageAfterCompletedOperation, commit_step, recovered_from}
-use Rattle.lfs_model.proofs.Completed.{complete_length, complete_remove, completed_from, completed_parts}
-use Rattle.lfs_model.proofs.Counts.{count_append}
-use Rattle.lfs_model.proofs.Effects.{deletes, does_first, does_nothing}
-use Rattle.lfs_model.proofs.Histories.{IsTrueAfterAnyPowerLossSince-weaker}
-use Rattle.lfs_model.proofs.Listings.{Ends}
-use Rattle.lfs_model.proofs.Moves.{file_goes, remove_here}
 use Rattle.lfs_model.proofs.OneCommit.{remove_completed}
-use Rattle.lfs_model.proofs.Searches.{is_site, number_is, same, same_number, site, thread_is}
-use Rattle.lfs_model.proofs.Pairs.{pair_back, pair_on}
-use Rattle.lfs_model.specs.InDirectory.{IsPairAtAddress}
-use Rattle.std.specs.List.{IsDistinct}
-use Rattle.lfs_model.proofs.Sites.{Site, begin_of, thread_at}
-use Rattle.lfs_model.proofs.Writable.{ends_in_hard_tail}
-use Rattle.lfs_thread.specs.Device.{PowerLossLeavesSuchBlocksAfterCleanErases}
-use Rattle.lfs_thread.specs.Kept.{KeptThread, ThreadView}
-use Rattle.lfs_thread.specs.Steps.{CanChangePair, IoMeantFaultNoMemoryWroteNothing, IsPairChanged, PowerLossLeavesPairOldOrChanged, IsCommitRefused, complete_content_after_changes, thread_pair_at_index}
 use Rattle.lfs_operations.specs.Editing.{CanEditEntryOfPair, slot_of_editable_entry}
 use Rattle.lfs_operations.specs.Dropping.{ShowsTreeAfterPairDrops}
 use Rattle.lfs_operations.specs.Ready.{ShowsTreeReadyOnceMapIsUpdated}

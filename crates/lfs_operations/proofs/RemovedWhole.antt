@@ -1,37 +1,8 @@
 -- A file that goes with its pair, which held nothing else and isn't the first of its directory, as a step of the thread.
 use Rattle.std.proofs.Common.{◌<◌, ℕ, ◌≡◌, ◌≢◌, inl, inr, ◌+◌, ◌-◌, ◌≤◌, ◌&&◌, not, Bool, true, false, nat_eq, eqb-true, slice_get, List, [], ◌∷◌, ◌++◌, length, Option, Some, None, refl, sym, ap, subst, ◌∙◌, arith, append_assoc, length-append}
-use Rattle.std.specs.List.{IsDistinct}
-use Rattle.std.proofs.lemmas.Bool.{eqb-false}
-use Rattle.lfs_model.specs.TreeEdits.{tree_after_removal}
-use Rattle.lfs_model.specs.Blocks.{Blocks}
-use Rattle.lfs_model.specs.Disk.{Disk}
-use Rattle.lfs_model.specs.History.{DeviceCallEvent}
-use Rattle.lfs_model.specs.InDirectory.{IsPairAtAddress}
+use Rattle.lfs_operations.proofs.Common.{IsDistinct, eqb-false, tree_after_removal, Blocks, Disk, DeviceCallEvent, IsPairAtAddress, HasTreeBeforeOrAfterOperation as IsLeftOf, SurvivesPowerLossInCallsSince, disk_with_blocks, PairContent, Slot, Tail, zero_gstate, same_pair, Pair, blocks_of_pairs, first_pair_address, gstate_of_pairs, is_hard_tail, pair_count_before_root, Tree, branch_address_of_struct, IsAcceptedImage, IsWritableImage, IsPathToDirectory, skip_list_blocks_of_struct, tree_on_disk, used_blocks, IsImageAfterTreeChange, IsImageAfterCompletedOperation, no_move_from, recovered_from, occurrence_count_of_number, count_append, once_from_distinct, HasNoMove, IsTrueAfterAnyPowerLossSince-weaker, IsRun, file_goes, is_site, number_is, same, same_number, site, thread_is, pair_back, pair_on, IsSite, Site, begin_of, dirs_at, thread_at, file_blocks_of_slots, IsChain, ends_in_hard_tail, PowerLossLeavesSuchBlocksAfterCleanErases, KeptThread, IsPairWrittenOnDisk, thread_pair_at_index}
 use Rattle.lfs_model.specs.Operations as ops
-use Rattle.lfs_model.specs.PowerLoss.{HasTreeBeforeOrAfterOperation as IsLeftOf, SurvivesPowerLossInCallsSince, disk_with_blocks}
-use Rattle.lfs_model.specs.Slots.{PairContent, Slot, Tail, zero_gstate, same_pair}
-use Rattle.lfs_model.specs.Thread.{Pair, blocks_of_pairs, first_pair_address, gstate_of_pairs, is_hard_tail, pair_count_before_root}
-use Rattle.lfs_model.specs.Tree.{Tree, branch_address_of_struct}
-use Rattle.lfs_model.specs.View.{IsAcceptedImage}
-use Rattle.lfs_model.specs.Profile.{IsWritableImage}
-use Rattle.lfs_model.specs.Shown.{IsPathToDirectory, skip_list_blocks_of_struct, tree_on_disk, used_blocks}
-use Rattle.lfs_model.proofs.Changes.{IsImageAfterTreeChange}
-use Rattle.lfs_model.proofs.Committed.{IsImageAfterCompletedOperation, no_move_from, recovered_from}
-use Rattle.lfs_model.proofs.Counts.{occurrence_count_of_number, count_append, once_from_distinct}
 use Rattle.lfs_model.proofs.Dropped.{IsDrop, drop_completed, drop_step, drop_writable}
-use Rattle.lfs_model.proofs.Global.{HasNoMove}
-use Rattle.lfs_model.proofs.Histories.{IsTrueAfterAnyPowerLossSince-weaker}
-use Rattle.lfs_model.proofs.Listings.{IsRun}
-use Rattle.lfs_model.proofs.Moves.{file_goes}
-use Rattle.lfs_model.proofs.Searches.{is_site, number_is, same, same_number, site, thread_is}
-use Rattle.lfs_model.proofs.Pairs.{pair_back, pair_on}
-use Rattle.lfs_model.proofs.Sites.{IsSite, Site, begin_of, dirs_at, thread_at}
-use Rattle.lfs_model.proofs.Splices.{file_blocks_of_slots}
-use Rattle.lfs_model.proofs.Superblocks.{IsChain}
-use Rattle.lfs_model.proofs.Writable.{ends_in_hard_tail}
-use Rattle.lfs_thread.specs.Device.{PowerLossLeavesSuchBlocksAfterCleanErases}
-use Rattle.lfs_thread.specs.Kept.{KeptThread}
-use Rattle.lfs_thread.specs.Steps.{IsPairWrittenOnDisk, thread_pair_at_index}
 use Rattle.lfs_operations.specs.Dropping.{CanDropPairAt, IsNextPairDropped, ShowsTreeAfterPairDrops, IsLeftByStoppedPairDrop, tail_over_dropped_pair, content_after_next_pair_drop}
 use Rattle.lfs_operations.specs.Editing.{CanEditEntryOfPair, slot_of_editable_entry}
 use Rattle.lfs_operations.specs.Removing.{IsFileRemoved, is_pair_dropped_with_slot, tree_without_named_entry}

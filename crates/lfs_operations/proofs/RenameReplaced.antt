@@ -1,28 +1,7 @@
 -- A rename within one pair onto a file.
 use Rattle.std.proofs.Common.{ℕ, ◌≡◌, ◌≤◌, ◌+◌, ◌⊎◌, inl, inr, true, List, [], ◌∷◌, ◌++◌, refl, sym, ap, subst, ◌∙◌, append_assoc, append-nil}
-use Rattle.lfs_model.specs.TreeEdits.{tree_after_rename}
-use Rattle.lfs_model.specs.Changes.{Delete}
-use Rattle.lfs_model.specs.Content.{raw_content_of_pair_at}
-use Rattle.lfs_model.specs.Disk.{Disk}
-use Rattle.lfs_model.specs.History.{DeviceCallEvent}
-use Rattle.lfs_model.specs.InDirectory.{HasEntryOfNameAtId}
-use Rattle.lfs_model.specs.Names.{Name, is_valid_name}
-use Rattle.lfs_model.specs.PowerLoss.{SurvivesPowerLossInCallsSince}
-use Rattle.lfs_model.specs.Slots.{IsContentFittingPair, Slot, same_pair}
-use Rattle.lfs_model.specs.Thread.{Pair, blocks_of_pairs}
-use Rattle.lfs_model.specs.View.{IsFileOrDirectoryEntry}
-use Rattle.lfs_model.specs.Shown.{IsPathToDirectory, skip_list_blocks_of_struct, tree_on_disk, used_blocks}
-use Rattle.lfs_model.proofs.Changes.{IsImageAfterTreeChange}
-use Rattle.lfs_model.proofs.Committed.{IsCommit, commit_step, recovered_from}
-use Rattle.lfs_model.proofs.Counts.{occurrence_count_of_number}
-use Rattle.lfs_model.proofs.OneCommit.{some_filled}
+use Rattle.lfs_operations.proofs.Common.{tree_after_rename, Delete, raw_content_of_pair_at, Disk, DeviceCallEvent, HasEntryOfNameAtId, Name, is_valid_name, SurvivesPowerLossInCallsSince, IsContentFittingPair, Slot, same_pair, Pair, blocks_of_pairs, IsFileOrDirectoryEntry, IsPathToDirectory, skip_list_blocks_of_struct, tree_on_disk, used_blocks, IsImageAfterTreeChange, IsCommit, commit_step, recovered_from, occurrence_count_of_number, some_filled, directory_addresses_after_rename, is_site, number_is, site, Site, begin_of, thread_at, PowerLossLeavesSuchBlocksAfterCleanErases, KeptThread, thread_pair_at_index}
 use Rattle.lfs_model.proofs.RenameOntoFile.{onto_file_ahead_completed, onto_file_behind_completed}
-use Rattle.lfs_model.proofs.Renames.{directory_addresses_after_rename}
-use Rattle.lfs_model.proofs.Searches.{is_site, number_is, site}
-use Rattle.lfs_model.proofs.Sites.{Site, begin_of, thread_at}
-use Rattle.lfs_thread.specs.Device.{PowerLossLeavesSuchBlocksAfterCleanErases}
-use Rattle.lfs_thread.specs.Kept.{KeptThread}
-use Rattle.lfs_thread.specs.Steps.{thread_pair_at_index}
 use Rattle.lfs_operations.specs.Changing.{CanChangeOrSplitPair, IsLeftByStoppedChangeOrSplit, IsPairChangedOrSplit}
 use Rattle.lfs_operations.specs.Editing.{CanEditEntryOfPair}
 use Rattle.lfs_operations.specs.Ready.{ShowsTreeReadyOnceMapIsUpdated}

@@ -1,18 +1,7 @@
 -- An entry that takes the name of another one of its pair and directory: where both stand, and the slots that are left without them.
 use Rattle.std.proofs.Common.{ℕ, ◌≡◌, true, List, [], ◌∷◌, ◌++◌, length, Some, sym, ap, subst, ◌∙◌, arith, append_assoc, length-append, refl}
 use Rattle.std.specs.Prelude.{◌≢◌}
-use Rattle.lfs_model.specs.Changes.{Delete}
-use Rattle.lfs_model.specs.Content.{RawPairContent, slots_if_names_and_structs_present}
-use Rattle.lfs_model.specs.InDirectory.{IsPlaceOfNameInDirectory, HasEntryOfNameAtId}
-use Rattle.lfs_model.specs.Names.{Name, is_valid_name}
-use Rattle.lfs_model.specs.Slots.{IsContentFittingPair, Slot, same_pair}
-use Rattle.lfs_model.specs.Thread.{Pair}
-use Rattle.lfs_model.specs.View.{IsFileOrDirectoryEntry}
-use Rattle.lfs_model.specs.Shown.{IsPathToDirectory}
-use Rattle.lfs_model.proofs.Counts.{Each, each_right}
-use Rattle.lfs_model.proofs.Searches.{same, site, thread_is}
-use Rattle.lfs_model.proofs.Sites.{Site, begin_of, thread_at}
-use Rattle.lfs_thread.specs.Kept.{KeptThread}
+use Rattle.lfs_operations.proofs.Common.{Delete, RawPairContent, slots_if_names_and_structs_present, IsPlaceOfNameInDirectory, HasEntryOfNameAtId, Name, is_valid_name, IsContentFittingPair, Slot, same_pair, Pair, IsFileOrDirectoryEntry, IsPathToDirectory, Each, each_right, same, site, thread_is, Site, begin_of, thread_at, KeptThread}
 use Rattle.lfs_operations.specs.Editing.{CanEditEntryOfPair}
 use Rattle.lfs_operations.specs.Renaming.{id_after_slot_removal}
 use Rattle.lfs_operations.specs.RenamingSlots.{HasSlotOfId}

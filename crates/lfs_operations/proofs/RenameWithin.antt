@@ -1,29 +1,7 @@
 -- A rename within one pair to a name that is new.
 use Rattle.std.proofs.Common.{ℕ, ◌≡◌, ◌⊎◌, inl, inr, ◌-◌, ◌<◌, ◌≤◌, true, cond, List, [], ◌∷◌, ◌++◌, length, Some, refl, sym, ap, subst, ◌∙◌, arith, append_assoc, append-nil, length-append}
-use Rattle.std.proofs.lemmas.Bool.{le-ltb, lt-ltb}
-use Rattle.lfs_model.specs.TreeEdits.{tree_after_rename}
-use Rattle.lfs_model.specs.Changes.{Delete}
-use Rattle.lfs_model.specs.Content.{raw_content_of_pair_at}
-use Rattle.lfs_model.specs.History.{DeviceCallEvent}
-use Rattle.lfs_model.specs.InDirectory.{IsPlaceWhereNameBelongs, HasEntryOfNameAtId}
-use Rattle.lfs_model.specs.Names.{Name}
-use Rattle.lfs_model.specs.PowerLoss.{SurvivesPowerLossInCallsSince}
-use Rattle.lfs_model.specs.Slots.{IsContentFittingPair, Slot, same_pair}
-use Rattle.lfs_model.specs.Thread.{Pair, starts_with_superblock}
-use Rattle.lfs_model.specs.View.{IsFileOrDirectoryEntry}
-use Rattle.lfs_model.specs.Shown.{IsPathToDirectory, entries_by_directory_in_thread, tree_on_disk}
-use Rattle.lfs_model.proofs.Changes.{IsImageAfterTreeChange}
-use Rattle.lfs_model.proofs.Committed.{no_move_from}
-use Rattle.lfs_model.proofs.Moves.{place_at}
-use Rattle.lfs_model.proofs.Names.{IsPlace}
-use Rattle.lfs_model.proofs.OneCommit.{some_filled}
+use Rattle.lfs_operations.proofs.Common.{le-ltb, lt-ltb, tree_after_rename, Delete, raw_content_of_pair_at, DeviceCallEvent, IsPlaceWhereNameBelongs, HasEntryOfNameAtId, Name, SurvivesPowerLossInCallsSince, IsContentFittingPair, Slot, same_pair, Pair, starts_with_superblock, IsFileOrDirectoryEntry, IsPathToDirectory, entries_by_directory_in_thread, tree_on_disk, IsImageAfterTreeChange, no_move_from, place_at, IsPlace, some_filled, directory_addresses_after_rename, is_site, number_is, place_of_belongs, same, site, thread_is, Site, begin_of, thread_at, PowerLossLeavesSuchBlocksAfterCleanErases, KeptThread, thread_pair_at_index}
 use Rattle.lfs_model.proofs.RenameSteps.{ahead_follows, behind_follows, renamed_ahead_completed, renamed_behind_completed}
-use Rattle.lfs_model.proofs.Renames.{directory_addresses_after_rename}
-use Rattle.lfs_model.proofs.Searches.{is_site, number_is, place_of_belongs, same, site, thread_is}
-use Rattle.lfs_model.proofs.Sites.{Site, begin_of, thread_at}
-use Rattle.lfs_thread.specs.Device.{PowerLossLeavesSuchBlocksAfterCleanErases}
-use Rattle.lfs_thread.specs.Kept.{KeptThread}
-use Rattle.lfs_thread.specs.Steps.{thread_pair_at_index}
 use Rattle.lfs_operations.specs.Changing.{CanChangeOrSplitPair, IsLeftByStoppedChangeOrSplit, IsPairChangedOrSplit}
 use Rattle.lfs_operations.specs.Editing.{CanEditEntryOfPair}
 use Rattle.lfs_operations.specs.Renaming.{CanRenameWithinPair, IsEntryRenamedInPair, id_after_slot_removal, rename_within_pair_changes, tree_with_renamed_entry}

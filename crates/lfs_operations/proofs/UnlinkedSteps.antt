@@ -1,25 +1,14 @@
 -- Two steps of the thread, one after the other: what they write and tell, and what a stop in them leaves.
 use Rattle.std.proofs.Common.{◌⊎◌, ℕ, zero, suc, ◌≡◌, ◌≢◌, ◌-◌, ◌<◌, Result, Ok, List, [], ◌∷◌, get_or, set, refl, sym, ap, subst, ◌∙◌, true, false, cond, inl, inr}
 use Rattle.std.specs.Prelude.{All}
-use Rattle.std.proofs.lemmas.List.Elements.{All-from_recursion, recursion_from_All}
+use Rattle.lfs_operations.proofs.Common.{All-from_recursion, recursion_from_All, DeviceCallEvent, fault_count_of_history, SurvivesPowerLossInCallsSince, PairContent, zero_gstate, Pair, blocks_of_pair_address, blocks_of_two_pair_addresses, tree_on_disk, IsTrueOfEachCallSince-behind, IsTrueOfEachCallSince-until, IsTrueAfterAnyPowerLossSince-trans, IsTrueAfterAnyPowerLossSince-weaker, AreBytesStillUnprogrammed-trans, AreBytesStillUnprogrammed-wider, AreBlocksEqualExceptThese-trans, AreBlocksEqualExceptThese-wider, PowerLossLeavesSuchBlocksAfterCleanErases, KeptThread, ThreadView, ThreadChangesOnlyTheseBlocks, empty_pair_at_anchor, thread_pair_at_index, sync_bit_delta}
 use Rattle.lfs_device.specs.declared.error.Error.{Error}
-use Rattle.lfs_model.specs.History.{DeviceCallEvent, fault_count_of_history}
-use Rattle.lfs_model.specs.PowerLoss.{SurvivesPowerLossInCallsSince}
-use Rattle.lfs_model.specs.Slots.{PairContent, zero_gstate}
-use Rattle.lfs_model.specs.Thread.{Pair, blocks_of_pair_address, blocks_of_two_pair_addresses}
-use Rattle.lfs_model.specs.Shown.{tree_on_disk}
-use Rattle.lfs_model.proofs.Histories.{IsTrueOfEachCallSince-behind, IsTrueOfEachCallSince-until, IsTrueAfterAnyPowerLossSince-trans, IsTrueAfterAnyPowerLossSince-weaker, AreBytesStillUnprogrammed-trans, AreBytesStillUnprogrammed-wider}
-use Rattle.lfs_model.proofs.Overwrites.{AreBlocksEqualExceptThese-trans, AreBlocksEqualExceptThese-wider}
-use Rattle.lfs_thread.specs.Device.{PowerLossLeavesSuchBlocksAfterCleanErases}
-use Rattle.lfs_thread.specs.Kept.{KeptThread, ThreadView}
-use Rattle.lfs_thread.specs.Steps.{ThreadChangesOnlyTheseBlocks, empty_pair_at_anchor, thread_pair_at_index}
 use Rattle.lfs_operations.specs.Dropping.{IsNextPairDropped, IsLeftByStoppedPairDrop}
 use Rattle.lfs_operations.specs.Removing.{ReportsErrorsOfCommitTakingNoBlock, is_pair_dropped_with_slot, tree_without_named_entry, pair_address_written_by_removal}
 use Rattle.lfs_operations.specs.Unlinking.{CanRemoveDirectory, IsLeftByStoppedUnlink, IsDirectoryEntryUnlinked, ReportsErrorsOfCommitsTakingNoBlock, pair_number_after_drop, content_without_directory_entry}
 use Rattle.lfs_operations.proofs.RemovedWhole.{StandsWhole}
 use Rattle.lfs_operations.proofs.RmdirThread.{left_first, left_second}
 use Rattle.lfs_operations.proofs.UnlinkedWhole.{whole_first, whole_second, written_then}
-use Rattle.lfs_model.proofs.Global.{sync_bit_delta}
 
 -- ---- blocks
 

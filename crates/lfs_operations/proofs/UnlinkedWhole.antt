@@ -1,30 +1,10 @@
 -- An empty directory that goes in two steps of the thread, the first of which drops its entry's pair.
-use Rattle.std.proofs.Common.{ℕ, ◌≡◌, ◌⊎◌, inl, inr, ◌+◌, ◌-◌, ◌<◌, ◌≤◌, Bool, true, false, cond, slice_get, List, [], ◌∷◌, ◌++◌, length, Some, refl, sym, ap, ap₂, subst, ◌∙◌, arith, append_assoc, append-nil, length-append, None}
+use Rattle.std.proofs.Common.{ℕ, ◌≡◌, ◌⊎◌, inl, inr, ◌+◌, ◌-◌, ◌<◌, ◌≤◌, Bool, true, false, cond, List, [], ◌∷◌, ◌++◌, length, refl, sym, ap, ap₂, subst, ◌∙◌, arith, append_assoc, append-nil, length-append, None}
 use Rattle.std.specs.Prelude.{nat_lt}
-use Rattle.std.specs.Option.{option_and_then}
 use Rattle.std.proofs.lemmas.Bool.{ltb-false, ltb-true}
-use Rattle.lfs_model.specs.TreeEdits.{tree_after_removal, tree_after_subtree_replacement}
-use Rattle.lfs_model.specs.Blocks.{Blocks}
-use Rattle.lfs_model.specs.Disk.{Disk}
+use Rattle.lfs_operations.proofs.Common.{tree_after_removal, tree_after_subtree_replacement, Blocks, Disk, HasTreeBeforeOrAfterOperation as IsLeftOf, disk_with_blocks, PairContent, Gstate, Slot, zero_gstate, Pair, gstate_of_pairs, starts_with_superblock, pair_count_before_root, Path, IsAcceptedImage, IsWritableImage, IsPathToDirectory, tree_on_disk, used_blocks, IsImageAfterCompletedOperation, no_move_from, occurrence_count_of_number, HasNoMove, sync_bit_delta, IsStep, directory_goes, step_chain, Site, dirs_at, thread_at, drop_shape, file_blocks_of_slots, IsWritableImageAfterTreeChange, KeptThread, IsPairWrittenOnDisk, thread_pair_at_index, IsChain}
 use Rattle.lfs_model.specs.Operations as ops
-use Rattle.lfs_model.specs.PowerLoss.{HasTreeBeforeOrAfterOperation as IsLeftOf, disk_with_blocks}
-use Rattle.lfs_model.specs.Slots.{PairContent, Gstate, Slot, zero_gstate}
-use Rattle.lfs_model.specs.Thread.{Pair, gstate_of_pairs, is_hard_tail, starts_with_superblock, pair_count_before_root}
-use Rattle.lfs_model.specs.Tree.{branch_address_of_struct, Path}
-use Rattle.lfs_model.specs.View.{IsAcceptedImage}
-use Rattle.lfs_model.specs.Profile.{IsWritableImage}
-use Rattle.lfs_model.specs.Shown.{IsPathToDirectory, entries_by_directory_in_thread, tree_on_disk, used_blocks}
-use Rattle.lfs_model.proofs.Committed.{IsImageAfterCompletedOperation, no_move_from}
-use Rattle.lfs_model.proofs.Counts.{occurrence_count_of_number}
-use Rattle.lfs_model.proofs.Global.{HasNoMove, sync_bit_delta}
-use Rattle.lfs_model.proofs.Moves.{IsStep, directory_goes}
-use Rattle.lfs_model.proofs.RmdirSteps.{step_chain}
-use Rattle.lfs_model.proofs.Searches.{slot_of_stands}
-use Rattle.lfs_model.proofs.Sites.{Site, dirs_at, thread_at}
-use Rattle.lfs_model.proofs.Splices.{drop_shape, file_blocks_of_slots}
-use Rattle.lfs_model.proofs.StepsTaken.{IsWritableImageAfterTreeChange, drop_taken}
-use Rattle.lfs_thread.specs.Kept.{KeptThread}
-use Rattle.lfs_thread.specs.Steps.{IsPairWrittenOnDisk, empty_pair_at_anchor, thread_pair_at_index}
+use Rattle.lfs_model.proofs.StepsTaken.{drop_taken}
 use Rattle.lfs_operations.specs.Dropping.{CanDropPairAt, IsNextPairDropped, IsLeftByStoppedPairDrop, content_after_next_pair_drop, ShowsTreeAfterPairDrops}
 use Rattle.lfs_operations.specs.Editing.{CanEditEntryOfPair}
 use Rattle.lfs_operations.specs.Removing.{tree_without_named_entry}
@@ -33,10 +13,9 @@ use Rattle.lfs_operations.proofs.Dropped.{HasMapWithout, IsToBeDropped, can_drop
 use Rattle.lfs_operations.proofs.DroppedTails.{front_is}
 use Rattle.lfs_operations.proofs.Placing.{left_after}
 use Rattle.lfs_operations.proofs.RemovedWhole.{StandsWhole, over_hard}
-use Rattle.lfs_operations.proofs.RmdirPlaces.{HasFront, get_some, has_front, number_of_first, shows_nothing}
+use Rattle.lfs_operations.proofs.RmdirPlaces.{HasOwnPair, led_to, own_pair, HasFront}
 use Rattle.lfs_operations.proofs.RmdirWhole.{HasPlaceWhole, UnlinksWhole, place_whole}
 use Rattle.lfs_operations.proofs.LastDrop.{IsAllButDropped, is_gone, left_last, pairs_end, shows_dropped, x_there, y}
-use Rattle.lfs_model.proofs.Superblocks.{IsChain}
 
 module _ (t : KeptThread) (index id first gone : ℕ) (take : CanRemoveDirectory t index id first gone) (s : StandsWhole t index id take.can) where
   abbrev can : CanEditEntryOfPair t index id
@@ -77,28 +56,15 @@ module _ (t : KeptThread) (index id first gone : ℕ) (take : CanRemoveDirectory
 
   -- ---- the pair that goes
 
-  led : IsPathToDirectory old (can.path ++ u.name ∷ []) take.to
-  led = subst (λ z. IsPathToDirectory z (can.path ++ u.name ∷ []) take.to) s.there
-      (subst (λ n. IsPathToDirectory t.pairs (can.path ++ n ∷ []) take.to) (sym can.stands.stands.named)
-      (ap (option_and_then (λ (f : Slot). branch_address_of_struct f.struct)) (slot_of_stands t.disk t.pairs can.path can.at can.ready.accepted can.leads can.first index id can.name (no_move_from t.pairs can.ready.settled) can.stands can.begins)
-      ∙ ap branch_address_of_struct take.branch))
+  own : HasOwnPair t w.chain (dirs_at w (x0 ∷ e ∷ [])) gone take.to
+  own = own_pair t can.ready w.chain (dirs_at w (x0 ∷ e ∷ [])) s.there s.site.chain can.path can.name take.to gone
+      (led_to t can.ready can.path can.at can.leads can.first index id can.name can.stands can.begins take.to take.branch) take.below take.at take.empty take.alone
 
-  front : HasFront (dirs_at w (x0 ∷ e ∷ [])) take.to
-  front = has_front t.disk w.chain (dirs_at w (x0 ∷ e ∷ [])) can.path u.name take.to accepted s.site.chain led
-
-  first_is : (gone ≡ length (w.chain ++ front.front) + 1) × (front.first ≡ o)
-  first_is = number_of_first t.disk w.chain (dirs_at w (x0 ∷ e ∷ [])) take.to accepted front gone o
-      (subst (λ z. slice_get z gone ≡ Some o) s.there (get_some t.pairs gone empty_pair_at_anchor take.below)) take.at
+  abbrev front : HasFront (dirs_at w (x0 ∷ e ∷ [])) take.to
+  front = own.front
 
   pub above_gone : 0 < gone
-  above_gone = let f = first_is.0 in omega arith
-
-  empty : entries_by_directory_in_thread old take.to ≡ []
-  empty = shows_nothing t.disk w.chain (dirs_at w (x0 ∷ e ∷ [])) take.to accepted s.site.chain (no_move_from old settled) front
-      (ap (λ (z : Pair). is_hard_tail z.content.tail) first_is.1 ∙ take.alone) (ap (λ (z : Pair). z.content.slots) first_is.1 ∙ take.empty)
-
-  dirs_are : dirs_at w (x0 ∷ e ∷ []) ≡ front.front ++ front.before ∷ o ∷ (front.run ++ front.after)
-  dirs_are = front.is ∙ ap (λ z. front.front ++ front.before ∷ z ∷ (front.run ++ front.after)) first_is.1
+  above_gone = let f = own.number in omega arith
 
   -- ---- the first step
 
@@ -140,7 +106,7 @@ module _ (t : KeptThread) (index id first gone : ℕ) (take : CanRemoveDirectory
   first_taken : (disk : Disk) → IsPairWrittenOnDisk t (index - 1) c disk → IsWritableImageAfterTreeChange t.disk old disk (thread_at w (q ∷ [])) (tree_after_removal (can.path ++ u.name ∷ [])) (tree_after_subtree_replacement (can.path ++ u.name ∷ []) (λ t. None))
   first_taken disk h = drop_taken t.disk w x0 e q (record { writable = writable; tail = tail_same; slots = (slots_left dropping) })
       disk [] [] x0.content.slots (u ∷ []) [] [] (tree_after_removal (can.path ++ u.name ∷ [])) (tree_after_subtree_replacement (can.path ++ u.name ∷ []) (λ t. None)) (step disk h)
-      (directory_goes t.disk disk w x0 (e ∷ []) q [] [] [] x0.content.slots [] u (step disk h) can.stands.stands.entry can.path can.at leads s.same take.to take.branch empty (ap (λ (g : Gstate). g.sync) gstate_middle))
+      (directory_goes t.disk disk w x0 (e ∷ []) q [] [] [] x0.content.slots [] u (step disk h) can.stands.stands.entry can.path can.at leads s.same take.to take.branch own.empty (ap (λ (g : Gstate). g.sync) gstate_middle))
 
   unlinks : (disk : Disk) → IsPairWrittenOnDisk t (index - 1) c disk → UnlinksWhole t.disk disk w x0 e q u can.path can.at take.to
   unlinks disk h = record {
@@ -151,7 +117,7 @@ module _ (t : KeptThread) (index id first gone : ℕ) (take : CanRemoveDirectory
     leads = leads;
     same = s.same;
     branch = take.branch;
-    empty = empty;
+    empty = own.empty;
     sync = ap (λ (g : Gstate). g.sync) gstate_middle;
     settled = settled;
     held = s.held;
@@ -162,7 +128,7 @@ module _ (t : KeptThread) (index id first gone : ℕ) (take : CanRemoveDirectory
   }
 
   place : (disk : Disk) → IsPairWrittenOnDisk t (index - 1) c disk → HasPlaceWhole t.disk disk w x0 e q u can.path o (length front.front) front.before
-  place disk h = place_whole t.disk disk w x0 e q u can.path can.at take.to (unlinks disk h) o take.at take.alone front.front front.before (front.run ++ front.after) dirs_are front.soft take.empty
+  place disk h = place_whole t.disk disk w x0 e q u can.path can.at take.to (unlinks disk h) o take.at take.alone front.front front.before (front.run ++ front.after) own.dirs_are front.soft take.empty
 
   -- ---- between the steps
 
@@ -186,13 +152,13 @@ module _ (t : KeptThread) (index id first gone : ℕ) (take : CanRemoveDirectory
         go (inl z) true l =
             let a = length-append w.chain k.front in
             let f = length-append w.chain front.front in
-            let g = first_is.0 in
+            let g = own.number in
             let y = z.1 in
             omega arith
         go (inr z) true l =
             let less : index < gone = ltb-true index gone l in
             let f = length-append w.chain front.front in
-            let g = first_is.0 in
+            let g = own.number in
             let i = s.number in
             let j = length-append w.chain (w.before ++ w.left) in
             let y = z.0 in
@@ -200,7 +166,7 @@ module _ (t : KeptThread) (index id first gone : ℕ) (take : CanRemoveDirectory
         go (inl z) false l =
             let no : gone ≤ index = ltb-false index gone l in
             let f = length-append w.chain front.front in
-            let g = first_is.0 in
+            let g = own.number in
             let i = s.number in
             let j = length-append w.chain (w.before ++ w.left) in
             let y = z.0 in
@@ -208,7 +174,7 @@ module _ (t : KeptThread) (index id first gone : ℕ) (take : CanRemoveDirectory
         go (inr z) false l =
             let a = length-append w.chain k.front in
             let f = length-append w.chain front.front in
-            let g = first_is.0 in
+            let g = own.number in
             let y = z.1 in
             omega arith
 
@@ -257,10 +223,10 @@ module _ (t : KeptThread) (index id first gone : ℕ) (take : CanRemoveDirectory
     written_then = go k.was
       where
         is_old : t.pairs ≡ (w.chain ++ front.front) ++ front.before ∷ o ∷ (front.run ++ front.after)
-        is_old = s.there ∙ ap (λ z. w.chain ++ z) dirs_are ∙ sym (append_assoc w.chain front.front (front.before ∷ o ∷ (front.run ++ front.after)))
+        is_old = s.there ∙ ap (λ z. w.chain ++ z) own.dirs_are ∙ sym (append_assoc w.chain front.front (front.before ∷ o ∷ (front.run ++ front.after)))
 
         old_front : thread_pair_at_index t (gone - 1) ≡ front.before
-        old_front = front_is t (gone - 1) (w.chain ++ front.front) front.before o (front.run ++ front.after) is_old (let g = first_is.0 in omega arith)
+        old_front = front_is t (gone - 1) (w.chain ++ front.front) front.before o (front.run ++ front.after) is_old (let g = own.number in omega arith)
 
         go : (k.x.at ≡ front.before.at) ⊎ (k.x.at ≡ x0.at) → ((thread_pair_at_index m (now - 1)).at ≡ (thread_pair_at_index t (gone - 1)).at) ⊎ ((thread_pair_at_index m (now - 1)).at ≡ (thread_pair_at_index t (index - 1)).at)
         go (inl z) = inl (ap (λ (v : Pair). v.at) x_now ∙ z ∙ ap (λ (v : Pair). v.at) (sym old_front))

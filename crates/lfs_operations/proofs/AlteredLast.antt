@@ -12,8 +12,7 @@ use Rattle.lfs_operations.proofs.AlteredOnto.{last_known}
 use Rattle.lfs_operations.proofs.MovReplace.{onto_directory}
 use Rattle.lfs_operations.proofs.OntoAcross.{can_drop_later, gone_above_later, renamed_directory, replacing_later}
 use Rattle.lfs_operations.proofs.OntoWritten.{there_counted}
-use Rattle.lfs_operations.proofs.Putting.{with_history}
-use Rattle.lfs_operations.proofs.UnlinkedSteps.{writes_trans, writes_wider}
+use Rattle.lfs_operations.proofs.Putting.{with_history, writes_trans, writes_wider}
 use Rattle.lfs_operations.proofs.LastDrop.{end_fewer}
 
 module _ (t : KeptThread) (old_pair old_id first new_pair new_id : ℕ) (name : Name) (gone : ℕ) (rename : CanReplaceDirectoryAcrossPairs t old_pair old_id first new_pair new_id name gone) (m : KeptThread)

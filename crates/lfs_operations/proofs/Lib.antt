@@ -8,6 +8,7 @@ pub mod Owning
 pub mod RootStays
 pub mod Stepped
 pub mod Held
+pub mod PairAt
 pub mod Created
 pub mod RawSlots
 pub mod Replacing

@@ -7,8 +7,7 @@ use Rattle.lfs_operations.specs.MoveEnds.{HasEndedMoveAt, content_after_move_end
 use Rattle.lfs_operations.specs.MovingSteps.{WritesOnlyThreadPairsAndFreeBlocks, WritesTwoPairsAndTwoFreeBlocks}
 use Rattle.lfs_operations.specs.MovingOnto.{IsEntryReplacedAcrossPairs}
 use Rattle.lfs_operations.proofs.MovStep.{blocks_alike}
-use Rattle.lfs_operations.proofs.Putting.{read_is, with_history}
-use Rattle.lfs_operations.proofs.UnlinkedSteps.{writes_trans, writes_wider}
+use Rattle.lfs_operations.proofs.Putting.{read_is, with_history, writes_trans, writes_wider}
 
 -- ---- blocks of pairs
 

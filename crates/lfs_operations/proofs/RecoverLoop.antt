@@ -102,7 +102,7 @@ pub record IsOnWay (disk : Disk) (ps : List Pair) (t : KeptThread) (dropped : �
 some_behind : (xs : List Pair) (p : Pair) → xs ++ p ∷ [] ≡ [] → ⊥
 some_behind xs p e = absurd (let l = ap length e in let k = length-append xs (p ∷ []) in omega arith)
 
-module _ (disk : Disk) (ps : List Pair) (t : KeptThread) (dropped : ℕ) (chain seen : List Pair) (x : Pair) (todo : List Pair) (parts : List (List Pair)) (kept : List Pair) (numbers : List ℕ)
+module _ {disk : Disk} {ps : List Pair} {t : KeptThread} {dropped : ℕ} {chain seen : List Pair} {x : Pair} {todo : List Pair} {parts : List (List Pair)} {kept : List Pair} {numbers : List ℕ}
     (w : IsOnWay disk ps t dropped chain seen (x ∷ todo) parts kept numbers) where
   abbrev f : Option (ℕ × ℕ)
   f = onward_all None seen
@@ -340,5 +340,5 @@ goes_to disk ps t dropped chain seen (x ∷ todo) parts kept numbers w =
     go : AreUnreachedPairNumbersFrom (IsDirectoryAddressReachedBySomePath ps) (length chain + length kept + dropped) (onward_all None seen) (x ∷ todo) numbers
         → (IsOnWay disk ps t dropped chain (seen ++ x ∷ []) todo (parts ++ (x ∷ []) ∷ []) (kept ++ x ∷ []) numbers → IsAtEnd disk ps t dropped chain numbers ⊎ IsAtDrop disk ps t dropped chain numbers)
         → IsAtEnd disk ps t dropped chain numbers ⊎ IsAtDrop disk ps t dropped chain numbers
-    go (inl h) next = next (keeps disk ps t dropped chain seen x todo parts kept numbers w h.0 h.1)
+    go (inl h) next = next (keeps w h.0 h.1)
     go (inr h) next = inr (record { seen = seen; x = x; todo = todo; parts = parts; kept = kept; way = w; rest = h.0; is = h.1.0; unreached = h.1.1.0; more = h.1.1.1 })

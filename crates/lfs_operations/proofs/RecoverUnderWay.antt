@@ -10,8 +10,9 @@ use Rattle.lfs_operations.proofs.RecoverLists.{lists_kept, lists_more, numbered}
 use Rattle.lfs_operations.proofs.RecoverLoop.{FirstsOnly, IsAtDrop, IsAtEnd, IsOnWay, all_but, drops, goes_to, ready, soft, stands, sync_set, unled}
 use Rattle.lfs_operations.proofs.RecoverMap.{HasMap, map_drops}
 use Rattle.lfs_operations.proofs.Dropped.{IsToBeDropped, blocks_left, can_drop_pair, files_left, pairs_left}
+use Rattle.lfs_operations.proofs.RemovedWhole.{last_pair}
 use Rattle.lfs_operations.proofs.RecoverWrites.{two_fewer, writes_fewer, writes_none}
-use Rattle.lfs_operations.proofs.UnlinkedSteps.{writes_trans}
+use Rattle.lfs_operations.proofs.Putting.{writes_trans}
 use Rattle.lfs_operations.proofs.RecoverSteps.{IsUnled, over_left, over_on, site_of}
 use Rattle.lfs_operations.proofs.Threads.{get_behind}
 
@@ -149,65 +150,24 @@ begins t numbers can =
 
 -- the pair at an index goes, which stands behind the one before it
 pub record IsNext (old now : KeptThread) (dropped number : ℕ) (rest : List ℕ) : Type 0 where
-  pub numbers : List ℕ
-  pub seen : List Pair
-  pub x : Pair
-  pub todo : List Pair
-  pub parts : List (List Pair)
-  pub kept : List Pair
-  pub way : IsOnWay old.disk old.pairs now dropped (take (pair_count_before_root old.pairs) old.pairs) seen (x ∷ todo) parts kept numbers
-  pub unreached : IsDirectoryAddressReachedBySomePath old.pairs (directory_address_of_pair (onward_all None seen) x) → ⊥
-  pub more : AreUnreachedPairNumbersFrom (IsDirectoryAddressReachedBySomePath old.pairs) (suc (length (take (pair_count_before_root old.pairs) old.pairs) + length kept + dropped)) (directory_address_continued_by_hard_tail (onward_all None seen) x) todo rest
+  pub goes : IsAtDrop old.disk old.pairs now dropped (take (pair_count_before_root old.pairs) old.pairs) (number ∷ rest)
   pub front : List Pair
   pub before : Pair
-  pub split : kept ≡ front ++ before ∷ []
+  pub split : goes.kept ≡ front ++ before ∷ []
   pub number_is : number ≡ length (take (pair_count_before_root old.pairs) old.pairs) + length front + 1 + dropped
-
-record HasLast (xs : List Pair) : Type 0 where
-  front : List Pair
-  last : Pair
-  is : xs ≡ front ++ last ∷ []
-
-has_last : (x : Pair) (xs : List Pair) → HasLast (x ∷ xs)
-has_last x [] = record { front = []; last = x; is = refl }
-has_last x (y ∷ xs) = let l = has_last y xs in record { front = x ∷ l.front; last = l.last; is = ap (λ z. x ∷ z) l.is }
 
 pub next_goes : (old now : KeptThread) (dropped number : ℕ) (rest : List ℕ) → IsUnderWay old now dropped (number ∷ rest) → IsNext old now dropped number rest
 next_goes old now dropped number rest u = go (goes_to old.disk old.pairs now dropped (take (pair_count_before_root old.pairs) old.pairs) u.seen u.todo u.parts u.kept (number ∷ rest) u.way)
   where
-    C : List Pair
-    C = take (pair_count_before_root old.pairs) old.pairs
-
     head : {a b : ℕ} {us vs : List ℕ} → a ∷ us ≡ b ∷ vs → a ≡ b
     head e = cc
-
-    tail : {a b : ℕ} {us vs : List ℕ} → a ∷ us ≡ b ∷ vs → vs ≡ us
-    tail e = cc
 
     go : IsAtEnd old.disk old.pairs now dropped (take (pair_count_before_root old.pairs) old.pairs) (number ∷ rest) ⊎ IsAtDrop old.disk old.pairs now dropped (take (pair_count_before_root old.pairs) old.pairs) (number ∷ rest)
         → IsNext old now dropped number rest
     go (inl d) = absurd (let l = ap length d.none in omega arith)
-    go (inr d) = by d.kept refl
-      where
-        by : (ks : List Pair) → d.kept ≡ ks → IsNext old now dropped number rest
-        by [] e = absurd (d.unreached (d.way.root e d.x d.todo refl))
-        by (k ∷ ks) e =
-            let l = has_last k ks in
-            record {
-              numbers = number ∷ rest;
-              seen = d.seen;
-              x = d.x;
-              todo = d.todo;
-              parts = d.parts;
-              kept = d.kept;
-              way = d.way;
-              unreached = d.unreached;
-              more = subst (λ z. AreUnreachedPairNumbersFrom (IsDirectoryAddressReachedBySomePath old.pairs) (suc (length C + length d.kept + dropped)) (directory_address_continued_by_hard_tail (onward_all None d.seen) d.x) d.todo z) (tail d.is) d.more;
-              front = l.front;
-              before = l.last;
-              split = e ∙ l.is;
-              number_is = let h = head d.is in let a = ap length (e ∙ l.is) in let b = length-append l.front (l.last ∷ []) in omega arith;
-            }
+    go (inr d) =
+        let l = last_pair d.kept (λ none. d.unreached (d.way.root none d.x d.todo refl)) in
+        record { goes = d; front = l.front; before = l.last; split = l.is; number_is = let h = head d.is in let a = ap length l.is in let b = length-append l.front (l.last ∷ []) in omega arith }
 
 -- the state that is wanted: none with the last one
 pub record IsWanted (now : KeptThread) (rest : List ℕ) (g : Gstate) : Type 0 where
@@ -221,12 +181,18 @@ module _ (old now : KeptThread) (dropped number : ℕ) (rest : List ℕ) (n : Is
   abbrev at : ℕ
   at = length C + length n.front
 
-  whole_is : now.pairs ≡ C ++ (n.front ++ n.before ∷ n.x ∷ n.todo)
-  whole_is = stands old.disk old.pairs now dropped C n.seen n.x n.todo n.parts n.kept n.numbers n.way n.unreached n.front n.before n.split
+  more : AreUnreachedPairNumbersFrom (IsDirectoryAddressReachedBySomePath old.pairs) (suc (length C + length n.goes.kept + dropped)) (directory_address_continued_by_hard_tail (onward_all None n.goes.seen) n.goes.x) n.goes.todo rest
+  more = subst (AreUnreachedPairNumbersFrom (IsDirectoryAddressReachedBySomePath old.pairs) (suc (length C + length n.goes.kept + dropped)) (directory_address_continued_by_hard_tail (onward_all None n.goes.seen) n.goes.x) n.goes.todo) (tail n.goes.is) n.goes.more
+    where
+      tail : {a b : ℕ} {us vs : List ℕ} → a ∷ us ≡ b ∷ vs → vs ≡ us
+      tail e = cc
 
-  is_ready : IsReady now.disk C (n.front ++ n.before ∷ n.x ∷ n.todo)
-  is_ready = subst (IsReady now.disk C) (ap (λ z. z ++ n.x ∷ n.todo) n.split ∙ append_assoc n.front (n.before ∷ []) (n.x ∷ n.todo))
-      (ready old.disk old.pairs now dropped C n.seen n.x n.todo n.parts n.kept n.numbers n.way n.unreached n.front n.before n.split)
+  whole_is : now.pairs ≡ C ++ (n.front ++ n.before ∷ n.goes.x ∷ n.goes.todo)
+  whole_is = stands n.goes.way n.goes.unreached n.front n.before n.split
+
+  is_ready : IsReady now.disk C (n.front ++ n.before ∷ n.goes.x ∷ n.goes.todo)
+  is_ready = subst (IsReady now.disk C) (ap (λ z. z ++ n.goes.x ∷ n.goes.todo) n.split ∙ append_assoc n.front (n.before ∷ []) (n.goes.x ∷ n.goes.todo))
+      (ready n.goes.way n.goes.unreached n.front n.before n.split)
 
   now_none : HasNoMove (gstate_of_pairs now.pairs)
   now_none = subst (λ z. HasNoMove (gstate_of_pairs z)) (sym whole_is) is_ready.no_move
@@ -238,19 +204,19 @@ module _ (old now : KeptThread) (dropped number : ℕ) (rest : List ℕ) (n : Is
       go [] e = (subst HasNoMove (sym (want.last e)) (record { kind = refl; id = refl; pair = refl }), λ off. e)
       go (r ∷ rs) e =
           let is = want.other (λ k. absurd (let l = ap length (sym e ∙ k) in omega arith)) in
-          (subst HasNoMove (sym is) now_none, λ off. absurd (sync_set old.disk old.pairs now dropped C n.seen n.x n.todo n.parts n.kept n.numbers n.way n.unreached n.front n.before n.split (ap (λ (z : Gstate). z.sync) (sym is) ∙ off)))
+          (subst HasNoMove (sym is) now_none, λ off. absurd (sync_set n.goes.way n.goes.unreached n.front n.before n.split (ap (λ (z : Gstate). z.sync) (sym is) ∙ off)))
 
-  is_unled : IsUnled now g n.before n.x
+  is_unled : IsUnled now g n.before n.goes.x
   is_unled = record {
     none = cases.0;
-    soft = soft old.disk old.pairs now dropped C n.seen n.x n.todo n.parts n.kept n.numbers n.way n.unreached n.front n.before n.split;
-    unled = unled old.disk old.pairs now dropped C n.seen n.x n.todo n.parts n.kept n.numbers n.way n.unreached n.front n.before n.split;
-    reached = λ off. all_but old.disk old.pairs now dropped C n.seen n.x n.todo n.parts n.kept n.numbers n.way n.unreached n.front n.before n.split
-        (subst (λ z. AreUnreachedPairNumbersFrom (IsDirectoryAddressReachedBySomePath old.pairs) (suc (length C + length n.kept + dropped)) (directory_address_continued_by_hard_tail (onward_all None n.seen) n.x) n.todo z) (cases.1 off) n.more);
+    soft = soft n.goes.way n.goes.unreached n.front n.before n.split;
+    unled = unled n.goes.way n.goes.unreached n.front n.before n.split;
+    reached = λ off. all_but n.goes.way n.goes.unreached n.front n.before n.split
+        (subst (λ z. AreUnreachedPairNumbersFrom (IsDirectoryAddressReachedBySomePath old.pairs) (suc (length C + length n.goes.kept + dropped)) (directory_address_continued_by_hard_tail (onward_all None n.goes.seen) n.goes.x) n.goes.todo z) (cases.1 off) more);
   }
 
   module _ (behind : ℕ) (e : behind + dropped ≡ number) where
-    dropping : IsToBeDropped now behind g (site_of C n.front n.todo) n.before n.x
+    dropping : IsToBeDropped now behind g (site_of C n.front n.goes.todo) n.before n.goes.x
     dropping = record {
       accepted = subst (IsAcceptedImage now.disk) (sym whole_is) is_ready.accepted;
       writable = subst (IsWritableImage now.disk) (sym whole_is) is_ready.writable;
@@ -267,14 +233,14 @@ module _ (old now : KeptThread) (dropped number : ℕ) (rest : List ℕ) (n : Is
     can_take = can_drop_pair dropping
 
     shows : tree_on_disk now.disk now.pairs ≡ tree_on_disk old.disk old.pairs
-    shows = ap (tree_on_disk now.disk) (n.way.there ∙ ap (λ z. C ++ (n.kept ++ z)) (sym (joined_singles (n.x ∷ n.todo)))) ∙ n.way.is.taken.follows.shows
+    shows = ap (tree_on_disk now.disk) (n.goes.way.there ∙ ap (λ z. C ++ (n.goes.kept ++ z)) (sym (joined_singles (n.goes.x ∷ n.goes.todo)))) ∙ n.goes.way.is.taken.follows.shows
 
     disk_is : StaysOn old now → (left : Blocks) → disk_with_blocks left now.disk ≡ disk_with_blocks left old.disk
     disk_is d left = λ j. record { block_size = d.shape.block_size j; page = d.shape.page j; order = d.shape.order j; profile = d.shape.profile j; blocks = left }
 
-    number_there : slice_index_or old.pairs number empty_pair_at_anchor ≡ n.x
-    number_there = numbered old.pairs C n.seen n.x n.todo number n.way.is.are
-        (let k = n.number_is in let c = n.way.counted in let a = ap length n.split in let b = length-append n.front (n.before ∷ []) in omega arith)
+    number_there : slice_index_or old.pairs number empty_pair_at_anchor ≡ n.goes.x
+    number_there = numbered old.pairs C n.goes.seen n.goes.x n.goes.todo number n.goes.way.is.are
+        (let k = n.number_is in let c = n.goes.way.counted in let a = ap length n.split in let b = length-append n.front (n.before ∷ []) in omega arith)
 
     pub survives_on : (new : KeptThread) → IsUnderWay old now dropped (number ∷ rest)
         → StaysOn now new → PowerLossLeavesSuchBlocksAfterCleanErases now.history new.history (IsLeftByStoppedPairDrop now (behind - 1) g)
@@ -283,7 +249,7 @@ module _ (old now : KeptThread) (dropped number : ℕ) (rest : List ℕ) (n : Is
         survives_then old.disk old.history now.history new.history (tree_on_disk old.disk old.pairs) (tree_on_disk old.disk old.pairs) u.device.calls on.calls u.survives
         (λ clean. IsTrueAfterAnyPowerLossSince-weaker (λ left x. subst (λ z. IsLeftOf z (tree_on_disk old.disk old.pairs) (tree_on_disk old.disk old.pairs)) (disk_is u.device left)
         (subst (λ z. IsLeftOf (disk_with_blocks left now.disk) z z) shows
-        (over_left now C n.front n.before n.x n.todo behind g dropping is_ready is_unled left x))) (stops clean))
+        (over_left now C n.front n.before n.goes.x n.goes.todo behind g dropping is_ready is_unled left x))) (stops clean))
 
     pub writes_on : (new : KeptThread) → IsUnderWay old now dropped (number ∷ rest) → ThreadChangesOnlyTheseBlocks (blocks_of_pair_address (thread_pair_at_index now (behind - 1)).at) now new → ThreadChangesOnlyTheseBlocks (blocks_of_pairs old.pairs) old new
     writes_on new u writes =
@@ -297,29 +263,29 @@ module _ (old now : KeptThread) (dropped number : ℕ) (rest : List ℕ) (n : Is
     moves_on new u is writes stops =
         let on = stays_by _ now new writes in
         let q : Pair = record { at = n.before.at; content = content_after_next_pair_drop now (behind - 1) g } in
-        let apart = over_on now C n.front n.before n.x n.todo behind g dropping is_ready is_unled new.disk is.written in
+        let apart = over_on now C n.front n.before n.goes.x n.goes.todo behind g dropping is_ready is_unled new.disk is.written in
         let m = map_drops dropping new is now_none cases.0 u.gone u.map in
         record {
-          gone = u.gone ++ file_blocks_of_slots now.disk n.x.content.slots;
+          gone = u.gone ++ file_blocks_of_slots now.disk n.goes.x.content.slots;
           was = u.was;
           took = u.took ++ number ∷ [];
           reported = subst (AreUnreachedPairNumbers old.pairs) (sym (append_assoc u.took (number ∷ []) rest)) u.reported;
-          gone_are = ap₂ (λ a b. a ++ b) u.gone_are (lists_kept old now C n.seen n.x n.todo n.way.is.are u.was n.way.no_move u.writes) ∙ sym (lists_more old u.took number n.x number_there);
+          gone_are = ap₂ (λ a b. a ++ b) u.gone_are (lists_kept old now C n.goes.seen n.goes.x n.goes.todo n.goes.way.is.are u.was n.goes.way.no_move u.writes) ∙ sym (lists_more old u.took number n.goes.x number_there);
           map = m.0;
           lost = λ b.
               let f = files_left dropping new is now_none cases.0 b in
-              let a = count_append b u.gone (file_blocks_of_slots now.disk n.x.content.slots) in
+              let a = count_append b u.gone (file_blocks_of_slots now.disk n.goes.x.content.slots) in
               let l = u.lost b in
               omega arith;
           flying = λ b. ((λ flies. (u.flying b).0 ((m.1 b).0 flies)), (λ flies. (m.1 b).1 ((u.flying b).1 flies)));
           fewer = λ b. let f = u.fewer b in let k = blocks_left dropping new is b in omega arith;
           writes = writes_on new u writes;
-          seen = n.seen ++ n.x ∷ [];
-          todo = n.todo;
-          parts = n.parts ++ [] ∷ [];
+          seen = n.goes.seen ++ n.goes.x ∷ [];
+          todo = n.goes.todo;
+          parts = n.goes.parts ++ [] ∷ [];
           kept = n.front ++ q ∷ [];
-          way = drops old.disk old.pairs now dropped C n.seen n.x n.todo n.parts n.kept n.numbers n.way n.unreached n.front n.before n.split new q rest n.more
-              (subst (λ z. IsUnthreaded now.disk new.disk C n.front n.before n.x q z) (sym (joined_singles n.todo)) apart) (pairs_left dropping new is);
+          way = drops n.goes.way n.goes.unreached n.front n.before n.split new q rest more
+              (subst (λ z. IsUnthreaded now.disk new.disk C n.front n.before n.goes.x q z) (sym (joined_singles n.goes.todo)) apart) (pairs_left dropping new is);
           state = λ some none. is.gstate ∙ want.last none;
           device = stays_then old now new u.device on;
           survives = survives_on new u on stops;

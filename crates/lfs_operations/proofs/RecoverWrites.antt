@@ -3,7 +3,7 @@ use Rattle.std.proofs.Common.{ℕ, zero, suc, ◌≡◌, ◌≢◌, ◌<◌, ◌
 use Rattle.std.specs.Prelude.{slice_index_or}
 use Rattle.lfs_operations.proofs.Common.{All-from_recursion, recursion_from_All, Pair, blocks_of_pairs, blocks_of_pair_address, Each, occurrence_count_of_number, AreBytesStillUnprogrammed-refl, KeptThread, ThreadChangesOnlyTheseBlocks, empty_pair_at_anchor}
 use Rattle.lfs_model.proofs.Overwrites.{AreBlocksEqualExceptThese-refl}
-use Rattle.lfs_operations.proofs.UnlinkedSteps.{writes_wider}
+use Rattle.lfs_operations.proofs.Putting.{writes_wider}
 
 none_counted : (b : ℕ) (xs : List ℕ) → Each (λ c. c ≢ b) xs → occurrence_count_of_number b xs ≡ 0
 none_counted b [] h = refl

@@ -1,6 +1,6 @@
 -- A file that goes with its pair, which held nothing else and isn't the first of its directory, as a step of the thread.
 use Rattle.std.proofs.Common.{◌<◌, ℕ, ◌≡◌, ◌≢◌, inl, inr, ◌+◌, ◌-◌, ◌≤◌, ◌&&◌, not, Bool, true, false, nat_eq, eqb-true, slice_get, List, [], ◌∷◌, ◌++◌, length, Option, Some, None, refl, sym, ap, subst, ◌∙◌, arith, append_assoc, length-append}
-use Rattle.lfs_operations.proofs.Common.{IsDistinct, eqb-false, tree_after_removal, Blocks, Disk, DeviceCallEvent, IsPairAtAddress, HasTreeBeforeOrAfterOperation as IsLeftOf, SurvivesPowerLossInCallsSince, disk_with_blocks, PairContent, Slot, Tail, zero_gstate, same_pair, Pair, blocks_of_pairs, first_pair_address, gstate_of_pairs, is_hard_tail, pair_count_before_root, Tree, branch_address_of_struct, IsAcceptedImage, IsWritableImage, IsPathToDirectory, skip_list_blocks_of_struct, tree_on_disk, used_blocks, IsImageAfterTreeChange, IsImageAfterCompletedOperation, no_move_from, recovered_from, occurrence_count_of_number, count_append, once_from_distinct, HasNoMove, IsTrueAfterAnyPowerLossSince-weaker, IsRun, file_goes, is_site, number_is, same, same_number, site, thread_is, pair_back, pair_on, IsSite, Site, begin_of, dirs_at, thread_at, file_blocks_of_slots, IsChain, ends_in_hard_tail, PowerLossLeavesSuchBlocksAfterCleanErases, KeptThread, IsPairWrittenOnDisk, thread_pair_at_index}
+use Rattle.lfs_operations.proofs.Common.{IsDistinct, eqb-false, tree_after_removal, Blocks, Disk, DeviceCallEvent, IsPairAtAddress, HasTreeBeforeOrAfterOperation as IsLeftOf, SurvivesPowerLossInCallsSince, disk_with_blocks, PairContent, Slot, Tail, zero_gstate, same_pair, Pair, blocks_of_pairs, first_pair_address, gstate_of_pairs, is_hard_tail, pair_count_before_root, Tree, branch_address_of_struct, IsAcceptedImage, IsWritableImage, IsPathToDirectory, skip_list_blocks_of_struct, tree_on_disk, used_blocks, IsImageAfterTreeChange, IsImageAfterCompletedOperation, no_move_from, recovered_from, occurrence_count_of_number, count_append, once_from_distinct, HasNoMove, IsTrueAfterAnyPowerLossSince-weaker, IsRun, file_goes, same_number, site, pair_back, pair_on, IsSite, Site, begin_of, dirs_at, thread_at, file_blocks_of_slots, IsChain, ends_in_hard_tail, PowerLossLeavesSuchBlocksAfterCleanErases, KeptThread, IsPairWrittenOnDisk, thread_pair_at_index}
 use Rattle.lfs_model.specs.Operations as ops
 use Rattle.lfs_model.proofs.Dropped.{IsDrop, drop_completed, drop_step, drop_writable}
 use Rattle.lfs_operations.specs.Dropping.{CanDropPairAt, IsNextPairDropped, ShowsTreeAfterPairDrops, IsLeftByStoppedPairDrop, tail_over_dropped_pair, content_after_next_pair_drop}
@@ -12,6 +12,7 @@ use Rattle.lfs_operations.proofs.Held.{here}
 use Rattle.lfs_operations.proofs.Placing.{left_after}
 use Rattle.lfs_operations.proofs.RootStays.{root_stays}
 use Rattle.lfs_operations.proofs.Threads.{get_behind}
+use Rattle.lfs_operations.proofs.PairAt.{HasPairAt, pair_at}
 
 -- ---- the pair in front
 
@@ -119,17 +120,8 @@ module _ (t : KeptThread) (index id first : ℕ) (can : CanEditEntryOfPair t ind
   abbrev v : Site
   v = site t.disk t.pairs can.path can.at can.ready.accepted can.leads can.first index o can.stands.rest can.stands.place can.begins
 
-  there_before : t.pairs ≡ thread_at v (o ∷ [])
-  there_before = thread_is t.disk t.pairs can.path can.at can.ready.accepted can.leads can.first index o can.stands.rest can.stands.place can.begins
-
-  site_before : IsSite v (o ∷ [])
-  site_before = is_site t.disk t.pairs can.path can.at can.ready.accepted can.leads can.first index o can.stands.rest can.stands.place can.begins
-
-  number_before : index ≡ length v.chain + length (v.before ++ v.left)
-  number_before = number_is t.disk t.pairs can.path can.at can.ready.accepted can.leads can.first index o can.stands.rest can.stands.place can.begins
-
-  same_before : same_pair (begin_of v (o ∷ [])) can.at ≡ true
-  same_before = same t.disk t.pairs can.path can.at can.ready.accepted can.leads can.first index o can.stands.rest can.stands.place can.begins
+  stand : HasPairAt t index can.path can.at v o
+  stand = pair_at t can.ready can.path can.at can.leads can.first index o can.stands.rest can.stands.place can.begins
 
   -- ---- what is known by it
 
@@ -148,9 +140,9 @@ module _ (t : KeptThread) (index id first : ℕ) (can : CanEditEntryOfPair t ind
       can.stands.stands.held ∙ only_slot can.stands.stands.left can.stands.stands.right u (sym n ∙ sym e ∙ alone_there.1)
 
   behind : StandsBehind t.pairs v o index
-  behind = stands_behind t.pairs v o index there_before site_before number_before
-      (not_alone v.chain v.before v.left (v.right ++ v.after) o can.at can.first (subst (λ z. IsDistinct nat_eq (blocks_of_pairs z)) there_before can.ready.accepted.thread.distinct) same_before
-      (subst (λ z. IsPairAtAddress z can.at can.first) there_before can.begins) (λ e. alone_there.0 (number_before ∙ e)))
+  behind = stands_behind t.pairs v o index stand.there stand.site stand.number
+      (not_alone v.chain v.before v.left (v.right ++ v.after) o can.at can.first (subst (λ z. IsDistinct nat_eq (blocks_of_pairs z)) stand.there can.ready.accepted.thread.distinct) stand.begin
+      (subst (λ z. IsPairAtAddress z can.at can.first) stand.there can.begins) (λ e. alone_there.0 (stand.number ∙ e)))
 
   abbrev x : Pair
   x = behind.x
@@ -166,7 +158,7 @@ module _ (t : KeptThread) (index id first : ℕ) (can : CanEditEntryOfPair t ind
   flag_whole = behind.led
 
   pub stands_whole : StandsWhole t index id can
-  stands_whole = record { w = w; x = x; there = there; site = behind.site; number = behind.number; hard = behind.hard; same = subst (λ z. same_pair z can.at ≡ true) behind.begin same_before; held = held }
+  stands_whole = record { w = w; x = x; there = there; site = behind.site; number = behind.number; hard = behind.hard; same = subst (λ z. same_pair z can.at ≡ true) behind.begin stand.begin; held = held }
 
   dropping : IsToBeDropped t index zero_gstate w x o
   dropping = record { accepted = can.ready.accepted; writable = can.ready.writable; storable = no_move_state; there = there; number = behind.number }
@@ -211,7 +203,7 @@ module _ (t : KeptThread) (index id first : ℕ) (can : CanEditEntryOfPair t ind
 
     follows : (disk : Disk) → IsPairWrittenOnDisk t (index - 1) c disk → IsImageAfterTreeChange t.disk (thread_at w (x ∷ o ∷ [])) disk (thread_at w (q ∷ [])) turn (λ d. d)
     follows disk written = subst (λ n. IsImageAfterTreeChange t.disk (thread_at w (x ∷ o ∷ [])) disk (thread_at w (q ∷ [])) (tree_after_removal (can.path ++ n ∷ [])) (λ d. d)) can.stands.stands.named
-        (file_goes t.disk disk w x (o ∷ []) q [] [] [] x.content.slots [] u (drop_step t.disk disk w x o q u (drop_on disk written)) can.stands.stands.entry can.path can.at leads_now (subst (λ z. same_pair z can.at ≡ true) behind.begin same_before) file
+        (file_goes t.disk disk w x (o ∷ []) q [] [] [] x.content.slots [] u (drop_step t.disk disk w x o q u (drop_on disk written)) can.stands.stands.entry can.path can.at leads_now (subst (λ z. same_pair z can.at ≡ true) behind.begin stand.begin) file
         (λ e. (recovered_from t.disk (thread_at w (x ∷ o ∷ [])) (drop_on disk written).accepted (drop_on disk written).settled).reached))
 
     module _ (new : KeptThread) (h : IsNextPairDropped t (index - 1) zero_gstate new) where
@@ -255,7 +247,7 @@ module _ (t : KeptThread) (index id first : ℕ) (can : CanEditEntryOfPair t ind
         now = shrunk;
         completed = λ z given tree is_path. subst (λ y. IsImageAfterCompletedOperation t.disk y z (ops.Remove given) new.disk new.pairs) (sym there)
             (subst (λ y. IsImageAfterCompletedOperation t.disk (thread_at w (x ∷ o ∷ [])) z (ops.Remove given) new.disk y) (sym (pairs_left dropping new h))
-            (drop_completed t.disk new.disk w x o q u (drop_on new.disk h.written) file can.path can.at leads_now (subst (λ z. same_pair z can.at ≡ true) behind.begin same_before) z given (tree ∙ ap (tree_on_disk t.disk) there)
+            (drop_completed t.disk new.disk w x o q u (drop_on new.disk h.written) file can.path can.at leads_now (subst (λ z. same_pair z can.at ≡ true) behind.begin stand.begin) z given (tree ∙ ap (tree_on_disk t.disk) there)
             (is_path ∙ ap (λ n. can.path ++ n ∷ []) (sym can.stands.stands.named))));
         once = λ b.
             let e = owned_count b in

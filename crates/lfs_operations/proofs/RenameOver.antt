@@ -1,7 +1,7 @@
 -- An entry that takes the place of a directory while the sync bit turns, as a step of the thread.
 use Rattle.std.proofs.Common.{subst₂, ℕ, ◌≡◌, ◌⊎◌, inl, inr, ◌+◌, ◌≤◌, true, List, [], ◌∷◌, ◌++◌, length, Some, refl, sym, ap, ap₂, subst, ◌∙◌, arith, append_assoc, length-append, sum_by, insert}
 use Rattle.std.specs.Option.{option_and_then}
-use Rattle.lfs_operations.proofs.Common.{sum_by-append, sum_by-cons, same_Some, tree_after_rename, PairContentChange, Delete, PutMove, raw_pair_content_after_changes, RawPairContent, RawSlot, slots_if_names_and_structs_present, pair_content_if_slots_complete, raw_content_of_pair_at, Disk, DeviceCallEvent, HasEntryOfNameAtId, AreMoveStateFieldsWithinBitWidths, Name, is_valid_name, SurvivesPowerLossInCallsSince, PairContent, IsContentFittingPair, Gstate, Slot, gstate_xor, same_pair, slot_size, Pair, gstate_of_pairs, pair_address_named_by_tail, IsFileOrDirectoryEntry, IsPathToDirectory, tree_on_disk, IsImageAfterTreeChange, complete_insert, complete_length, completed_from, completed_parts, does_first, puts_move, gstate_comm, sync_bit_delta, turned_is, IsTrueAfterAnyPowerLossSince-weaker, IsStep, insert_here, some_filled, directory_addresses_after_rename, is_site, number_is, site, Site, begin_of, thread_at, IsWritableImageAfterTreeChange, PowerLossLeavesSuchBlocksAfterCleanErases, KeptThread, CanChangePair, IsPairChanged, PowerLossLeavesPairOldOrChanged, IsCommitRefused, IsPairWrittenOnDisk, complete_content_after_changes, thread_pair_at_index}
+use Rattle.lfs_operations.proofs.Common.{sum_by-append, sum_by-cons, same_Some, tree_after_rename, PairContentChange, Delete, PutMove, raw_pair_content_after_changes, RawPairContent, RawSlot, slots_if_names_and_structs_present, pair_content_if_slots_complete, raw_content_of_pair_at, Disk, DeviceCallEvent, HasEntryOfNameAtId, AreMoveStateFieldsWithinBitWidths, Name, is_valid_name, SurvivesPowerLossInCallsSince, PairContent, IsContentFittingPair, Gstate, Slot, gstate_xor, slot_size, Pair, gstate_of_pairs, pair_address_named_by_tail, IsFileOrDirectoryEntry, tree_on_disk, IsImageAfterTreeChange, complete_insert, complete_length, completed_from, completed_parts, does_first, puts_move, gstate_comm, sync_bit_delta, turned_is, IsTrueAfterAnyPowerLossSince-weaker, IsStep, insert_here, some_filled, directory_addresses_after_rename, site, Site, thread_at, IsWritableImageAfterTreeChange, PowerLossLeavesSuchBlocksAfterCleanErases, KeptThread, CanChangePair, IsPairChanged, PowerLossLeavesPairOldOrChanged, IsCommitRefused, IsPairWrittenOnDisk, complete_content_after_changes, thread_pair_at_index}
 use Rattle.lfs_model.specs.Slots.{struct_len}
 use Rattle.lfs_operations.specs.Editing.{CanEditEntryOfPair}
 use Rattle.lfs_operations.specs.Renaming.{id_after_slot_removal, tree_with_renamed_entry}
@@ -17,6 +17,7 @@ use Rattle.lfs_operations.proofs.RenameTarget as both
 use Rattle.lfs_operations.proofs.RenameTarget.{follower}
 use Rattle.lfs_operations.proofs.MovTurned.{ChangedOne, changed_one, content_with}
 use Rattle.lfs_operations.proofs.TurnedSync.{IsSyncTurn, left_turned, pair_turned, state_turned, taken_turned, turn_of}
+use Rattle.lfs_operations.proofs.PairAt.{HasPairAt, pair_at}
 
 -- ---- a delta that turns the sync bit
 
@@ -71,14 +72,8 @@ module _ (t : KeptThread) (index id place : ℕ) (name : Name) (rename : CanRepl
   abbrev w : Site
   w = site t.disk t.pairs can.path can.at can.ready.accepted can.leads can.first index p can.stands.rest can.stands.place can.begins
 
-  there : t.pairs ≡ thread_at w (p ∷ [])
-  there = both.there t index id place name can rename.target rename.differs
-
-  leads_there : IsPathToDirectory (thread_at w (p ∷ [])) can.path can.at
-  leads_there = both.leads_there t index id place name can rename.target rename.differs
-
-  same_there : same_pair (begin_of w (p ∷ [])) can.at ≡ true
-  same_there = both.same_there t index id place name can rename.target rename.differs
+  stand : HasPairAt t index can.path can.at w p
+  stand = pair_at t can.ready can.path can.at can.leads can.first index p can.stands.rest can.stands.place can.begins
 
   fits_here : IsContentFittingPair t.disk.block_size t.disk.page p.content
   fits_here = both.fits_here t index id place name can rename.target rename.differs
@@ -205,9 +200,9 @@ module _ (t : KeptThread) (index id place : ℕ) (name : Name) (rename : CanRepl
       r = r2;
       placed = record {
         ready = can.ready;
-        there = there;
-        place = number_is t.disk t.pairs can.path can.at can.ready.accepted can.leads can.first index p can.stands.rest can.stands.place can.begins;
-        site = is_site t.disk t.pairs can.path can.at can.ready.accepted can.leads can.first index p can.stands.rest can.stands.place can.begins;
+        there = stand.there;
+        place = stand.number;
+        site = stand.site;
         content = over_content (s.left ++ d.passed) r2;
         made = over_made (s.left ++ d.passed) r2 over_behind;
         tail = refl;
@@ -223,7 +218,7 @@ module _ (t : KeptThread) (index id place : ℕ) (name : Name) (rename : CanRepl
       is_content = refl;
       follows = λ disk q k sync. other_names disk q (onto_behind_follows t.disk disk w p q [] [] s.left u d.passed target r2
           (subst (λ (n : Name). IsStep t.disk disk w p [] q [] [] [] s.left (u ∷ (d.passed ++ target ∷ [])) (d.passed ++ with_name u n ∷ []) r2) (sym rename.target.stands.named) k)
-          (s.held ∙ ap (λ z. s.left ++ u ∷ z) (d.back ∙ sym (append_assoc d.passed (target ∷ []) r2))) s.entry rename.target.stands.entry (λ e. absurd (let z = sym sync ∙ e in cc)) differs can.path can.at leads_there same_there);
+          (s.held ∙ ap (λ z. s.left ++ u ∷ z) (d.back ∙ sym (append_assoc d.passed (target ∷ []) r2))) s.entry rename.target.stands.entry (λ e. absurd (let z = sym sync ∙ e in cc)) differs can.path can.at stand.leads stand.begin);
     }
 
   module _ (passed : List Slot) (front : s.left ≡ l2 ++ target ∷ passed) (back : r2 ≡ passed ++ u ∷ s.right) where
@@ -241,9 +236,9 @@ module _ (t : KeptThread) (index id place : ℕ) (name : Name) (rename : CanRepl
       r = s.right;
       placed = record {
         ready = can.ready;
-        there = there;
-        place = number_is t.disk t.pairs can.path can.at can.ready.accepted can.leads can.first index p can.stands.rest can.stands.place can.begins;
-        site = is_site t.disk t.pairs can.path can.at can.ready.accepted can.leads can.first index p can.stands.rest can.stands.place can.begins;
+        there = stand.there;
+        place = stand.number;
+        site = stand.site;
         content = over_content l2 (passed ++ s.right);
         made = over_made l2 (passed ++ s.right) over_ahead;
         tail = refl;
@@ -259,7 +254,7 @@ module _ (t : KeptThread) (index id place : ℕ) (name : Name) (rename : CanRepl
       is_content = refl;
       follows = λ disk q k sync. other_names disk q (onto_ahead_follows t.disk disk w p q [] [] l2 u passed target s.right
           (subst (λ (n : Name). IsStep t.disk disk w p [] q [] [] [] l2 (target ∷ (passed ++ u ∷ [])) (with_name u n ∷ passed) s.right) (sym rename.target.stands.named) k)
-          (target_held ∙ ap (λ z. l2 ++ target ∷ z) (back ∙ sym (append_assoc passed (u ∷ []) s.right))) s.entry rename.target.stands.entry (λ e. absurd (let z = sym sync ∙ e in cc)) differs can.path can.at leads_there same_there);
+          (target_held ∙ ap (λ z. l2 ++ target ∷ z) (back ∙ sym (append_assoc passed (u ∷ []) s.right))) s.entry rename.target.stands.entry (λ e. absurd (let z = sym sync ∙ e in cc)) differs can.path can.at stand.leads stand.begin);
     }
 
   pub has_over : HasOver
@@ -280,7 +275,7 @@ module _ (t : KeptThread) (index id place : ℕ) (name : Name) (rename : CanRepl
     pub turning : IsSyncTurn t index (replace_directory_in_pair_changes t index id place name) w p (h.x ++ with_name u name ∷ h.y) h.l h.olds h.news h.r
     turning = record {
       ready = can.ready;
-      there = there;
+      there = stand.there;
       place = k.place;
       site = k.site;
       made = over_made h.x h.y h.over;
@@ -333,7 +328,7 @@ module _ (t : KeptThread) (index id place : ℕ) (name : Name) (rename : CanRepl
         thread = is.thread;
         map = is.map;
         gstate = ap gstate_of_pairs x.pairs ∙ state_turned (turning has_over);
-        taken = subst₂ (λ y z. IsWritableImageAfterTreeChange t.disk y new.disk z (tree_after_rename (can.path ++ can.name ∷ []) (can.path ++ name ∷ [])) (directory_addresses_after_rename (can.path ++ can.name ∷ []) (can.path ++ name ∷ []))) (sym there) (sym x.pairs)
+        taken = subst₂ (λ y z. IsWritableImageAfterTreeChange t.disk y new.disk z (tree_after_rename (can.path ++ can.name ∷ []) (can.path ++ name ∷ [])) (directory_addresses_after_rename (can.path ++ can.name ∷ []) (can.path ++ name ∷ []))) (sym stand.there) (sym x.pairs)
             (taken_turned (turning has_over) (tree_after_rename (can.path ++ can.name ∷ []) (can.path ++ name ∷ [])) (directory_addresses_after_rename (can.path ++ can.name ∷ []) (can.path ++ name ∷ [])) (over_follows has_over) new.disk x.turned);
       }
 

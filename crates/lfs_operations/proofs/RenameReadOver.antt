@@ -66,7 +66,7 @@ change_stops_after_read t mid new index changes bs only ready first p rest place
 -- ---- what it tells
 
 -- an error passed on
-reported_again : {X Y : Type 0} (t new : KeptThread) (e : Error) (result : Result X Error) (given : Result Y Error) → result ≡ Err e → given ≡ Err e → IoMeantFaultNoMemoryWroteNothing t new result → IoMeantFaultNoMemoryWroteNothing t new given
+pub reported_again : {X Y : Type 0} (t new : KeptThread) (e : Error) (result : Result X Error) (given : Result Y Error) → result ≡ Err e → given ≡ Err e → IoMeantFaultNoMemoryWroteNothing t new result → IoMeantFaultNoMemoryWroteNothing t new given
 reported_again t new e result given is same reported = record {
   errors = subst (λ r. IfErr r (λ x. (x ≡ Io) ⊎ (x ≡ NoMemory))) (sym same) (subst (λ r. IfErr r (λ x. (x ≡ Io) ⊎ (x ≡ NoMemory))) is reported.errors);
   fault = λ io. reported.fault (is ∙ ap Err (same_err e Io given same io));

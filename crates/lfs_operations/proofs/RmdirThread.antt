@@ -1,6 +1,6 @@
 -- An empty directory that goes in two steps of the thread.
-use Rattle.std.proofs.Common.{Some, ℕ, ◌≡◌, ◌≢◌, ◌⊎◌, inl, inr, ◌+◌, ◌-◌, ◌<◌, true, false, nat_eq, List, [], ◌∷◌, ◌++◌, length, None, refl, sym, ap, ap₂, subst, ◌∙◌, arith, append_assoc, append-nil, length-append}
-use Rattle.lfs_operations.proofs.Common.{IsDistinct, tree_after_removal, tree_after_subtree_replacement, Blocks, AreExactlyTheUsedBlocks, Disk, IsPairAtAddress, HasTreeBeforeOrAfterOperation as IsLeftOf, disk_with_blocks, IsContentFittingPair, PairContent, Gstate, Slot, gstate_xor, zero_gstate, same_pair, Pair, blocks_of_pairs, gstate_of_pairs, pair_count_before_root, IsAcceptedImage, IsWritableImage, IsPathToDirectory, tree_on_disk, used_blocks, IsImageAfterCompletedOperation, no_move_from, IsImageAfterTreeChange, occurrence_count_of_number, HasNoMove, sync_bit_delta, IsStep, directory_goes, step_chain, is_site, number_is, same, site, thread_is, IsSite, Site, begin_of, dirs_at, thread_at, IsDevice, IsWritableImageAfterTreeChange, ends_in_hard_tail, KeptThread, IsPairWrittenOnDisk, thread_pair_at_index, IsChain, Path}
+use Rattle.std.proofs.Common.{Some, ℕ, ◌≡◌, ◌≢◌, ◌⊎◌, inl, inr, ◌-◌, ◌<◌, true, false, nat_eq, List, [], ◌∷◌, ◌++◌, length, None, refl, sym, ap, ap₂, subst, ◌∙◌, arith, append_assoc, append-nil, length-append}
+use Rattle.lfs_operations.proofs.Common.{IsDistinct, tree_after_removal, tree_after_subtree_replacement, Blocks, AreExactlyTheUsedBlocks, Disk, IsPairAtAddress, HasTreeBeforeOrAfterOperation as IsLeftOf, disk_with_blocks, IsContentFittingPair, PairContent, Gstate, Slot, gstate_xor, zero_gstate, Pair, blocks_of_pairs, gstate_of_pairs, pair_count_before_root, tree_on_disk, used_blocks, IsImageAfterCompletedOperation, no_move_from, IsImageAfterTreeChange, occurrence_count_of_number, HasNoMove, sync_bit_delta, IsStep, directory_goes, step_chain, site, Site, dirs_at, thread_at, IsDevice, IsWritableImageAfterTreeChange, ends_in_hard_tail, KeptThread, IsPairWrittenOnDisk, thread_pair_at_index, IsChain, Path}
 use Rattle.lfs_model.specs.Operations as ops
 use Rattle.lfs_operations.specs.Dropping.{IsNextPairDropped, IsLeftByStoppedPairDrop, HasSameBlocksInFlight, ShowsTreeAfterPairDrops}
 use Rattle.lfs_operations.specs.Editing.{CanEditEntryOfPair}
@@ -16,6 +16,7 @@ use Rattle.lfs_operations.proofs.Owning.{used_same}
 use Rattle.lfs_operations.proofs.MovTurned.{content_with}
 use Rattle.lfs_operations.proofs.TurnedSync.{IsSyncTurn, Turned, has_turned, no_move_turned, pair_turned, state_turned, step_turned, taken_turned}
 use Rattle.lfs_operations.proofs.Threads.{one_now, placed_one}
+use Rattle.lfs_operations.proofs.PairAt.{HasPairAt, pair_at}
 
 module _ (t : KeptThread) (index id first gone : ℕ) (take : CanRemoveDirectory t index id first gone) (goes : is_pair_dropped_with_slot t index first ≡ false) where
   abbrev can : CanEditEntryOfPair t index id
@@ -39,32 +40,11 @@ module _ (t : KeptThread) (index id first gone : ℕ) (take : CanRemoveDirectory
   abbrev w : Site
   w = site t.disk t.pairs can.path can.at can.ready.accepted can.leads can.first index p can.stands.rest can.stands.place can.begins
 
+  stand : HasPairAt t index can.path can.at w p
+  stand = pair_at t can.ready can.path can.at can.leads can.first index p can.stands.rest can.stands.place can.begins
+
   abbrev path_there : Path
   path_there = can.path ++ u.name ∷ []
-
-  there : t.pairs ≡ thread_at w (p ∷ [])
-  there = thread_is t.disk t.pairs can.path can.at can.ready.accepted can.leads can.first index p can.stands.rest can.stands.place can.begins
-
-  site_is : IsSite w (p ∷ [])
-  site_is = is_site t.disk t.pairs can.path can.at can.ready.accepted can.leads can.first index p can.stands.rest can.stands.place can.begins
-
-  number_there : index ≡ length w.chain + length (w.before ++ w.left)
-  number_there = number_is t.disk t.pairs can.path can.at can.ready.accepted can.leads can.first index p can.stands.rest can.stands.place can.begins
-
-  same_begin : same_pair (begin_of w (p ∷ [])) can.at ≡ true
-  same_begin = same t.disk t.pairs can.path can.at can.ready.accepted can.leads can.first index p can.stands.rest can.stands.place can.begins
-
-  accepted : IsAcceptedImage t.disk (thread_at w (p ∷ []))
-  accepted = subst (IsAcceptedImage t.disk) there can.ready.accepted
-
-  writable : IsWritableImage t.disk (thread_at w (p ∷ []))
-  writable = subst (IsWritableImage t.disk) there can.ready.writable
-
-  settled : gstate_of_pairs (thread_at w (p ∷ [])) ≡ zero_gstate
-  settled = ap gstate_of_pairs (sym there) ∙ can.ready.settled
-
-  leads : IsPathToDirectory (thread_at w (p ∷ [])) can.path can.at
-  leads = subst (λ z. IsPathToDirectory z can.path can.at) there can.leads
 
   held : p.content.slots ≡ l ++ u ∷ r
   held = can.stands.stands.held
@@ -72,7 +52,7 @@ module _ (t : KeptThread) (index id first gone : ℕ) (take : CanRemoveDirectory
   -- ---- the pair that goes
 
   own : HasOwnPair t w.chain (dirs_at w (p ∷ [])) gone take.to
-  own = own_pair t can.ready w.chain (dirs_at w (p ∷ [])) there site_is.chain can.path can.name take.to gone
+  own = own_pair t can.ready w.chain (dirs_at w (p ∷ [])) stand.there stand.site.chain can.path can.name take.to gone
       (led_to t can.ready can.path can.at can.leads can.first index id can.name can.stands can.begins take.to take.branch) take.below take.at take.empty take.alone
 
   abbrev front : HasFront (dirs_at w (p ∷ [])) take.to
@@ -84,9 +64,9 @@ module _ (t : KeptThread) (index id first gone : ℕ) (take : CanRemoveDirectory
     where
       go : (index ≡ can.first) ⊎ (1 < length (thread_pair_at_index t index).content.slots) → ⊥
       go (inl e) =
-          let none_before = alone w.chain w.before w.left (w.right ++ w.after) p can.at can.first (subst (λ z. IsDistinct nat_eq (blocks_of_pairs z)) there can.ready.accepted.thread.distinct) same_begin
-          (subst (λ z. IsPairAtAddress z can.at can.first) there can.begins) (sym e ∙ number_there) in
-          let soft = ap (λ z. ends_in_hard_tail false (w.before ++ z)) none_before ∙ ap (ends_in_hard_tail false) (append-nil w.before) ∙ flag_ends w.before site_is.ends in
+          let none_before = alone w.chain w.before w.left (w.right ++ w.after) p can.at can.first (subst (λ z. IsDistinct nat_eq (blocks_of_pairs z)) stand.there can.ready.accepted.thread.distinct) stand.begin
+          (subst (λ z. IsPairAtAddress z can.at can.first) stand.there can.begins) (sym e ∙ stand.number) in
+          let soft = ap (λ z. ends_in_hard_tail false (w.before ++ z)) none_before ∙ ap (ends_in_hard_tail false) (append-nil w.before) ∙ flag_ends w.before stand.site.ends in
           absurd (let z = sym hard ∙ soft in cc)
       go (inr many) =
           let e = ap length (held_there t index id can) in
@@ -106,9 +86,9 @@ module _ (t : KeptThread) (index id first gone : ℕ) (take : CanRemoveDirectory
   turning : IsSyncTurn t index (directory_unlink_changes t index id) w p (l ++ r) l (u ∷ []) [] r
   turning = record {
     ready = can.ready;
-    there = there;
-    place = number_there;
-    site = site_is;
+    there = stand.there;
+    place = stand.number;
+    site = stand.site;
     made = unlink_made t index id can ∙ ap Some content_is;
     fits = subst (IsContentFittingPair t.disk.block_size t.disk.page) content_is (fits_gone t index id can);
     was = held;
@@ -136,7 +116,7 @@ module _ (t : KeptThread) (index id first gone : ℕ) (take : CanRemoveDirectory
 
   follows : (disk : Disk) → IsStep t.disk disk w p [] q [] [] [] l (u ∷ []) [] r
       → IsImageAfterTreeChange t.disk (thread_at w (p ∷ [])) disk (thread_at w (q ∷ [])) (tree_after_removal (can.path ++ u.name ∷ [])) (tree_after_subtree_replacement (can.path ++ u.name ∷ []) (λ t. None))
-  follows disk step = directory_goes t.disk disk w p [] q [] [] [] l r u step can.stands.stands.entry can.path can.at leads same_begin take.to take.branch own.empty (ap (λ (g : Gstate). g.sync) (state_turned turning))
+  follows disk step = directory_goes t.disk disk w p [] q [] [] [] l r u step can.stands.stands.entry can.path can.at stand.leads stand.begin take.to take.branch own.empty (ap (λ (g : Gstate). g.sync) (state_turned turning))
 
   first_taken : (disk : Disk) → Turned turning disk → IsWritableImageAfterTreeChange t.disk (thread_at w (p ∷ [])) disk (thread_at w (q ∷ [])) (tree_after_removal (can.path ++ u.name ∷ [])) (tree_after_subtree_replacement (can.path ++ u.name ∷ []) (λ t. None))
   first_taken = taken_turned turning (tree_after_removal (can.path ++ u.name ∷ [])) (tree_after_subtree_replacement (can.path ++ u.name ∷ []) (λ t. None)) follows
@@ -145,14 +125,14 @@ module _ (t : KeptThread) (index id first gone : ℕ) (take : CanRemoveDirectory
   unlinks disk h = record {
     step = step_turned turning disk h;
     other = can.stands.stands.entry;
-    old_writable = writable;
+    old_writable = stand.writable;
     writable = (first_taken disk h).writable;
-    leads = leads;
-    same = same_begin;
+    leads = stand.leads;
+    same = stand.begin;
     branch = take.branch;
     empty = own.empty;
     sync = ap (λ (g : Gstate). g.sync) (state_turned turning);
-    settled = settled;
+    settled = stand.settled;
     held = held;
     kept = refl;
     tail = refl;
@@ -172,13 +152,13 @@ module _ (t : KeptThread) (index id first gone : ℕ) (take : CanRemoveDirectory
     k = place m.disk x
 
     pairs_middle : m.pairs ≡ thread_at w (q ∷ [])
-    pairs_middle = h.pairs ∙ one_now t index w p there number_there c ∙ ap (λ z. thread_at w (record { at = p.at; content = z } ∷ [])) content_is
+    pairs_middle = h.pairs ∙ one_now t index w p stand.there stand.number c ∙ ap (λ z. thread_at w (record { at = p.at; content = z } ∷ [])) content_is
 
     used_middle : (b : ℕ) → occurrence_count_of_number b (used_blocks m.disk m.pairs) ≡ occurrence_count_of_number b (used_blocks t.disk t.pairs)
     used_middle b = ap (λ z. occurrence_count_of_number b (used_blocks m.disk z)) (pairs_middle ∙ grouped q)
-        ∙ unlinked_count t.disk m.disk ahead p q behind l r u take.to (subst (λ z. HasNoMove (gstate_of_pairs z)) (grouped p) (no_move_from (thread_at w (p ∷ [])) settled)) (subst (λ z. HasNoMove (gstate_of_pairs z)) (grouped q) (no_move_turned turning))
+        ∙ unlinked_count t.disk m.disk ahead p q behind l r u take.to (subst (λ z. HasNoMove (gstate_of_pairs z)) (grouped p) (no_move_from (thread_at w (p ∷ [])) stand.settled)) (subst (λ z. HasNoMove (gstate_of_pairs z)) (grouped q) (no_move_turned turning))
         (subst (λ z. IsDevice t.disk m.disk z (ahead ++ q ∷ behind)) (grouped p) (subst (IsDevice t.disk m.disk (thread_at w (p ∷ []))) (grouped q) x.device)) refl held refl take.branch b
-        ∙ ap (λ z. occurrence_count_of_number b (used_blocks t.disk z)) (sym (there ∙ grouped p))
+        ∙ ap (λ z. occurrence_count_of_number b (used_blocks t.disk z)) (sym (stand.there ∙ grouped p))
 
     chain_middle : IsChain w.chain (dirs_at w (q ∷ []))
     chain_middle = step_chain t.disk m.disk w p [] q [] [] [] l (u ∷ []) [] r (step_turned turning m.disk x)
@@ -188,7 +168,7 @@ module _ (t : KeptThread) (index id first gone : ℕ) (take : CanRemoveDirectory
     may_go = record {
       ready = can.ready;
       taken = subst (λ z. IsWritableImageAfterTreeChange t.disk t.pairs m.disk z (tree_after_removal path_there) (tree_after_subtree_replacement path_there (λ t. None))) (sym pairs_middle)
-          (subst (λ z. IsWritableImageAfterTreeChange t.disk z m.disk (thread_at w (q ∷ [])) (tree_after_removal path_there) (tree_after_subtree_replacement path_there (λ t. None))) (sym there) (first_taken m.disk x));
+          (subst (λ z. IsWritableImageAfterTreeChange t.disk z m.disk (thread_at w (q ∷ [])) (tree_after_removal path_there) (tree_after_subtree_replacement path_there (λ t. None))) (sym stand.there) (first_taken m.disk x));
       no_move = subst (λ z. HasNoMove (gstate_of_pairs z)) (sym pairs_middle) (no_move_turned turning);
       chain = w.chain;
       front = k.front;
@@ -198,12 +178,12 @@ module _ (t : KeptThread) (index id first gone : ℕ) (take : CanRemoveDirectory
       is_chain = subst (IsChain w.chain) k.there chain_middle;
       number = let a = length-append w.chain k.front in let b = length-append w.chain front.front in let n = k.number in let f = own.number in omega arith;
       soft = k.soft;
-      drops = λ new y gone. subst (λ z. IsWritableImageAfterTreeChange t.disk z new (w.chain ++ (k.front ++ y ∷ k.back)) (tree_after_removal path_there) (tree_after_subtree_replacement path_there (λ t. None))) (sym there) (k.taken new y gone);
+      drops = λ new y gone. subst (λ z. IsWritableImageAfterTreeChange t.disk z new (w.chain ++ (k.front ++ y ∷ k.back)) (tree_after_removal path_there) (tree_after_subtree_replacement path_there (λ t. None))) (sym stand.there) (k.taken new y gone);
       empty = take.empty;
       used = subst (λ s. AreExactlyTheUsedBlocks s (used_blocks m.disk m.pairs)) (sym h.map) (used_same t.map (used_blocks t.disk t.pairs) (used_blocks m.disk m.pairs) used_middle can.ready.used);
       size = ap length h.map ∙ can.ready.size ∙ sym h.written.shape.count;
       flying = subst (HasSameBlocksInFlight t.map) (sym h.map) (λ b. ((λ f. f), (λ f. f)));
-      root = ap pair_count_before_root pairs_middle ∙ chain_middle ∙ sym (ap pair_count_before_root there ∙ site_is.chain);
+      root = ap pair_count_before_root pairs_middle ∙ chain_middle ∙ sym (ap pair_count_before_root stand.there ∙ stand.site.chain);
       shape = h.written.shape;
     }
 
@@ -214,9 +194,9 @@ module _ (t : KeptThread) (index id first gone : ℕ) (take : CanRemoveDirectory
     unfolding may_go
     directory_removed new g = record {
       now = subst (λ z. ShowsTreeAfterPairDrops t new z []) turned (shows_dropped may_go new g);
-      completed = λ z given tree is_path. subst (λ s. IsImageAfterCompletedOperation t.disk s z (ops.Remove given) new.disk new.pairs) (sym there)
+      completed = λ z given tree is_path. subst (λ s. IsImageAfterCompletedOperation t.disk s z (ops.Remove given) new.disk new.pairs) (sym stand.there)
           (subst (λ s. IsImageAfterCompletedOperation t.disk (thread_at w (p ∷ [])) z (ops.Remove given) new.disk s) (sym (pairs_end may_go new g))
-          (k.completed new.disk (y may_go) (is_gone may_go new.disk g.written) z given (tree ∙ ap (tree_on_disk t.disk) there) (is_path ∙ ap (λ n. can.path ++ n ∷ []) (sym can.stands.stands.named))));
+          (k.completed new.disk (y may_go) (is_gone may_go new.disk g.written) z given (tree ∙ ap (tree_on_disk t.disk) stand.there) (is_path ∙ ap (λ n. can.path ++ n ∷ []) (sym can.stands.stands.named))));
     }
 
     -- what a stop in the second step leaves
@@ -231,9 +211,9 @@ module _ (t : KeptThread) (index id first gone : ℕ) (take : CanRemoveDirectory
       go : (g.content ≡ (thread_pair_at_index t index).content) ⊎ (g.content ≡ content_without_directory_entry t index id) → IsLeftOf (disk_with_blocks left t.disk) (tree_on_disk t.disk t.pairs) (tree_without_named_entry t can.path can.name)
       go (inl e) =
           let same = e ∙ ap (λ (z : Pair). z.content) (pair_there t index id can) in
-          left_still t.disk left (thread_at w (p ∷ [])) accepted writable
-          (device t.disk (disk_with_blocks left t.disk) w p p [] [] accepted accepted.owned_once
-          (placed_one t index w p there number_there (disk_with_blocks left t.disk) p.content (λ h. (h.kind, h.name)) (subst (λ z. IsPairWrittenOnDisk t index z (disk_with_blocks left t.disk)) same g.written)))
-          (inl (ap (tree_on_disk t.disk) (sym there)))
+          left_still t.disk left (thread_at w (p ∷ [])) stand.accepted stand.writable
+          (device t.disk (disk_with_blocks left t.disk) w p p [] [] stand.accepted stand.accepted.owned_once
+          (placed_one t index w p stand.there stand.number (disk_with_blocks left t.disk) p.content (λ h. (h.kind, h.name)) (subst (λ z. IsPairWrittenOnDisk t index z (disk_with_blocks left t.disk)) same g.written)))
+          (inl (ap (tree_on_disk t.disk) (sym stand.there)))
       go (inr e) = left_after (first_taken (disk_with_blocks left t.disk) (turned_on (disk_with_blocks left t.disk) (subst (λ z. IsPairWrittenOnDisk t index z (disk_with_blocks left t.disk)) e g.written)))
-          (inr (ap₂ (λ n z. tree_after_removal (can.path ++ n ∷ []) (tree_on_disk t.disk z)) can.stands.stands.named (sym there)))
+          (inr (ap₂ (λ n z. tree_after_removal (can.path ++ n ∷ []) (tree_on_disk t.disk z)) can.stands.stands.named (sym stand.there)))

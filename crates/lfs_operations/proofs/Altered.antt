@@ -1,26 +1,11 @@
 -- A pair that gets more slots or fewer, or is cut, doesn't stay with what it held.
 use Rattle.std.proofs.Common.{ℕ, zero, suc, ◌≡◌, ◌≢◌, ◌⊎◌, inl, inr, ◌+◌, ◌<◌, true, false, List, [], ◌∷◌, ◌++◌, length, Option, Some, refl, sym, ap, subst, ◌∙◌, arith, append-nil, append_assoc, length-append}
 use Rattle.std.specs.Prelude.{Contains}
-use Rattle.std.specs.List.{IsDistinct}
+use Rattle.lfs_operations.proofs.Common.{IsDistinct, same_Some, Disk, Gstate, Slot, same_pair, AreLinkedByTails, Pair, anchor_pair_address, blocks_of_pairs, pair_address_named_by_tail, IsAcceptedImage, pair_with_slots, Became, IsCommit, Each, pair_itself, avoids_behind, avoids_front, slots_of_pairs_in_order, IsTrueOfSomeElement, Site, among_parts, thread_at, KeptThread, thread_pair_at_index}
 use Rattle.std.proofs.Common.{nat_eq}
-use Rattle.std.proofs.lemmas.Option.{same_Some}
-use Rattle.lfs_model.specs.Disk.{Disk}
-use Rattle.lfs_model.specs.Slots.{Gstate, Slot, same_pair}
-use Rattle.lfs_model.specs.Thread.{AreLinkedByTails, Pair, anchor_pair_address, blocks_of_pairs, pair_address_named_by_tail}
-use Rattle.lfs_model.specs.View.{IsAcceptedImage}
-use Rattle.lfs_model.specs.SlotEdits.{pair_with_slots}
-use Rattle.lfs_model.proofs.Became.{Became}
-use Rattle.lfs_model.proofs.Committed.{IsCommit}
-use Rattle.lfs_model.proofs.Counts.{Each}
-use Rattle.lfs_model.proofs.Pairs.{pair_itself}
-use Rattle.lfs_model.proofs.Searches.{avoids_behind, avoids_front}
-use Rattle.lfs_model.proofs.Splices.{slots_of_pairs_in_order}
-use Rattle.lfs_model.proofs.Sites.{IsTrueOfSomeElement, Site, among_parts, thread_at}
 use Rattle.lfs_operations.specs.Changing.{IsPairNotKeptUnchanged}
 use Rattle.lfs_operations.specs.Dropping.{IsNextPairDropped, content_after_next_pair_drop}
 use Rattle.lfs_operations.proofs.DroppedTails.{TwoAt, front_is, gone_is, over_next, two_at, without_is}
-use Rattle.lfs_thread.specs.Kept.{KeptThread}
-use Rattle.lfs_thread.specs.Steps.{thread_pair_at_index}
 
 -- ---- a pair in a thread
 

@@ -1,24 +1,8 @@
 -- What the steps of a rename across pairs leave with what it held.
 use Rattle.std.proofs.Common.{ℕ, ◌≡◌, ◌-◌, ◌<◌, ◌≤◌, ◌⊎◌, inl, inr, Bool, true, false, List, [], ◌∷◌, ◌++◌, length, None, refl, sym, ap, subst, ◌∙◌, arith, append_assoc}
 use Rattle.std.specs.Prelude.{Contains}
-use Rattle.std.specs.List.{AllByRecursion}
-use Rattle.lfs_model.specs.BlockSets.{IsBlockFree}
-use Rattle.lfs_model.specs.Changes.{PairContentChange}
-use Rattle.lfs_model.specs.Names.{Name}
-use Rattle.lfs_model.specs.SlotEdits.{pair_with_slots}
-use Rattle.lfs_model.specs.Slots.{Slot, gstate_xor}
-use Rattle.lfs_model.specs.Thread.{Pair, blocks_of_pairs, blocks_of_pair_address}
-use Rattle.lfs_model.specs.Tree.{Path}
-use Rattle.lfs_model.specs.View.{IsAcceptedImage}
-use Rattle.lfs_model.specs.Shown.{all_slots_not_moved, used_blocks}
-use Rattle.lfs_model.proofs.Alike.{ArePairsWithSameAddressesAndSlots}
+use Rattle.lfs_operations.proofs.Common.{AllByRecursion, IsBlockFree, PairContentChange, Name, pair_with_slots, Slot, gstate_xor, Pair, blocks_of_pairs, blocks_of_pair_address, Path, IsAcceptedImage, all_slots_not_moved, used_blocks, ArePairsWithSameAddressesAndSlots, Each, occurrence_count_of_number, count_append, count_here, each_weaker, once_from_distinct, IsTrueOfSomeElement, Site, among_right, dirs_at, file_blocks_of_slots, two, KeptThread, thread_pair_at_index}
 use Rattle.lfs_model.proofs.BlockSets.{Contains-head, Contains-tail}
-use Rattle.lfs_model.proofs.Counts.{Each, occurrence_count_of_number, count_append, count_here, each_weaker, once_from_distinct}
-use Rattle.lfs_model.proofs.Sites.{IsTrueOfSomeElement, Site, among_right, dirs_at}
-use Rattle.lfs_model.proofs.Splices.{file_blocks_of_slots}
-use Rattle.lfs_model.proofs.TwoPlaces.{two}
-use Rattle.lfs_thread.specs.Kept.{KeptThread}
-use Rattle.lfs_thread.specs.Steps.{thread_pair_at_index}
 use Rattle.lfs_operations.specs.Altering.{IsBlockOfAlteredPair}
 use Rattle.lfs_operations.specs.Changing.{IsPairNotKeptUnchanged}
 use Rattle.lfs_operations.specs.MoveEnds.{HasEndedMoveAt, pair_written_at_move_end, gstate_naming_moved_slot}

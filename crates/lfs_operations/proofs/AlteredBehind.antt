@@ -1,22 +1,10 @@
 -- Pairs that don't stay with what they held, as tails and slots tell.
 use Rattle.std.proofs.Common.{ℕ, ◌≡◌, ◌+◌, ◌-◌, ◌<◌, ◌≤◌, inl, inr, nat_eq, List, [], ◌∷◌, ◌++◌, length, Option, Some, refl, sym, ap, subst, ◌∙◌, arith, append-nil, length-append}
 use Rattle.std.specs.Prelude.{Contains}
-use Rattle.std.specs.List.{IsDistinct}
-use Rattle.std.proofs.lemmas.Option.{same_Some}
-use Rattle.lfs_model.specs.Disk.{Disk}
-use Rattle.lfs_model.specs.Slots.{Slot}
-use Rattle.lfs_model.specs.Thread.{AreLinkedByTails, Pair, anchor_pair_address, blocks_of_pairs, pair_address_named_by_tail, blocks_of_pair_address}
-use Rattle.lfs_model.specs.View.{IsAcceptedImage}
-use Rattle.lfs_model.proofs.Alike.{ArePairsWithSameAddressesAndSlots}
-use Rattle.lfs_model.proofs.Became.{Became}
-use Rattle.lfs_model.proofs.Counts.{occurrence_count_of_number, count_append, count_here}
-use Rattle.lfs_model.proofs.Sites.{IsTrueOfSomeElement}
-use Rattle.lfs_model.proofs.Splices.{slots_of_pairs_in_order}
+use Rattle.lfs_operations.proofs.Common.{IsDistinct, same_Some, Disk, Slot, AreLinkedByTails, Pair, anchor_pair_address, blocks_of_pairs, pair_address_named_by_tail, blocks_of_pair_address, IsAcceptedImage, ArePairsWithSameAddressesAndSlots, Became, occurrence_count_of_number, count_append, count_here, IsTrueOfSomeElement, slots_of_pairs_in_order, KeptThread, thread_pair_at_index}
 use Rattle.lfs_operations.specs.Changing.{IsPairNotKeptUnchanged}
 use Rattle.lfs_operations.proofs.Altered.{among_contains, links_behind, only_there}
 use Rattle.lfs_operations.proofs.DroppedTails.{TwoAt, front_is, gone_is, two_at}
-use Rattle.lfs_thread.specs.Kept.{KeptThread}
-use Rattle.lfs_thread.specs.Steps.{thread_pair_at_index}
 
 -- ---- no two pairs share a block
 

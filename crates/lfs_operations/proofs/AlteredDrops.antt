@@ -1,9 +1,6 @@
 -- An empty directory goes: the pairs in front of those that go don't stay with what they held.
 use Rattle.std.proofs.Common.{ℕ, ◌≡◌, ◌+◌, ◌-◌, ◌<◌, ◌≤◌, false, [], ◌∷◌, length, Some, sym, ap, ◌∙◌, arith}
-use Rattle.lfs_model.specs.Slots.{Gstate, zero_gstate}
-use Rattle.lfs_model.specs.Thread.{AreLinkedByTails, Pair, anchor_pair_address, blocks_of_pairs, blocks_of_pair_address}
-use Rattle.lfs_model.proofs.Counts.{occurrence_count_of_number, count_here, once_from_distinct}
-use Rattle.lfs_model.proofs.Global.{sync_bit_delta}
+use Rattle.lfs_operations.proofs.Common.{Gstate, zero_gstate, AreLinkedByTails, Pair, anchor_pair_address, blocks_of_pairs, blocks_of_pair_address, occurrence_count_of_number, count_here, once_from_distinct, sync_bit_delta, KeptThread, thread_pair_at_index}
 use Rattle.lfs_operations.specs.Changing.{IsPairNotKeptUnchanged}
 use Rattle.lfs_operations.specs.Dropping.{CanDropPairAt, IsNextPairDropped, content_after_next_pair_drop}
 use Rattle.lfs_operations.specs.Removing.{is_pair_dropped_with_slot}
@@ -17,8 +14,6 @@ use Rattle.lfs_operations.proofs.UnlinkedSteps.{at_there}
 use Rattle.lfs_operations.proofs.UnlinkedWhole as whole
 use Rattle.lfs_operations.proofs.UnlinkedWhole.{above_gone, can_drop_entry}
 use Rattle.lfs_operations.proofs.LastDrop.{can_drop_last, o_there}
-use Rattle.lfs_thread.specs.Kept.{KeptThread}
-use Rattle.lfs_thread.specs.Steps.{thread_pair_at_index}
 
 -- ---- a pair goes
 

@@ -1,17 +1,7 @@
 -- What a rename across pairs onto a directory leaves with what it held.
 use Rattle.std.proofs.Common.{ℕ, ◌≢◌, ◌-◌, ◌<◌, ◌≤◌, ◌⊎◌, inl, inr, true, List, ◌∷◌, ◌++◌, subst, arith}
 use Rattle.std.specs.Prelude.{Contains}
-use Rattle.std.proofs.lemmas.Bool.{cases_lt}
-use Rattle.std.proofs.lemmas.List.Elements.{All-from_recursion, recursion_from_All}
-use Rattle.lfs_model.specs.BlockSets.{IsBlockFree}
-use Rattle.lfs_model.specs.InDirectory.{IsPairAtAddress}
-use Rattle.lfs_model.specs.Names.{Name}
-use Rattle.lfs_model.specs.Slots.{zero_gstate}
-use Rattle.lfs_model.specs.Thread.{blocks_of_pairs, blocks_of_pair_address, blocks_of_two_pair_addresses}
-use Rattle.lfs_model.proofs.BlockSets.{Contains-occurrence_count_of_number, occurrence_count_of_number-Contains}
-use Rattle.lfs_model.proofs.Counts.{occurrence_count_of_number, count_append, each_counted}
-use Rattle.lfs_thread.specs.Kept.{KeptThread}
-use Rattle.lfs_thread.specs.Steps.{ThreadChangesOnlyTheseBlocks, empty_pair_at_anchor, thread_pair_at_index}
+use Rattle.lfs_operations.proofs.Common.{cases_lt, All-from_recursion, recursion_from_All, IsBlockFree, IsPairAtAddress, Name, zero_gstate, blocks_of_pairs, blocks_of_pair_address, blocks_of_two_pair_addresses, Contains-occurrence_count_of_number, occurrence_count_of_number-Contains, occurrence_count_of_number, count_append, each_counted, KeptThread, ThreadChangesOnlyTheseBlocks, empty_pair_at_anchor, thread_pair_at_index}
 use Rattle.lfs_operations.specs.Altering.{ChangesOnlyGivenAlteredOrFreeBlocks}
 use Rattle.lfs_operations.specs.Dropping.{IsNextPairDropped}
 use Rattle.lfs_operations.specs.MovingSteps.{WritesTwoPairsAndTwoFreeBlocks, pair_written_by_second_move_commit}
@@ -22,8 +12,7 @@ use Rattle.lfs_operations.proofs.AlteredOnto.{last_known}
 use Rattle.lfs_operations.proofs.MovReplace.{onto_directory}
 use Rattle.lfs_operations.proofs.OntoAcross.{can_drop_later, gone_above_later, renamed_directory, replacing_later}
 use Rattle.lfs_operations.proofs.OntoWritten.{there_counted}
-use Rattle.lfs_operations.proofs.Putting.{with_history}
-use Rattle.lfs_operations.proofs.UnlinkedSteps.{writes_trans, writes_wider}
+use Rattle.lfs_operations.proofs.Putting.{with_history, writes_trans, writes_wider}
 use Rattle.lfs_operations.proofs.LastDrop.{end_fewer}
 
 module _ (t : KeptThread) (old_pair old_id first new_pair new_id : ℕ) (name : Name) (gone : ℕ) (rename : CanReplaceDirectoryAcrossPairs t old_pair old_id first new_pair new_id name gone) (m : KeptThread)

@@ -1,15 +1,7 @@
 -- What a rename across pairs leaves with what it held, after the old slot was read.
 use Rattle.std.proofs.Common.{ℕ, ◌≡◌, ◌-◌, ◌<◌, ◌≤◌, inl, inr, Bool, false, true, ◌∷◌, ◌++◌, length, subst, arith}
 use Rattle.std.specs.Prelude.{Contains}
-use Rattle.std.specs.List.{AllByRecursion}
-use Rattle.lfs_model.specs.LoggedContent.{Are32BitPairAddresses}
-use Rattle.lfs_model.specs.Names.{Name}
-use Rattle.lfs_model.specs.Shown.{used_blocks}
-use Rattle.lfs_model.specs.View.{IsAcceptedImage}
-use Rattle.lfs_model.proofs.BlockSets.{Contains-occurrence_count_of_number, occurrence_count_of_number-Contains}
-use Rattle.lfs_model.proofs.Counts.{occurrence_count_of_number, count_append}
-use Rattle.lfs_thread.specs.Kept.{KeptThread}
-use Rattle.lfs_thread.specs.Steps.{IsThreadOnlyRead, thread_pair_at_index}
+use Rattle.lfs_operations.proofs.Common.{AllByRecursion, Are32BitPairAddresses, Name, used_blocks, IsAcceptedImage, Contains-occurrence_count_of_number, occurrence_count_of_number-Contains, occurrence_count_of_number, count_append, KeptThread, IsThreadOnlyRead, thread_pair_at_index, blocks_of_pair_address, blocks_of_two_pair_addresses}
 use Rattle.lfs_operations.specs.Altering.{ChangesOnlyGivenAlteredOrFreeBlocks}
 use Rattle.lfs_operations.specs.Changing.{IsPairNotKeptUnchanged}
 use Rattle.lfs_operations.specs.MoveEnds.{HasEndedMoveAt}
@@ -24,7 +16,6 @@ use Rattle.lfs_operations.proofs.MovRename.{across_alters, ends_across}
 use Rattle.lfs_operations.proofs.MovReplace.{ends_onto}
 use Rattle.lfs_operations.proofs.Putting.{read_is, with_history}
 use Rattle.lfs_operations.proofs.RemovedWhole.{can_drop_file}
-use Rattle.lfs_model.specs.Thread.{blocks_of_pair_address, blocks_of_two_pair_addresses}
 
 pub first_of_four : (a c : ℕ × ℕ) (b : ℕ) → Contains (blocks_of_pair_address a) b → Contains (blocks_of_two_pair_addresses a c) b
 first_of_four a c b h = Contains-occurrence_count_of_number (blocks_of_two_pair_addresses a c) b (let k = occurrence_count_of_number-Contains (blocks_of_pair_address a) b h in let e = count_append b (blocks_of_pair_address a) (blocks_of_pair_address c) in omega arith)

@@ -1,19 +1,7 @@
 -- What the last step of a rename onto a directory leaves with what it held: the directory's pair goes.
 use Rattle.std.proofs.Common.{ℕ, zero, suc, ◌≡◌, ◌+◌, ◌-◌, ◌<◌, ◌≤◌, ◌⊎◌, inl, inr, List, [], ◌∷◌, ◌++◌, length, Some, refl, sym, ap, subst, ◌∙◌, arith, get_or}
 use Rattle.std.specs.Prelude.{Contains}
-use Rattle.std.proofs.lemmas.Bool.{cases_lt}
-use Rattle.lfs_model.specs.BlockSets.{IsBlockFree}
-use Rattle.lfs_model.specs.Shown.{all_slots_not_moved, used_blocks}
-use Rattle.lfs_model.specs.Slots.{zero_gstate}
-use Rattle.lfs_model.specs.Thread.{Pair, anchor_pair_address, blocks_of_pairs, pair_address_named_by_tail, blocks_of_pair_address, blocks_of_two_pair_addresses}
-use Rattle.lfs_model.specs.Tree.{Tree}
-use Rattle.lfs_model.specs.View.{IsAcceptedImage}
-use Rattle.lfs_model.proofs.BlockSets.{Contains-occurrence_count_of_number, occurrence_count_of_number-Contains}
-use Rattle.lfs_model.proofs.Counts.{occurrence_count_of_number, count_append, count_here, once_from_distinct}
-use Rattle.lfs_model.proofs.Sites.{IsTrueOfSomeElement, among_right}
-use Rattle.lfs_model.proofs.Splices.{file_blocks_of_slots}
-use Rattle.lfs_thread.specs.Kept.{KeptThread}
-use Rattle.lfs_thread.specs.Steps.{ThreadChangesOnlyTheseBlocks, empty_pair_at_anchor, thread_pair_at_index}
+use Rattle.lfs_operations.proofs.Common.{cases_lt, IsBlockFree, all_slots_not_moved, used_blocks, zero_gstate, Pair, anchor_pair_address, blocks_of_pairs, pair_address_named_by_tail, blocks_of_pair_address, blocks_of_two_pair_addresses, Tree, IsAcceptedImage, Contains-occurrence_count_of_number, occurrence_count_of_number-Contains, occurrence_count_of_number, count_append, count_here, once_from_distinct, IsTrueOfSomeElement, among_right, file_blocks_of_slots, KeptThread, ThreadChangesOnlyTheseBlocks, empty_pair_at_anchor, thread_pair_at_index, DirectoryAddressByPath}
 use Rattle.lfs_operations.specs.Altering.{ChangesOnlyGivenAlteredOrFreeBlocks}
 use Rattle.lfs_operations.specs.Changing.{IsPairNotKeptUnchanged}
 use Rattle.lfs_operations.specs.Dropping.{IsNextPairDropped}
@@ -22,7 +10,6 @@ use Rattle.lfs_operations.proofs.AlteredAcross.{IsKnown, each_known}
 use Rattle.lfs_operations.proofs.AlteredBehind.{gone_alters, owner_counted, same_next, same_owner}
 use Rattle.lfs_operations.proofs.DroppedTails.{over_next}
 use Rattle.lfs_operations.proofs.LastDrop.{IsAllButDropped, end_gone, o_there, pairs_end, taken_end, x_there, y}
-use Rattle.lfs_model.specs.Steps.{DirectoryAddressByPath}
 
 -- ---- pairs of a thread
 

@@ -1,22 +1,13 @@
 -- A pair whose tail named a pair that goes, or names one that comes, doesn't stay with what it held.
 use Rattle.std.proofs.Common.{ℕ, ◌≡◌, ◌+◌, ◌<◌, ◌≤◌, ◌⊎◌, inl, inr, true, false, nat_eq, List, [], ◌∷◌, ◌++◌, length, Option, Some, sym, ap, subst, ◌∙◌, arith}
 use Rattle.std.specs.Prelude.{Contains}
-use Rattle.std.specs.List.{IsDistinct}
-use Rattle.std.proofs.lemmas.Option.{same_Some}
-use Rattle.lfs_model.specs.BlockSets.{AreExactlyTheUsedBlocks, IsBlockFree}
-use Rattle.lfs_model.specs.Shown.{all_slots_not_moved, used_blocks}
-use Rattle.lfs_model.specs.Thread.{AreLinkedByTails, Pair, anchor_pair_address, blocks_of_pairs, is_hard_tail, pair_address_named_by_tail}
-use Rattle.lfs_model.proofs.Counts.{occurrence_count_of_number, count_append, count_here}
-use Rattle.lfs_model.proofs.Sites.{IsTrueOfSomeElement}
-use Rattle.lfs_model.proofs.Splices.{file_blocks_of_slots}
+use Rattle.lfs_operations.proofs.Common.{IsDistinct, same_Some, AreExactlyTheUsedBlocks, IsBlockFree, all_slots_not_moved, used_blocks, AreLinkedByTails, Pair, anchor_pair_address, blocks_of_pairs, is_hard_tail, pair_address_named_by_tail, occurrence_count_of_number, count_append, count_here, IsTrueOfSomeElement, file_blocks_of_slots, KeptThread, thread_pair_at_index}
 use Rattle.lfs_operations.specs.Changing.{IsPairNotKeptUnchanged}
 use Rattle.lfs_operations.specs.Ready.{IsImageReadyForChange}
 use Rattle.lfs_operations.proofs.Altered.{among_contains, links_behind, only_there}
 use Rattle.lfs_operations.proofs.DroppedTails.{front_is, gone_is, two_at}
 use Rattle.lfs_operations.proofs.Placing.{blocks_append}
 use Rattle.lfs_operations.proofs.Owning.{not_used}
-use Rattle.lfs_thread.specs.Kept.{KeptThread}
-use Rattle.lfs_thread.specs.Steps.{thread_pair_at_index}
 
 -- ---- what a tail names
 

@@ -1,46 +1,14 @@
 -- A file that comes, as a step of the thread.
-use Rattle.std.proofs.Common.{ℕ, ◌≡◌, ◌≤◌, true, List, [], ◌∷◌, ◌++◌, length, Some, refl, sym, ap, ap₂, subst, ◌∙◌, arith, length-append, insert}
+use Rattle.std.proofs.Common.{ℕ, ◌≡◌, ◌≤◌, List, [], ◌∷◌, ◌++◌, length, Some, refl, sym, ap, ap₂, subst, ◌∙◌, arith, length-append, insert}
 use Rattle.std.specs.Prelude.{Contains}
 use Rattle.std.specs.Option.{option_and_then}
-use Rattle.std.proofs.lemmas.Bool.{ne_eqb}
-use Rattle.lfs_model.specs.TreeEdits.{tree_after_creation}
-use Rattle.lfs_model.specs.Changes.{raw_pair_content_after_changes}
-use Rattle.lfs_model.specs.Content.{RawPairContent, raw_content_of_pair_at, pair_content_if_slots_complete}
-use Rattle.lfs_model.specs.EntryTypes.{file_name_type, inline_struct_type}
-use Rattle.lfs_model.specs.Cut.{CanSplitSlotsIntoTwoPairs}
-use Rattle.lfs_model.specs.Disk.{Disk}
-use Rattle.lfs_model.specs.History.{DeviceCallEvent}
-use Rattle.lfs_model.specs.InDirectory.{IsPlaceWhereNameBelongs}
-use Rattle.lfs_model.specs.LoggedContent.{IsNameOrStructTheFormatAllows}
-use Rattle.lfs_model.specs.Names.{Name}
+use Rattle.lfs_operations.proofs.Common.{ne_eqb, tree_after_creation, raw_pair_content_after_changes, RawPairContent, raw_content_of_pair_at, pair_content_if_slots_complete, file_name_type, CanSplitSlotsIntoTwoPairs, Disk, DeviceCallEvent, IsPlaceWhereNameBelongs, IsNameOrStructTheFormatAllows, Name, SurvivesPowerLossInCallsSince, Slot, PairContent, path_of_bytes_or_root, Pair, blocks_of_pairs, pair_address_named_by_tail, Session, Tree, FileNode, IsAcceptedImage, entries_by_directory_in_thread, tree_on_disk, IsImageAfterTreeChange, IsImageAfterCompletedOperation, no_move_from, recovered_from, commit_step, complete_insert, complete_length, completed_parts, completed_from, creates_with_struct, does_nothing, slot_with, insert_cut, nothing_there, place_at, insert_here, IsPlace, some_filled, site, place_of_belongs, Site, thread_at, logged_changed, type_of_tag-tag_of_type_id_and_length, length_of_tag-tag_of_type_id_and_length, pair_content_after_changes, PowerLossLeavesSuchBlocksAfterCleanErases, KeptThread, thread_pair_at_index, complete_content_after_changes}
+use Rattle.lfs_model.specs.EntryTypes.{inline_struct_type}
 use Rattle.lfs_model.specs.Operations as ops
 use Rattle.lfs_model.specs.Operations.{FlagsOfOpen}
-use Rattle.lfs_model.specs.PowerLoss.{SurvivesPowerLossInCallsSince}
-use Rattle.lfs_model.specs.Slots.{Slot, PairContent, same_pair}
 use Rattle.lfs_model.specs.SlotEdits.{new_file_slot}
-use Rattle.lfs_model.specs.Refusals.{path_of_bytes_or_root}
-use Rattle.lfs_model.specs.Thread.{Pair, blocks_of_pairs, pair_address_named_by_tail}
-use Rattle.lfs_model.specs.Session.{Session}
-use Rattle.lfs_model.specs.Tree.{Tree, FileNode}
-use Rattle.lfs_model.specs.View.{IsAcceptedImage}
-use Rattle.lfs_model.specs.Shown.{IsPathToDirectory, entries_by_directory_in_thread, tree_on_disk}
-use Rattle.lfs_model.proofs.Changes.{IsImageAfterTreeChange}
-use Rattle.lfs_model.proofs.Committed.{IsImageAfterCompletedOperation, no_move_from, recovered_from, commit_step}
-use Rattle.lfs_model.proofs.Completed.{complete_insert, complete_length, completed_parts, completed_from}
-use Rattle.lfs_model.proofs.Effects.{creates_with_struct, does_nothing, slot_with}
-use Rattle.lfs_model.proofs.Halves.{insert_cut}
-use Rattle.lfs_model.proofs.Indexes.{nothing_there}
-use Rattle.lfs_model.proofs.Moves.{place_at, file_comes, insert_here}
-use Rattle.lfs_model.proofs.Names.{IsPlace}
-use Rattle.lfs_model.proofs.OneCommit.{create_completed, some_filled}
-use Rattle.lfs_model.proofs.Searches.{site, thread_is, is_site, same, number_is, place_of_belongs}
-use Rattle.lfs_model.proofs.Sites.{Site, thread_at, begin_of}
-use Rattle.lfs_model.proofs.StoredChanges.{logged_changed}
-use Rattle.lfs_model.proofs.WrittenAnew.{type_of_tag-tag_of_type_id_and_length, length_of_tag-tag_of_type_id_and_length}
-use Rattle.lfs_pair.specs.Commit.{pair_content_after_changes}
-use Rattle.lfs_thread.specs.Device.{PowerLossLeavesSuchBlocksAfterCleanErases}
-use Rattle.lfs_thread.specs.Kept.{KeptThread}
-use Rattle.lfs_thread.specs.Steps.{thread_pair_at_index, complete_content_after_changes}
+use Rattle.lfs_model.proofs.Moves.{file_comes}
+use Rattle.lfs_model.proofs.OneCommit.{create_completed}
 use Rattle.lfs_operations.specs.Changing.{IsPairNotKeptUnchanged, CanChangeOrSplitPair, IsLeftByStoppedChangeOrSplit, IsPairChangedOrSplit}
 use Rattle.lfs_operations.specs.Creating.{CanCreateFileInPair, IsFileCreated, file_creation_changes, tree_with_new_file}
 use Rattle.lfs_operations.proofs.Altered.{commit_alters}
@@ -49,6 +17,7 @@ use Rattle.lfs_operations.proofs.Splicing.{Commits, IsSplicing}
 use Rattle.lfs_operations.proofs.Threads.{pair_is}
 use Rattle.lfs_operations.proofs.Stepped.{HasStep, becomes, put_step, ready_again, survives}
 use Rattle.lfs_operations.proofs.RenameSlots.{name_length}
+use Rattle.lfs_operations.proofs.PairAt.{HasPairAt, pair_at}
 
 -- ---- the parts of a file's slot
 
@@ -77,6 +46,9 @@ module _ (t : KeptThread) (index id : ℕ) (name : Name) (can : CanCreateFileInP
 
   abbrev w : Site
   w = site t.disk t.pairs can.path can.at can.ready.accepted can.leads can.first index p (b.later ++ b.rest) b.place can.begins
+
+  stand : HasPairAt t index can.path can.at w p
+  stand = pair_at t can.ready can.path can.at can.leads can.first index p (b.later ++ b.rest) b.place can.begins
 
   -- ---- what the changes make
 
@@ -130,18 +102,15 @@ module _ (t : KeptThread) (index id : ℕ) (name : Name) (can : CanCreateFileInP
 
   -- ---- after it
 
-  there : t.pairs ≡ thread_at w (p ∷ [])
-  there = thread_is t.disk t.pairs can.path can.at can.ready.accepted can.leads can.first index p (b.later ++ b.rest) b.place can.begins
-
   slots_now : insert p.content.slots id u ≡ b.left ++ (u ∷ [] ++ b.right)
   slots_now = ap₂ (λ (z : List Slot) (i : ℕ). insert z i u) b.held (sym b.number) ∙ insert_here b.left b.right u
 
   splicing : IsSplicing t index (file_creation_changes id name) w p b.left [] (u ∷ []) b.right [] []
   splicing = record {
     ready = can.ready;
-    there = there;
-    place = number_is t.disk t.pairs can.path can.at can.ready.accepted can.leads can.first index p (b.later ++ b.rest) b.place can.begins;
-    site = is_site t.disk t.pairs can.path can.at can.ready.accepted can.leads can.first index p (b.later ++ b.rest) b.place can.begins;
+    there = stand.there;
+    place = stand.number;
+    site = stand.site;
     content = now;
     made = made;
     tail = refl;
@@ -157,22 +126,16 @@ module _ (t : KeptThread) (index id : ℕ) (name : Name) (can : CanCreateFileInP
     blocks = λ disk geometry files come n. refl;
   }
 
-  leads_there : IsPathToDirectory (thread_at w (p ∷ [])) can.path can.at
-  leads_there = subst (λ z. IsPathToDirectory z can.path can.at) there can.leads
-
-  same_there : same_pair (begin_of w (p ∷ [])) can.at ≡ true
-  same_there = same t.disk t.pairs can.path can.at can.ready.accepted can.leads can.first index p (b.later ++ b.rest) b.place can.begins
-
   place : IsPlace t.disk.order (entries_by_directory_in_thread t.pairs can.at) (place_at w b.left) name
   place = place_of_belongs t.disk t.pairs can.path can.at can.ready.accepted can.leads can.first index id name (no_move_from t.pairs can.ready.settled) b can.begins
 
   place_there : IsPlace t.disk.order (entries_by_directory_in_thread (thread_at w (p ∷ [])) can.at) (place_at w b.left) name
-  place_there = subst (λ z. IsPlace t.disk.order (entries_by_directory_in_thread z can.at) (place_at w b.left) name) there place
+  place_there = subst (λ z. IsPlace t.disk.order (entries_by_directory_in_thread z can.at) (place_at w b.left) name) stand.there place
 
   follows : (disk : Disk) (q : Pair) (more : List Pair) → Commits t w p b.left [] (u ∷ []) b.right [] disk q more
       → IsImageAfterTreeChange t.disk (thread_at w (p ∷ [])) disk (thread_at w (q ∷ more)) (tree_after_creation (can.path ++ name ∷ []) (FileNode [] [])) (λ d. d)
   follows disk q more commit = file_comes t.disk disk w p [] q more (blocks_of_pairs more) [] b.left b.right u (commit_step t.disk disk w p q more [] b.left [] (u ∷ []) b.right commit.commit) can.path can.at
-      leads_there same_there place_there [] refl (λ e. (recovered_from t.disk (thread_at w (p ∷ [])) commit.commit.accepted commit.commit.settled).reached)
+      stand.leads stand.begin place_there [] refl (λ e. (recovered_from t.disk (thread_at w (p ∷ [])) commit.commit.accepted commit.commit.settled).reached)
 
   pub created : (new : KeptThread) → IsPairChangedOrSplit t index (file_creation_changes id name) new → IsFileCreated t new can.path name
   created new is = go (put_step t index (file_creation_changes id name) w p b.left [] (u ∷ []) b.right [] [] splicing new is)
@@ -180,12 +143,12 @@ module _ (t : KeptThread) (index id : ℕ) (name : Name) (can : CanCreateFileInP
       go : HasStep t w p b.left [] (u ∷ []) b.right [] [] new → IsFileCreated t new can.path name
       go s =
           let done = λ (z : Session) (given : List ℕ) (flags : FlagsOfOpen) (tree : z.tree ≡ tree_on_disk t.disk t.pairs) (is_path : path_of_bytes_or_root given ≡ can.path ++ name ∷ []).
-          create_completed t.disk new.disk w p s.q s.more b.left b.right name s.commit.commit can.path can.at leads_there same_there place_there z given flags (tree ∙ ap (tree_on_disk t.disk) there) is_path
+          create_completed t.disk new.disk w p s.q s.more b.left b.right name s.commit.commit can.path can.at stand.leads stand.begin place_there z given flags (tree ∙ ap (tree_on_disk t.disk) stand.there) is_path
           (ap₂ (λ (f : Tree) x. f x) tree is_path ∙ (nothing_there t.disk t.pairs can.path can.at (place_at w b.left) name can.leads place).1) in
           record {
             now = ready_again t new (tree_with_new_file t can.path name) (becomes t index (file_creation_changes id name) w p b.left [] (u ∷ []) b.right [] [] splicing (tree_after_creation (can.path ++ name ∷ []) (FileNode [] []))
                 (λ disk q more commit. ((λ d. d), follows disk q more commit)) (λ e. some_filled b.left b.right u) new s);
-            completed = λ z given flags tree is_path. subst (λ x. IsImageAfterCompletedOperation t.disk x z (ops.Open given flags) new.disk new.pairs) (sym there)
+            completed = λ z given flags tree is_path. subst (λ x. IsImageAfterCompletedOperation t.disk x z (ops.Open given flags) new.disk new.pairs) (sym stand.there)
                 (subst (λ x. IsImageAfterCompletedOperation t.disk (thread_at w (p ∷ [])) z (ops.Open given flags) new.disk x) (sym s.pairs) (done z given flags tree is_path));
           }
 

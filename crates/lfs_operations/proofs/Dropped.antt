@@ -1,40 +1,23 @@
 -- A pair that went from the thread, in an accepted image: what the device holds then, and which blocks the image uses.
-use Rattle.std.proofs.Common.{ℕ, ◌≡◌, ◌≢◌, ◌+◌, ◌≤◌, Bool, true, false, cond, nat_eq, eqb-true, eq-eqb, List, [], ◌∷◌, ◌++◌, length, Option, Some, refl, sym, ap, subst, ◌∙◌, arith, length-set, set, slice_get}
+use Rattle.std.proofs.Common.{ℕ, ◌≡◌, ◌≢◌, ◌⊎◌, inl, inr, ◌+◌, ◌-◌, ◌≤◌, Bool, true, false, cond, nat_eq, eqb-true, eq-eqb, List, [], ◌∷◌, ◌++◌, length, Option, Some, refl, sym, ap, ap₂, subst, subst₂, ◌∙◌, arith, append_assoc, length-append, length-set, set, slice_get}
 use Rattle.std.specs.Prelude.{Contains, ◌↔◌}
-use Rattle.std.proofs.lemmas.List.Elements.{All-from_recursion, recursion_from_All}
-use Rattle.std.proofs.lemmas.Option.{same_Some}
-use Rattle.lfs_model.specs.BlockSets.{AreExactlyTheUsedBlocks, BlockStateList, BlockState, IsBlockInFlight, IsBlockMarkedUsedInMap}
-use Rattle.lfs_model.specs.BlockSets.BlockState.{Free, InFlight, Used}
-use Rattle.lfs_model.specs.Content.{content_of_pair_at, current_block_of_pair_at}
-use Rattle.lfs_model.specs.Disk.{Disk}
-use Rattle.lfs_model.specs.Slots.{PairContent, Slot}
-use Rattle.lfs_model.specs.Thread.{Pair, gstate_of_pairs, blocks_of_pair_address}
-use Rattle.lfs_model.specs.View.{BeginsWithLogEntry, IsAcceptedImage, superblock_name_log_entry}
-use Rattle.lfs_model.specs.Shown.{all_slots_not_moved, used_blocks}
-use Rattle.lfs_model.proofs.BlockSets.{Contains-occurrence_count_of_number, occurrence_count_of_number-Contains, slice_get-set_other, slice_get-set_same}
-use Rattle.lfs_model.proofs.Changes.{SameFiles, slots_files}
-use Rattle.lfs_model.proofs.Counts.{occurrence_count_of_number, count_append, count_here, each_append, each_left, each_right}
-use Rattle.lfs_model.proofs.Files.{HasSameFileBlocksOfStructOnDisks}
-use Rattle.lfs_model.proofs.Global.{HasNoMove}
-use Rattle.lfs_model.proofs.Sites.{Site}
-use Rattle.lfs_model.proofs.Splices.{IsDevice, count_files, file_blocks_of_slots, slots_of_pairs_in_order, unmoved_in}
-use Rattle.lfs_pair.specs.Commit.{KeepsBlocksOutsidePair}
-use Rattle.lfs_thread.specs.Kept.{KeptThread}
-use Rattle.lfs_thread.specs.Steps.{IsPairWrittenOnDisk, SlotsBeginWithSuperblock, thread_pair_at_index, block_map_with_freed_pair}
-use Rattle.lfs_operations.specs.Dropping.{HasSameBlocksInFlight}
-use Rattle.lfs_operations.proofs.DroppedTails.{front_is}
-use Rattle.lfs_operations.proofs.Placing.{IsPlaced, all_apart, blocks_append, device}
+use Rattle.lfs_operations.proofs.Common.{All-from_recursion, recursion_from_All, same_Some, AreExactlyTheUsedBlocks, BlockStateList, BlockState, IsBlockInFlight, IsBlockMarkedUsedInMap, Free, InFlight, Used, Blocks, content_of_pair_at, Disk, AreMoveStateFieldsWithinBitWidths, HasTreeBeforeOrAfterOperation, disk_with_blocks, IsWritableImage, Gstate, IsContentFittingPair, PairContent, Slot, Pair, blocks_of_pairs, gstate_of_pairs, blocks_of_pair_address, Tree, IsAcceptedImage, all_slots_not_moved, tree_on_disk, used_blocks, Contains-occurrence_count_of_number, occurrence_count_of_number-Contains, slice_get-set_other, slice_get-set_same, SameFiles, slots_files, Each, occurrence_count_of_number, count_append, count_here, each_append, each_left, each_right, once_from_distinct, HasSameFileBlocksOfStructOnDisks, HasNoMove, Site, thread_at, IsDevice, count_files, file_blocks_of_slots, slots_of_pairs_in_order, unmoved_in, KeptThread, IsPairWrittenOnDisk, SlotsBeginWithSuperblock, thread_pair_at_index, block_map_with_freed_pair}
+use Rattle.lfs_operations.specs.Dropping.{CanDropPairAt, HasSameBlocksInFlight, IsLeftByStoppedPairDrop, IsNextPairDropped, content_after_next_pair_drop, tail_over_dropped_pair}
+use Rattle.lfs_operations.specs.MoveEnds.{blocks_dropped_at_move_end, map_after_move_ends}
+use Rattle.lfs_operations.proofs.DroppedTails.{front_is, gone_is, gstate_is, without_is}
+use Rattle.lfs_operations.proofs.Placing.{blocks_append, device, left_still}
 use Rattle.lfs_operations.proofs.Taking.{within}
-use Rattle.lfs_operations.proofs.Owning.{slots_append, count_used}
+use Rattle.lfs_operations.proofs.Threads.{placed_one}
+use Rattle.lfs_operations.proofs.Owning.{slots_append, count_used, used_same}
 
 -- ---- the device
 
 -- a pair behind some and in front of some, as a site
-abbrev pub site_between : List Pair → List Pair → Site
+abbrev site_between : List Pair → List Pair → Site
 site_between ahead back = record { chain = ahead; before = []; left = []; right = []; after = back }
 
 -- where a pair more is on the device, those without it are
-pub device_without : (disk new : Disk) (ps ahead : List Pair) (q o : Pair) (back : List Pair) → IsDevice disk new ps (ahead ++ q ∷ o ∷ back) → IsDevice disk new ps (ahead ++ q ∷ back)
+device_without : (disk new : Disk) (ps ahead : List Pair) (q o : Pair) (back : List Pair) → IsDevice disk new ps (ahead ++ q ∷ o ∷ back) → IsDevice disk new ps (ahead ++ q ∷ back)
 device_without disk new ps ahead q o back d = record {
   geometry = d.geometry;
   contents =
@@ -48,32 +31,17 @@ device_without disk new ps ahead q o back d = record {
 }
 
 module _ (t : KeptThread) (n : ℕ) (ahead : List Pair) (p o : Pair) (back : List Pair) (is : t.pairs ≡ ahead ++ p ∷ o ∷ back) (number : length ahead ≡ n) (ok : IsAcceptedImage t.disk (ahead ++ p ∷ o ∷ back)) where
-  at_is : (thread_pair_at_index t n).at ≡ p.at
-  at_is = ap (λ (z : Pair). z.at) (front_is t n ahead p o back is number)
+  device_kept : (disk : Disk) (c : PairContent) → c.slots ≡ p.content.slots → IsPairWrittenOnDisk t n c disk → IsDevice t.disk disk (ahead ++ p ∷ o ∷ back) (ahead ++ record { at = p.at; content = c } ∷ o ∷ back)
+  device_kept disk c same w = device t.disk disk (site_between ahead (o ∷ back)) p (record { at = p.at; content = c }) [] [] ok ok.owned_once
+      (placed_one t n (site_between ahead (o ∷ back)) p is (let e = number in omega arith) disk c (λ h. subst SlotsBeginWithSuperblock (sym same) (h.kind, h.name)) w)
 
-  -- the pair holds a content with its slots
-  placed : (disk : Disk) (c : PairContent) → c.slots ≡ p.content.slots → IsPairWrittenOnDisk t n c disk → IsPlaced t.disk disk p (record { at = p.at; content = c }) [] []
-  placed disk c same w = record {
-    geometry = record { block_size = w.shape.block_size; page = w.shape.page; order = w.shape.order; profile = w.shape.profile; count = w.shape.count };
-    same = λ b none. (subst (λ at. KeepsBlocksOutsidePair at t.disk.blocks disk.blocks) at_is w.others).others b (all_apart (p.at.0 ∷ p.at.1 ∷ []) b none);
-    contents = (ap (content_of_pair_at disk) (sym at_is) ∙ w.holds, tt);
-    first = λ h b. subst (λ at. BeginsWithLogEntry (current_block_of_pair_at disk at) superblock_name_log_entry) at_is
-        (w.first (subst (λ at. BeginsWithLogEntry (current_block_of_pair_at t.disk at) superblock_name_log_entry) (sym at_is) b) (subst SlotsBeginWithSuperblock (sym same) (h.kind, h.name)));
-  }
-
-  pub device_kept : (disk : Disk) (c : PairContent) → c.slots ≡ p.content.slots → IsPairWrittenOnDisk t n c disk → IsDevice t.disk disk (ahead ++ p ∷ o ∷ back) (ahead ++ record { at = p.at; content = c } ∷ o ∷ back)
-  device_kept disk c same w = device t.disk disk (site_between ahead (o ∷ back)) p (record { at = p.at; content = c }) [] [] ok ok.owned_once (placed disk c same w)
-
-  pub device_dropped : (disk : Disk) (c : PairContent) → c.slots ≡ p.content.slots → IsPairWrittenOnDisk t n c disk → IsDevice t.disk disk (ahead ++ p ∷ o ∷ back) (ahead ++ record { at = p.at; content = c } ∷ back)
+  device_dropped : (disk : Disk) (c : PairContent) → c.slots ≡ p.content.slots → IsPairWrittenOnDisk t n c disk → IsDevice t.disk disk (ahead ++ p ∷ o ∷ back) (ahead ++ record { at = p.at; content = c } ∷ back)
   device_dropped disk c same w = device_without t.disk disk (ahead ++ p ∷ o ∷ back) ahead (record { at = p.at; content = c }) o back (device_kept disk c same w)
 
 -- ---- the blocks
 
-module _ (disk new : Disk) (ahead : List Pair) (p o q : Pair) (back : List Pair) (none : HasNoMove (gstate_of_pairs (ahead ++ p ∷ o ∷ back))) (still : HasNoMove (gstate_of_pairs (ahead ++ q ∷ back)))
-    (d : IsDevice disk new (ahead ++ p ∷ o ∷ back) (ahead ++ q ∷ back)) (at : q.at ≡ p.at) (slots : q.content.slots ≡ p.content.slots) where
-  abbrev F : Slot → Type 0
-  F s = HasSameFileBlocksOfStructOnDisks disk new s.struct
-
+module _ (disk new : Disk) (ahead : List Pair) (p o q : Pair) (back : List Pair) (none : HasNoMove (gstate_of_pairs (ahead ++ p ∷ o ∷ back)))
+    (d : IsDevice disk new (ahead ++ p ∷ o ∷ back) (ahead ++ q ∷ back)) (slots : q.content.slots ≡ p.content.slots) where
   same : SameFiles disk new (slots_of_pairs_in_order ahead ++ (p.content.slots ++ (o.content.slots ++ slots_of_pairs_in_order back)))
   same = subst (SameFiles disk new) (unmoved_in (gstate_of_pairs (ahead ++ p ∷ o ∷ back)) none (ahead ++ p ∷ o ∷ back) ∙ slots_append ahead (p ∷ o ∷ back))
       (recursion_from_All (λ (s : Slot). HasSameFileBlocksOfStructOnDisks disk new s.struct) (all_slots_not_moved (ahead ++ p ∷ o ∷ back)) d.files)
@@ -81,9 +49,9 @@ module _ (disk new : Disk) (ahead : List Pair) (p o q : Pair) (back : List Pair)
   kept : (ss : List Slot) → SameFiles disk new ss → (b : ℕ) → occurrence_count_of_number b (file_blocks_of_slots new ss) ≡ occurrence_count_of_number b (file_blocks_of_slots disk ss)
   kept ss h b = ap (occurrence_count_of_number b) (slots_files disk new ss d.geometry h)
 
-  -- what the image doesn't use any more: the pair's blocks, and those of its slots' lists
-  pub dropped_count : (b : ℕ) → (occurrence_count_of_number b (used_blocks new (ahead ++ q ∷ back)) + occurrence_count_of_number b (file_blocks_of_slots disk o.content.slots)) + occurrence_count_of_number b (blocks_of_pair_address o.at) ≡ occurrence_count_of_number b (used_blocks disk (ahead ++ p ∷ o ∷ back))
-  dropped_count b =
+  files_dropped : (b : ℕ) → occurrence_count_of_number b (file_blocks_of_slots new (slots_of_pairs_in_order (ahead ++ q ∷ back))) + occurrence_count_of_number b (file_blocks_of_slots disk o.content.slots)
+      ≡ occurrence_count_of_number b (file_blocks_of_slots disk (slots_of_pairs_in_order (ahead ++ p ∷ o ∷ back)))
+  files_dropped b =
       let g = slots_of_pairs_in_order back in
       let f = slots_of_pairs_in_order ahead in
       let h1 = each_left (λ (s : Slot). HasSameFileBlocksOfStructOnDisks disk new s.struct) f (p.content.slots ++ (o.content.slots ++ g)) same in
@@ -93,8 +61,6 @@ module _ (disk new : Disk) (ahead : List Pair) (p o q : Pair) (back : List Pair)
       let e1 = kept f h1 b in
       let e2 = kept p.content.slots h3 b in
       let e3 = kept g h4 b in
-      let a1 = count_used b new (ahead ++ q ∷ back) still in
-      let a2 = count_used b disk (ahead ++ p ∷ o ∷ back) none in
       let b1 = ap (λ z. occurrence_count_of_number b (file_blocks_of_slots new z)) (slots_append ahead (q ∷ back)) in
       let b2 = ap (λ z. occurrence_count_of_number b (file_blocks_of_slots disk z)) (slots_append ahead (p ∷ o ∷ back)) in
       let c1 = count_files b new f (q.content.slots ++ g) in
@@ -103,18 +69,28 @@ module _ (disk new : Disk) (ahead : List Pair) (p o q : Pair) (back : List Pair)
       let c4 = count_files b disk f (p.content.slots ++ (o.content.slots ++ g)) in
       let c5 = count_files b disk p.content.slots (o.content.slots ++ g) in
       let c6 = count_files b disk o.content.slots g in
-      let d1 = blocks_append ahead (q ∷ back) b in
-      let d2 = blocks_append ahead (p ∷ o ∷ back) b in
-      let d3 = blocks_append (q ∷ []) back b in
-      let d4 = blocks_append (p ∷ []) (o ∷ back) b in
-      let d5 = blocks_append (o ∷ []) back b in
-      let d6 = ap (λ (a : ℕ × ℕ). occurrence_count_of_number b (a.0 ∷ a.1 ∷ [])) at in
       omega arith
+
+blocks_dropped : (ahead : List Pair) (p o q : Pair) (back : List Pair) → q.at ≡ p.at → (b : ℕ) → occurrence_count_of_number b (blocks_of_pairs (ahead ++ q ∷ back)) + occurrence_count_of_number b (blocks_of_pair_address o.at) ≡ occurrence_count_of_number b (blocks_of_pairs (ahead ++ p ∷ o ∷ back))
+blocks_dropped ahead p o q back at b =
+    let d1 = blocks_append ahead (q ∷ back) b in
+    let d2 = blocks_append ahead (p ∷ o ∷ back) b in
+    let d3 = blocks_append (q ∷ []) back b in
+    let d4 = blocks_append (p ∷ []) (o ∷ back) b in
+    let d5 = blocks_append (o ∷ []) back b in
+    let d6 = ap (λ (a : ℕ × ℕ). occurrence_count_of_number b (a.0 ∷ a.1 ∷ [])) at in
+    omega arith
 
 -- ---- the map
 
 not_both : {a b : BlockState} → (a ≡ b → ⊥) → {o : Option BlockState} → o ≡ Some a → o ≡ Some b → ⊥
 not_both {a} {b} n e f = n (same_Some a b (sym e ∙ f))
+
+-- The used blocks of a map that came from another one are these. The same blocks are in flight.
+pub record HasMapWithout (sets new : BlockStateList) (owned : List ℕ) : Type 0 where
+  pub used : AreExactlyTheUsedBlocks new owned
+  pub size : length new ≡ length sets
+  pub flying : HasSameBlocksInFlight sets new
 
 -- The blocks of a pair are free; they were used, each once.
 module _ (sets : BlockStateList) (at : ℕ × ℕ) (us vs : List ℕ) (used : AreExactlyTheUsedBlocks sets us) (once : (b : ℕ) → occurrence_count_of_number b us ≤ 1) (less : (b : ℕ) → occurrence_count_of_number b vs + occurrence_count_of_number b (blocks_of_pair_address at) ≡ occurrence_count_of_number b us) where
@@ -149,10 +125,7 @@ module _ (sets : BlockStateList) (at : ℕ × ℕ) (us vs : List ℕ) (used : Ar
   elsewhere b e f = slice_get-set_other (set sets at.0 Free) at.1 b Free (λ k. absurd (let z = sym (eq-eqb b at.1 k) ∙ f in cc))
       ∙ slice_get-set_other sets at.0 b Free (λ k. absurd (let z = sym (eq-eqb b at.0 k) ∙ e in cc))
 
-  pub length_fewer : length (block_map_with_freed_pair sets at) ≡ length sets
-  length_fewer = length-set (set sets at.0 Free) at.1 Free ∙ length-set sets at.0 Free
-
-  pub used_fewer : AreExactlyTheUsedBlocks (block_map_with_freed_pair sets at) vs
+  used_fewer : AreExactlyTheUsedBlocks (block_map_with_freed_pair sets at) vs
   used_fewer b = go (nat_eq b at.0) (nat_eq b at.1) refl refl (less b)
     where
       gone : slice_get (block_map_with_freed_pair sets at) b ≡ Some Free → occurrence_count_of_number b vs ≡ 0 → IsBlockMarkedUsedInMap (block_map_with_freed_pair sets at) b ↔ Contains vs b
@@ -167,7 +140,7 @@ module _ (sets : BlockStateList) (at : ℕ × ℕ) (us vs : List ℕ) (used : Ar
             (λ h. same ∙ (used b).1 (Contains-occurrence_count_of_number us b (let n = occurrence_count_of_number-Contains vs b h in omega arith))),
           )
 
-  pub flying_same : HasSameBlocksInFlight sets (block_map_with_freed_pair sets at)
+  flying_same : HasSameBlocksInFlight sets (block_map_with_freed_pair sets at)
   flying_same b = go (nat_eq b at.0) (nat_eq b at.1) refl refl
     where
       neither : slice_get (block_map_with_freed_pair sets at) b ≡ Some Free → slice_get sets b ≡ Some Used → IsBlockInFlight (block_map_with_freed_pair sets at) b ↔ IsBlockInFlight sets b
@@ -177,3 +150,130 @@ module _ (sets : BlockStateList) (at : ℕ × ℕ) (us vs : List ℕ) (used : Ar
       go true y e f = let k = eqb-true b at.0 e in neither (ap (slice_get (block_map_with_freed_pair sets at)) k ∙ first_free) (ap (slice_get sets) k ∙ was_used at.0 first_there)
       go false true e f = let k = eqb-true b at.1 f in neither (ap (slice_get (block_map_with_freed_pair sets at)) k ∙ second_free) (ap (slice_get sets) k ∙ was_used at.1 second_there)
       go false false e f = let same = elsewhere b e f in ((λ h. sym same ∙ h), (λ h. same ∙ h))
+
+  pub map_without : (new : BlockStateList) → new ≡ block_map_with_freed_pair sets at → HasMapWithout sets new vs
+  map_without new is = subst (λ z. HasMapWithout sets z vs) (sym is) (record { used = used_fewer; size = length-set (set sets at.0 Free) at.1 Free ∙ length-set sets at.0 Free; flying = flying_same })
+
+-- the map after the end of a move, which frees the pair or not
+pub map_ended : (t : KeptThread) (index : ℕ) (goes : Bool) (us vs : List ℕ) → AreExactlyTheUsedBlocks t.map us → ((b : ℕ) → occurrence_count_of_number b us ≤ 1)
+    → ((b : ℕ) → occurrence_count_of_number b vs + occurrence_count_of_number b (blocks_dropped_at_move_end t index goes) ≡ occurrence_count_of_number b us) → (new : BlockStateList) → new ≡ map_after_move_ends t index goes → HasMapWithout t.map new vs
+map_ended t index true us vs used once less new is = map_without t.map (thread_pair_at_index t index).at us vs used once less new is
+map_ended t index false us vs used once less new is = subst (λ z. HasMapWithout t.map z vs) (sym is) (record { used = used_same t.map us vs (λ b. let e = less b in omega arith) used; size = refl; flying = λ b. ((λ h. h), (λ h. h)) })
+
+-- ---- a pair that is dropped by a commit to the one in front of it
+
+-- The pair o of that number stands behind x, in an image that may be written. The global state is to become `state`.
+pub record IsToBeDropped (t : KeptThread) (index : ℕ) (state : Gstate) (w : Site) (x o : Pair) : Type 0 where
+  pub accepted : IsAcceptedImage t.disk t.pairs
+  pub writable : IsWritableImage t.disk t.pairs
+  pub storable : AreMoveStateFieldsWithinBitWidths state
+  pub there : t.pairs ≡ thread_at w (x ∷ o ∷ [])
+  pub number : length (w.chain ++ (w.before ++ w.left)) + 1 ≡ index
+
+module _ {t : KeptThread} {index : ℕ} {state : Gstate} {w : Site} {x o : Pair} (k : IsToBeDropped t index state w x o) where
+  abbrev ahead : List Pair
+  ahead = w.chain ++ (w.before ++ w.left)
+
+  abbrev back : List Pair
+  back = w.right ++ w.after
+
+  pub grouped : (ps : List Pair) → thread_at w ps ≡ (w.chain ++ (w.before ++ w.left)) ++ (ps ++ (w.right ++ w.after))
+  grouped ps = sym (append_assoc w.chain (w.before ++ w.left) (ps ++ (w.right ++ w.after)))
+
+  pub is : t.pairs ≡ (w.chain ++ (w.before ++ w.left)) ++ x ∷ o ∷ (w.right ++ w.after)
+  is = k.there ∙ grouped (x ∷ o ∷ [])
+
+  number : length ahead ≡ index - 1
+  number = let e = k.number in omega arith
+
+  accepted_is : IsAcceptedImage t.disk (ahead ++ x ∷ o ∷ back)
+  accepted_is = subst (IsAcceptedImage t.disk) is k.accepted
+
+  pub front_there : thread_pair_at_index t (index - 1) ≡ x
+  front_there = front_is t (index - 1) ahead x o back is number
+
+  pub gone_there : thread_pair_at_index t (index - 1 + 1) ≡ o
+  gone_there = gone_is t (index - 1) ahead x o back is number
+
+  pub can_drop_pair : CanDropPairAt t index state
+  can_drop_pair = record {
+    above = let e = k.number in omega arith;
+    below = let l = ap length is in let a = length-append ahead (x ∷ o ∷ back) in let n = k.number in omega arith;
+    thread = k.accepted.thread;
+    fits = subst (λ (z : Pair). IsContentFittingPair t.disk.block_size t.disk.page z.content) (sym front_there)
+        (each_right (λ (z : Pair). IsContentFittingPair t.disk.block_size t.disk.page z.content) ahead (x ∷ o ∷ back)
+        (subst (Each (λ (z : Pair). IsContentFittingPair t.disk.block_size t.disk.page z.content)) is (recursion_from_All (λ (z : Pair). IsContentFittingPair t.disk.block_size t.disk.page z.content) t.pairs k.writable.pairs))).0;
+    storable = k.storable;
+  }
+
+  -- what x holds then
+  abbrev pub content_left : PairContent
+  content_left = content_after_next_pair_drop t (index - 1) state
+
+  abbrev pub pair_left : Pair
+  pair_left = record { at = x.at; content = content_after_next_pair_drop t (index - 1) state }
+
+  pub slots_left : (content_after_next_pair_drop t (index - 1) state).slots ≡ x.content.slots
+  slots_left = ap (λ (z : Pair). z.content.slots) front_there
+
+  pub tail_left : (content_after_next_pair_drop t (index - 1) state).tail ≡ tail_over_dropped_pair x.content.tail o.content.tail
+  tail_left = ap₂ (λ (y z : Pair). tail_over_dropped_pair y.content.tail z.content.tail) front_there gone_there
+
+  pub state_left : gstate_of_pairs (thread_at w (record { at = x.at; content = content_after_next_pair_drop t (index - 1) state } ∷ [])) ≡ state
+  state_left = ap gstate_of_pairs (grouped (pair_left ∷ [])) ∙ gstate_is t (index - 1) ahead x o back is number state pair_left refl
+
+  device_grouped : (disk : Disk) → IsPairWrittenOnDisk t (index - 1) content_left disk → IsDevice t.disk disk (ahead ++ x ∷ o ∷ back) (ahead ++ pair_left ∷ back)
+  device_grouped disk written = device_dropped t (index - 1) ahead x o back is number accepted_is disk content_left slots_left written
+
+  pub device_left : (disk : Disk) → IsPairWrittenOnDisk t (index - 1) (content_after_next_pair_drop t (index - 1) state) disk
+      → IsDevice t.disk disk (thread_at w (x ∷ o ∷ [])) (thread_at w (record { at = x.at; content = content_after_next_pair_drop t (index - 1) state } ∷ []))
+  device_left disk written = subst₂ (IsDevice t.disk disk) (sym (grouped (x ∷ o ∷ []))) (sym (grouped (pair_left ∷ []))) (device_grouped disk written)
+
+  -- a stop leaves the pairs as they were, or without that one
+  pub left_dropped : {before after : Tree} → (tree_on_disk t.disk t.pairs ≡ before) ⊎ (tree_on_disk t.disk t.pairs ≡ after)
+      → ((disk : Disk) → IsPairWrittenOnDisk t (index - 1) (content_after_next_pair_drop t (index - 1) state) disk → HasTreeBeforeOrAfterOperation disk before after)
+      → (left : Blocks) → IsLeftByStoppedPairDrop t (index - 1) state left → HasTreeBeforeOrAfterOperation (disk_with_blocks left t.disk) before after
+  left_dropped {before = before} {after = after} shows then left l = go l.is
+    where
+      go : (l.content ≡ (thread_pair_at_index t (index - 1)).content) ⊎ (l.content ≡ content_after_next_pair_drop t (index - 1) state) → HasTreeBeforeOrAfterOperation (disk_with_blocks left t.disk) before after
+      go (inl e) = left_still t.disk left t.pairs k.accepted k.writable (subst (λ z. IsDevice t.disk (disk_with_blocks left t.disk) z z) (sym is)
+          (device_kept t (index - 1) ahead x o back is number accepted_is (disk_with_blocks left t.disk) x.content refl
+          (subst (λ y. IsPairWrittenOnDisk t (index - 1) y (disk_with_blocks left t.disk)) (e ∙ ap (λ (z : Pair). z.content) front_there) l.written))) shows
+      go (inr e) = then (disk_with_blocks left t.disk) (subst (λ y. IsPairWrittenOnDisk t (index - 1) y (disk_with_blocks left t.disk)) e l.written)
+
+  -- ---- after it
+
+  module _ (new : KeptThread) (d : IsNextPairDropped t (index - 1) state new) where
+    pub pairs_left : new.pairs ≡ thread_at w (record { at = x.at; content = content_after_next_pair_drop t (index - 1) state } ∷ [])
+    pairs_left = d.pairs ∙ without_is t (index - 1) ahead x o back is number content_left ∙ sym (grouped (pair_left ∷ []))
+
+    pub map_left : new.map ≡ block_map_with_freed_pair t.map o.at
+    map_left = d.map ∙ ap (λ (z : Pair). block_map_with_freed_pair t.map z.at) gone_there
+
+    pairs_now : new.pairs ≡ ahead ++ pair_left ∷ back
+    pairs_now = pairs_left ∙ grouped (pair_left ∷ [])
+
+    pub blocks_left : (b : ℕ) → occurrence_count_of_number b (blocks_of_pairs new.pairs) + occurrence_count_of_number b (blocks_of_pair_address o.at) ≡ occurrence_count_of_number b (blocks_of_pairs t.pairs)
+    blocks_left b =
+        ap (λ z. occurrence_count_of_number b (blocks_of_pairs z) + occurrence_count_of_number b (blocks_of_pair_address o.at)) pairs_now
+        ∙ blocks_dropped ahead x o pair_left back refl b ∙ ap (λ z. occurrence_count_of_number b (blocks_of_pairs z)) (sym is)
+
+    module _ (none : HasNoMove (gstate_of_pairs t.pairs)) (still : HasNoMove state) where
+      pub files_left : (b : ℕ) → occurrence_count_of_number b (file_blocks_of_slots new.disk (slots_of_pairs_in_order new.pairs)) + occurrence_count_of_number b (file_blocks_of_slots t.disk o.content.slots)
+          ≡ occurrence_count_of_number b (file_blocks_of_slots t.disk (slots_of_pairs_in_order t.pairs))
+      files_left b =
+          ap (λ z. occurrence_count_of_number b (file_blocks_of_slots new.disk (slots_of_pairs_in_order z)) + occurrence_count_of_number b (file_blocks_of_slots t.disk o.content.slots)) pairs_now
+          ∙ files_dropped t.disk new.disk ahead x o pair_left back (subst (λ z. HasNoMove (gstate_of_pairs z)) is none) (device_grouped new.disk d.written) slots_left b
+          ∙ ap (λ z. occurrence_count_of_number b (file_blocks_of_slots t.disk (slots_of_pairs_in_order z))) (sym is)
+
+      -- what the image doesn't use any more: the pair's blocks, and those of its slots' lists
+      pub used_left : (b : ℕ) → (occurrence_count_of_number b (used_blocks new.disk new.pairs) + occurrence_count_of_number b (file_blocks_of_slots t.disk o.content.slots)) + occurrence_count_of_number b (blocks_of_pair_address o.at) ≡ occurrence_count_of_number b (used_blocks t.disk t.pairs)
+      used_left b =
+          let f = files_left b in
+          let e = blocks_left b in
+          let u = count_used b new.disk new.pairs (subst HasNoMove (sym d.gstate) still) in
+          let v = count_used b t.disk t.pairs none in
+          omega arith
+
+      pub map_dropped : AreExactlyTheUsedBlocks t.map (used_blocks t.disk t.pairs) → (owned : List ℕ) → ((b : ℕ) → occurrence_count_of_number b owned ≡ occurrence_count_of_number b (used_blocks new.disk new.pairs) + occurrence_count_of_number b (file_blocks_of_slots t.disk o.content.slots)) → HasMapWithout t.map new.map owned
+      map_dropped used owned are = map_without t.map o.at (used_blocks t.disk t.pairs) owned used (λ b. once_from_distinct (used_blocks t.disk t.pairs) k.accepted.owned_once b) (λ b. let e = are b in let f = used_left b in omega arith) new.map map_left

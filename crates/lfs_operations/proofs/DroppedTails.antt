@@ -2,24 +2,10 @@
 use Rattle.std.proofs.Common.{ℕ, zero, suc, ◌≡◌, ◌+◌, ◌<◌, ◌&&◌, Bool, true, false, cond, not, inl, inr, ◌⊎◌, List, [], ◌∷◌, ◌++◌, length, Option, Some, None, refl, sym, ap, ap₂, subst, ◌∙◌, arith, get_or, set, remove}
 use Rattle.std.specs.Option.{option_and_then}
 use Rattle.std.specs.Prelude.{slice_index}
-use Rattle.std.proofs.lemmas.Nat.{xor_lt}
-use Rattle.std.proofs.lemmas.Option.{same_Some}
+use Rattle.lfs_operations.proofs.Common.{xor_lt, same_Some, Blocks, PutMove, PutTail, raw_pair_content_after_changes, RawPairContent, pair_content_if_slots_complete, content_after_log_entries, content_of_pair_at, has_commit, current_block_of_two, current_block_of_pair_at, is_later_revision, empty_raw_pair_content, raw_content_of_pair_at, Disk, block_bytes_on_disk, log_entries_of_block, revision_of_block, IsWellFormedRawPairContent, AreMoveStateFieldsWithinBitWidths, PairContent, IsContentFittingPair, Gstate, Tail, gstate_xor, zero_gstate, Pair, gstate_of_pairs, pair_address_named_by_tail, completed_from, completed_parts, Each, each_right, each_weaker, Does, does_first, does_nothing, puts_move, puts_tail, gstate_assoc, gstate_comm, gstate_cons, gstate_moved, gstate_right, gstate_self, logged, KeptThread, CanDropNextPair, IsPairAfterIndexDropped, PowerLossLeavesPairOldOrChanged, IsCommitRefused, IsPairWrittenOnDisk, complete_content_after_changes, empty_pair_at_anchor, thread_pair_at_index, change_that_sets_tail, thread_pairs_with_content_replaced_at_index}
 use Rattle.lfs_device.specs.Bytes.{AreAllBlockElementsBelow256}
-use Rattle.lfs_model.specs.Blocks.{Blocks}
-use Rattle.lfs_model.specs.Changes.{PutMove, PutTail, raw_pair_content_after_changes}
-use Rattle.lfs_model.specs.Content.{RawPairContent, pair_content_if_slots_complete, content_after_log_entries, content_of_pair_at, has_commit, current_block_of_two, current_block_of_pair_at, is_later_revision, empty_raw_pair_content, raw_content_of_pair_at}
-use Rattle.lfs_model.specs.Disk.{Disk, block_bytes_on_disk}
-use Rattle.lfs_model.specs.Log.{log_entries_of_block, revision_of_block}
-use Rattle.lfs_model.specs.LoggedContent.{IsWellFormedRawPairContent, AreMoveStateFieldsWithinBitWidths, IsNonNull32BitTailIfSome}
-use Rattle.lfs_model.specs.Slots.{PairContent, IsContentFittingPair, Gstate, Tail, gstate_xor, zero_gstate}
-use Rattle.lfs_model.specs.Thread.{Pair, gstate_of_pairs, pair_address_named_by_tail}
-use Rattle.lfs_model.proofs.Completed.{completed_from, completed_parts}
-use Rattle.lfs_model.proofs.Counts.{Each, each_right, each_weaker}
-use Rattle.lfs_model.proofs.Effects.{Does, does_first, does_nothing, ends_tail, puts_move, puts_tail}
-use Rattle.lfs_model.proofs.Global.{gstate_assoc, gstate_comm, gstate_cons, gstate_moved, gstate_right, gstate_self}
-use Rattle.lfs_model.proofs.Logged.{logged}
-use Rattle.lfs_thread.specs.Kept.{KeptThread}
-use Rattle.lfs_thread.specs.Steps.{CanDropNextPair, IsPairAfterIndexDropped, PowerLossLeavesPairOldOrChanged, IsCommitRefused, IsPairWrittenOnDisk, complete_content_after_changes, empty_pair_at_anchor, thread_pair_at_index, change_that_sets_tail, thread_pairs_with_content_replaced_at_index}
+use Rattle.lfs_model.specs.LoggedContent.{IsNonNull32BitTailIfSome}
+use Rattle.lfs_model.proofs.Effects.{ends_tail}
 use Rattle.lfs_operations.specs.Dropping.{IsNextPairDropped, IsLeftByStoppedPairDrop, delta_after_next_pair_drop, tail_after_next_pair_drop, tail_over_dropped_pair, drop_next_pair_changes, content_after_next_pair_drop}
 use Rattle.lfs_operations.proofs.Held.{completes_to}
 use Rattle.lfs_operations.proofs.Threads.{get_at, set_at}

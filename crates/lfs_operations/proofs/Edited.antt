@@ -1,36 +1,13 @@
 -- An entry whose attributes change, as a step of the thread.
 use Rattle.std.proofs.Common.{ℕ, ◌≡◌, ◌^◌, ◌<◌, ◌≤◌, true, false, List, [], ◌∷◌, ◌++◌, Some, refl, sym, ap, subst, ◌∙◌, arith, inl}
 use Rattle.std.specs.Prelude.{All}
-use Rattle.lfs_model.specs.Names.{Name}
-use Rattle.std.proofs.lemmas.List.Elements.{recursion_from_All}
-use Rattle.lfs_model.specs.TreeEdits.{attributes_of_node, tree_after_change_of_node, node_with_attributes}
-use Rattle.lfs_model.specs.Changes.{PairContentChange, PutAttribute, RemoveAttribute}
-use Rattle.lfs_model.specs.Content.{RawSlot, attributes_with_attribute, attributes_without_attribute}
-use Rattle.lfs_model.specs.Disk.{Disk}
-use Rattle.lfs_model.specs.History.{DeviceCallEvent}
+use Rattle.lfs_operations.proofs.Common.{Name, recursion_from_All, tree_after_change_of_node, PairContentChange, PutAttribute, RawSlot, attributes_with_attribute, attributes_without_attribute, Disk, DeviceCallEvent, Operation, SurvivesPowerLossInCallsSince, Session, path_of_bytes_or_root, Attributes, Slot, is_superblock, same_pair, slot_size, Pair, blocks_of_pairs, Tree, IsFileOrDirectoryEntry, IsSkipListIfCtzStruct, IsEntryWithinWritableLimits, IsSlotWithinWritableLimits, IsPathToDirectory, all_slots_not_moved, tree_on_disk, IsImageAfterTreeChange, IsImageAfterCompletedOperation, recovered_from, commit_step, Each, each_right, occurrence_count_of_number, puts_attribute, file_blocks_same, is_list_same, IsTrueAfterAnyPowerLossSince-weaker, some_filled, Site, thread_at, begin_of, PowerLossLeavesSuchBlocksAfterCleanErases, KeptThread, CanChangePair, IsPairChanged, PowerLossLeavesPairOldOrChanged, IsCommitRefused}
+use Rattle.lfs_model.specs.TreeEdits.{attributes_of_node, node_with_attributes}
+use Rattle.lfs_model.specs.Changes.{RemoveAttribute}
 use Rattle.lfs_model.specs.Operations as ops
-use Rattle.lfs_model.specs.Operations.{Operation}
-use Rattle.lfs_model.specs.PowerLoss.{SurvivesPowerLossInCallsSince}
-use Rattle.lfs_model.specs.Session.{Session}
-use Rattle.lfs_model.specs.Refusals.{path_of_bytes_or_root}
-use Rattle.lfs_model.specs.Slots.{Attributes, Slot, is_superblock, same_pair, slot_size}
-use Rattle.lfs_model.specs.Thread.{Pair, blocks_of_pairs}
-use Rattle.lfs_model.specs.Tree.{Tree}
-use Rattle.lfs_model.specs.View.{IsFileOrDirectoryEntry, IsSkipListIfCtzStruct}
-use Rattle.lfs_model.specs.Profile.{IsEntryWithinWritableLimits, IsSlotWithinWritableLimits}
-use Rattle.lfs_model.specs.Shown.{IsPathToDirectory, all_slots_not_moved, tree_on_disk}
-use Rattle.lfs_model.proofs.Changes.{IsImageAfterTreeChange}
-use Rattle.lfs_model.proofs.Committed.{IsImageAfterCompletedOperation, recovered_from, commit_step}
-use Rattle.lfs_model.proofs.Counts.{Each, each_right, occurrence_count_of_number}
-use Rattle.lfs_model.proofs.Effects.{puts_attribute, removes_attribute}
-use Rattle.lfs_model.proofs.Files.{file_blocks_same, is_list_same}
-use Rattle.lfs_model.proofs.Histories.{IsTrueAfterAnyPowerLossSince-weaker}
+use Rattle.lfs_model.proofs.Effects.{removes_attribute}
 use Rattle.lfs_model.proofs.Moves.{attributes_change}
-use Rattle.lfs_model.proofs.OneCommit.{remove_attr_completed, set_attr_completed, some_filled}
-use Rattle.lfs_model.proofs.Sites.{Site, thread_at, begin_of}
-use Rattle.lfs_thread.specs.Device.{PowerLossLeavesSuchBlocksAfterCleanErases}
-use Rattle.lfs_thread.specs.Kept.{KeptThread}
-use Rattle.lfs_thread.specs.Steps.{CanChangePair, IsPairChanged, PowerLossLeavesPairOldOrChanged, IsCommitRefused}
+use Rattle.lfs_model.proofs.OneCommit.{remove_attr_completed, set_attr_completed}
 use Rattle.lfs_operations.specs.Changing.{CanChangeOrSplitPair, IsLeftByStoppedChangeOrSplit, IsPairChangedOrSplit}
 use Rattle.lfs_operations.specs.Editing.{CanEditEntryOfPair, CanSetAttribute, HasRemovedAttribute, HasSetAttribute, slot_of_editable_entry, tree_with_attributes_at}
 use Rattle.lfs_operations.specs.Ready.{ShowsTreeReadyForChange}

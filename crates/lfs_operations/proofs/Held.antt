@@ -3,20 +3,8 @@ use Rattle.std.proofs.Common.{ℕ, ◌≡◌, ◌+◌, ◌<◌, false, take, dro
 use Rattle.std.specs.Option.{option_and_then}
 use Rattle.std.specs.Prelude.{slice_index}
 use Rattle.lfs_model.specs.declared.limits.AcceptedVersions.{AcceptedVersions}
-use Rattle.lfs_model.specs.Log.{log_entries_of_block}
-use Rattle.lfs_model.proofs.Logged.{logged}
-use Rattle.std.proofs.lemmas.List.Elements.{recursion_from_All}
-use Rattle.lfs_model.specs.Content.{RawPairContent, raw_content_of_pair_at, content_after_log_entries, content_of_pair_at, pair_content_if_slots_complete, current_block_of_pair_at, empty_raw_pair_content}
-use Rattle.lfs_model.specs.Disk.{Disk}
-use Rattle.lfs_model.specs.InDirectory.{IsPairOfDirectory}
-use Rattle.lfs_model.specs.Slots.{PairContent, IsContentFittingPair, Slot, is_superblock}
-use Rattle.lfs_model.specs.View.{HasSuperblockIfAnySlot, IsAcceptedImage, IsFileOrDirectoryEntry}
+use Rattle.lfs_operations.proofs.Common.{log_entries_of_block, logged, recursion_from_All, RawPairContent, raw_content_of_pair_at, content_after_log_entries, content_of_pair_at, pair_content_if_slots_complete, current_block_of_pair_at, empty_raw_pair_content, Disk, IsPairOfDirectory, PairContent, IsContentFittingPair, Slot, is_superblock, HasSuperblockIfAnySlot, IsAcceptedImage, IsFileOrDirectoryEntry, take-append-drop, Pair, pair_count_before_root, Each, each_append, each_right, each_weaker, KeptThread, thread_pair_at_index, empty_pair_at_anchor}
 use Rattle.std.specs.Prelude.{All}
-use Rattle.std.proofs.lemmas.List.{take-append-drop}
-use Rattle.lfs_model.specs.Thread.{Pair, pair_count_before_root}
-use Rattle.lfs_model.proofs.Counts.{Each, each_append, each_right, each_weaker}
-use Rattle.lfs_thread.specs.Kept.{KeptThread}
-use Rattle.lfs_thread.specs.Steps.{thread_pair_at_index, empty_pair_at_anchor}
 use Rattle.lfs_operations.specs.Ready.{IsRawPairContentWellFormed, IsImageReadyForChange}
 
 -- a content that is complete comes of one that is there

@@ -1,3 +1,4 @@
+pub mod Common
 pub mod Taking
 pub mod Putting
 pub mod Placing
@@ -7,6 +8,7 @@ pub mod Owning
 pub mod RootStays
 pub mod Stepped
 pub mod Held
+pub mod PairAt
 pub mod Created
 pub mod RawSlots
 pub mod Replacing
@@ -22,6 +24,7 @@ pub mod MovSet
 pub mod MovFirsts
 pub mod MovEnd
 pub mod MovTurned
+pub mod TurnedSync
 pub mod MovAcross
 pub mod MovEnding
 pub mod MovStep
@@ -58,7 +61,6 @@ pub mod UnlinkedSteps
 pub mod MovRename
 pub mod MovLater
 pub mod RecoverDeltas
-pub mod RecoverPlaced
 pub mod RecoverLists
 pub mod RecoverLoop
 pub mod RecoverSteps

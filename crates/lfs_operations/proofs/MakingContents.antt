@@ -2,28 +2,11 @@
 use Rattle.std.proofs.Common.{ℕ, ◌≡◌, ◌≢◌, ◌≤◌, ◌<◌, ◌==◌, ◌&&◌, not, Bool, true, false, cond, eqb-true, List, [], ◌∷◌, length, Option, Some, None, refl, sym, ap, ap₂, subst, ◌∙◌, arith, insert}
 use Rattle.std.specs.Prelude.{slice_index}
 use Rattle.std.specs.Option.{option_and_then}
-use Rattle.std.proofs.lemmas.Bool.{and_parts, ne_eqb}
+use Rattle.lfs_operations.proofs.Common.{and_parts, ne_eqb, PutMove, PutTail, raw_pair_content_after_changes, RawPairContent, raw_content_of_pair_at, content_of_pair_at, content_after_log_entries, pair_content_if_slots_complete, slot_if_name_and_struct_present, has_commit, current_block_of_two, current_block_of_pair_at, is_later_revision, empty_raw_pair_content, directory_name_type, directory_struct_type, Disk, block_bytes_on_disk, charged_entry_size_limit_in_pair, log_entries_of_block, revision_of_block, Are32BitPairAddresses, IsWellFormedRawPairContent, AreMoveStateFieldsWithinBitWidths, IsNameOrStructTheFormatAllows, Name, PairContent, IsContentFittingPair, Gstate, Tail, slot_size, new_directory_slot, Pair, pair_address_named_by_tail, bytes_of_pair_address, IsCompleted, complete_insert, complete_length, completed_parts, completed_from, creates_with_struct, does_first, puts_move, puts_tail, slot_with, gstate_with_inverted_sync_bit, insert_cut, logged_changed, type_of_tag-tag_of_type_id_and_length, length_of_tag-tag_of_type_id_and_length, pair_content_after_changes, KeptThread, thread_pair_at_index, complete_content_after_changes}
 use Rattle.lfs_device.specs.Bytes.{AreAllBlockElementsBelow256}
-use Rattle.lfs_model.specs.Changes.{PutMove, PutTail, raw_pair_content_after_changes}
-use Rattle.lfs_model.specs.Content.{RawPairContent, raw_content_of_pair_at, content_of_pair_at, content_after_log_entries, pair_content_if_slots_complete, slot_if_name_and_struct_present, has_commit, current_block_of_two, current_block_of_pair_at, is_later_revision, empty_raw_pair_content}
-use Rattle.lfs_model.specs.EntryTypes.{tail_to_pair_if_any, directory_name_type, directory_struct_type}
-use Rattle.lfs_model.specs.Disk.{Disk, block_bytes_on_disk, charged_entry_size_limit_in_pair}
-use Rattle.lfs_model.specs.Log.{log_entries_of_block, revision_of_block}
-use Rattle.lfs_model.specs.LoggedContent.{Are32BitPairAddresses, IsWellFormedRawPairContent, AreMoveStateFieldsWithinBitWidths, IsNameOrStructTheFormatAllows}
-use Rattle.lfs_model.specs.Names.{Name}
-use Rattle.lfs_model.specs.Slots.{PairContent, IsContentFittingPair, Gstate, Tail, null_block_address, slot_size}
-use Rattle.lfs_model.specs.SlotEdits.{new_directory_slot}
-use Rattle.lfs_model.specs.Thread.{Pair, pair_address_named_by_tail}
-use Rattle.lfs_model.specs.WrittenContent.{bytes_of_pair_address}
-use Rattle.lfs_model.proofs.Completed.{IsCompleted, complete_insert, complete_length, completed_parts, completed_from}
-use Rattle.lfs_model.proofs.Effects.{creates_with_struct, does_first, puts_move, puts_tail, slot_with}
-use Rattle.lfs_model.proofs.Global.{gstate_with_inverted_sync_bit}
-use Rattle.lfs_model.proofs.Halves.{insert_cut}
-use Rattle.lfs_model.proofs.StoredChanges.{logged_changed}
-use Rattle.lfs_model.proofs.WrittenAnew.{type_of_tag-tag_of_type_id_and_length, length_of_tag-tag_of_type_id_and_length, pair_address_of_bytes-bytes_of_pair_address}
-use Rattle.lfs_pair.specs.Commit.{pair_content_after_changes}
-use Rattle.lfs_thread.specs.Kept.{KeptThread}
-use Rattle.lfs_thread.specs.Steps.{thread_pair_at_index, complete_content_after_changes}
+use Rattle.lfs_model.specs.EntryTypes.{tail_to_pair_if_any}
+use Rattle.lfs_model.specs.Slots.{null_block_address}
+use Rattle.lfs_model.proofs.WrittenAnew.{pair_address_of_bytes-bytes_of_pair_address}
 use Rattle.lfs_operations.specs.Changing.{CanChangeOrSplitPair}
 use Rattle.lfs_operations.specs.Making.{changes_adding_entry_for_directory_pair, changes_threading_new_pair}
 use Rattle.lfs_operations.specs.Ready.{IsRawPairContentWellFormed}

@@ -1,17 +1,8 @@
 -- Which blocks an image uses after a step in which no file came or went, and how many are free.
 use Rattle.std.proofs.Common.{ℕ, ◌≡◌, ◌+◌, List, [], ◌∷◌, ◌++◌, refl, sym, subst, ◌∙◌, arith, length-set, set, Bool, true, false, eqb-true, eq-eqb, nat_eq}
-use Rattle.lfs_model.specs.BlockSets.{BlockStateList, IsBlockFree, IsBlockInFlight, is_used, is_block_state_in_flight}
-use Rattle.lfs_model.specs.BlockSets.BlockState.{Free, InFlight, Used}
-use Rattle.lfs_model.specs.Disk.{Disk}
-use Rattle.lfs_model.specs.Slots.{Slot}
-use Rattle.lfs_model.specs.Thread.{Pair, blocks_of_pairs, gstate_of_pairs}
-use Rattle.lfs_model.specs.Shown.{used_blocks}
-use Rattle.lfs_model.proofs.BlockSets.{count_by-set, counts_from_none_free, slice_get-set_same, slice_get-set_other}
-use Rattle.lfs_model.proofs.Counts.{occurrence_count_of_number}
-use Rattle.lfs_model.proofs.Global.{HasNoMove}
-use Rattle.lfs_model.proofs.Sites.{Site, thread_at}
-use Rattle.lfs_model.proofs.Splices.{IsDevice, file_blocks_of_slots, slots_of_pairs_in_order}
-use Rattle.lfs_thread.specs.Steps.{block_map_with_used_pair}
+use Rattle.lfs_operations.proofs.Common.{BlockStateList, IsBlockFree, IsBlockInFlight, Free, InFlight, Used, Disk, Slot, Pair, blocks_of_pairs, gstate_of_pairs, used_blocks, slice_get-set_same, slice_get-set_other, occurrence_count_of_number, HasNoMove, Site, thread_at, IsDevice, file_blocks_of_slots, slots_of_pairs_in_order, block_map_with_used_pair}
+use Rattle.lfs_model.specs.BlockSets.{is_used, is_block_state_in_flight}
+use Rattle.lfs_model.proofs.BlockSets.{count_by-set, counts_from_none_free}
 use Rattle.lfs_operations.specs.Changing.{AreTwoFreeBlocks, HasTwoFreeBlocks, map_with_two_blocks_in_flight}
 use Rattle.lfs_operations.specs.Making.{HasSoManyFreeBlocks}
 use Rattle.lfs_operations.proofs.Owning.{elsewhere, turned_count}

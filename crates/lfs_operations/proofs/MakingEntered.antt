@@ -1,28 +1,7 @@
 -- A directory's slot comes into a pair, and the sync bit goes: what a change or a split comes to, and what a stop in it leaves.
 use Rattle.std.proofs.Common.{ℕ, ◌≡◌, ◌+◌, ◌⊎◌, inl, inr, true, false, List, [], ◌∷◌, ◌++◌, length, Some, refl, sym, ap, subst, ◌∙◌, arith, append-nil, ⊎_elim}
-use Rattle.lfs_model.specs.Blocks.{Blocks}
-use Rattle.lfs_model.specs.BlockSets.{AreExactlyTheUsedBlocks}
-use Rattle.lfs_model.specs.Changes.{PairContentChange}
-use Rattle.lfs_model.specs.Disk.{Disk, block_count}
-use Rattle.lfs_model.specs.Names.{Name}
-use Rattle.lfs_model.specs.PowerLoss.{disk_with_blocks}
-use Rattle.lfs_model.specs.Slots.{Slot, PairContent, zero_gstate, gstate_xor}
-use Rattle.lfs_model.specs.SlotEdits.{pair_with_slots, new_directory_slot}
-use Rattle.lfs_model.specs.Thread.{Pair, blocks_of_pairs, gstate_of_pairs, starts_with_superblock}
-use Rattle.lfs_model.specs.View.{IsAcceptedImage, IsFileOrDirectoryEntry}
-use Rattle.lfs_model.specs.Profile.{IsWritableImage, IsSlotWithinWritableLimits}
-use Rattle.lfs_model.specs.Shown.{used_blocks}
-use Rattle.lfs_model.proofs.Became.{became_front, became_shape}
-use Rattle.lfs_model.proofs.Committed.{no_move_from}
-use Rattle.lfs_model.proofs.Counts.{occurrence_count_of_number, count_append}
-use Rattle.lfs_model.proofs.Global.{HasNoMove, gstate_append, gstate_cons, gstate_kept, gstate_right}
-use Rattle.lfs_model.proofs.Moves.{IsStep}
-use Rattle.lfs_model.proofs.OneCommit.{some_filled}
-use Rattle.lfs_model.proofs.Sites.{Site, thread_at, IsSite}
-use Rattle.lfs_model.proofs.Splices.{IsDevice}
+use Rattle.lfs_operations.proofs.Common.{Blocks, AreExactlyTheUsedBlocks, PairContentChange, Disk, block_count, Name, disk_with_blocks, Slot, PairContent, zero_gstate, gstate_xor, pair_with_slots, new_directory_slot, Pair, blocks_of_pairs, gstate_of_pairs, starts_with_superblock, IsAcceptedImage, IsFileOrDirectoryEntry, IsWritableImage, IsSlotWithinWritableLimits, used_blocks, became_front, became_shape, no_move_from, occurrence_count_of_number, count_append, HasNoMove, gstate_append, gstate_cons, gstate_kept, gstate_right, IsStep, some_filled, Site, thread_at, IsSite, IsDevice, KeptThread, complete_content_after_changes, SlotsBeginWithSuperblock}
 use Rattle.lfs_model.proofs.StepsTaken as taken
-use Rattle.lfs_thread.specs.Kept.{KeptThread}
-use Rattle.lfs_thread.specs.Steps.{complete_content_after_changes, SlotsBeginWithSuperblock}
 use Rattle.lfs_operations.specs.Changing.{IsLeftByStoppedChangeOrSplit, IsPairChangedOrSplit}
 use Rattle.lfs_operations.specs.Ready.{HasNoNewBlockInFlight, KeepsStatesOfTakenBlocks}
 use Rattle.lfs_operations.proofs.MakingCounts.{used_count_now}

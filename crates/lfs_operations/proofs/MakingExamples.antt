@@ -1,8 +1,6 @@
 -- A directory of two pairs in front of another one, and a map of six blocks of which four are free.
 use Rattle.std.proofs.Common.{true, false, [], ◌∷◌, Some, arith}
-use Rattle.lfs_model.specs.BlockSets.BlockState.{Free, InFlight, Used}
-use Rattle.lfs_model.specs.Slots.{zero_gstate}
-use Rattle.lfs_model.specs.Thread.{Pair}
+use Rattle.lfs_operations.proofs.Common.{Free, InFlight, Used, zero_gstate, Pair}
 use Rattle.lfs_operations.specs.Making.{HasSoManyFreeBlocks}
 
 abbrev goes_on : Pair

@@ -3,10 +3,7 @@ use Rattle.std.proofs.Common.{ℕ, ◌≡◌, ◌⊎◌, inl, inr, List, Result,
 use Rattle.std.specs.Prelude.{IfErr, is_err}
 use Rattle.lfs_device.specs.declared.error.Error.{Error}
 use Rattle.lfs_device.specs.declared.error.Error.TheVariants.{Io, NoMemory, NoSpace}
-use Rattle.lfs_model.specs.BlockSets.{BlockStateList}
-use Rattle.lfs_model.specs.History.{fault_count_of_history}
-use Rattle.lfs_thread.specs.Kept.{KeptThread, ThreadView}
-use Rattle.lfs_thread.specs.Steps.{IoMeantFaultNoMemoryKeptOtherBlocks}
+use Rattle.lfs_operations.proofs.Common.{BlockStateList, fault_count_of_history, KeptThread, ThreadView, IoMeantFaultNoMemoryKeptOtherBlocks}
 use Rattle.lfs_operations.specs.Changing.{ReportsErrorsOfCommitTakingBlocks, has_thread_failed_after_result}
 use Rattle.lfs_operations.specs.Making.{ReportsErrorsOfMakingDirectory}
 use Rattle.lfs_operations.proofs.Putting.{with_map, same_err}

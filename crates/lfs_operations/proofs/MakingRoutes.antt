@@ -1,26 +1,9 @@
 -- Where the two steps of a mkdir change a directory: behind its last pair, and in the pair where the name belongs, which may be that one.
 use Rattle.std.proofs.Common.{ℕ, ◌≡◌, ◌⊎◌, inl, inr, ◌+◌, true, cond, List, [], ◌∷◌, ◌++◌, length, drop, refl, sym, ap, subst, ◌∙◌, arith, append_assoc, length-append}
-use Rattle.lfs_model.specs.Disk.{Disk}
-use Rattle.lfs_model.specs.InDirectory.{hard_tail_joined_pair_count}
-use Rattle.lfs_model.specs.Names.{Name}
+use Rattle.lfs_operations.proofs.Common.{Disk, hard_tail_joined_pair_count, Name, Session, Slot, zero_gstate, same_pair, new_directory_slot, path_of_bytes_or_root, Pair, blocks_of_pairs, first_pair_address, gstate_of_pairs, Path, IsPathToDirectory, entries_by_directory_in_thread, tree_on_disk, last_site, IsImageAfterCompletedOperation, IsRun, IsStep, place_at, IsPlace, IsTrueOfSomeElement, Site, among_right, begin_of, dirs_at, run_changed, thread_at, IsSite, IsChain, KeptThread}
 use Rattle.lfs_model.specs.Operations as ops
-use Rattle.lfs_model.specs.Session.{Session}
-use Rattle.lfs_model.specs.Slots.{Slot, zero_gstate, same_pair}
-use Rattle.lfs_model.specs.SlotEdits.{new_directory_slot}
-use Rattle.lfs_model.specs.Refusals.{path_of_bytes_or_root}
-use Rattle.lfs_model.specs.Thread.{Pair, blocks_of_pairs, first_pair_address, gstate_of_pairs}
-use Rattle.lfs_model.specs.Tree.{Path}
-use Rattle.lfs_model.specs.Shown.{IsPathToDirectory, entries_by_directory_in_thread, tree_on_disk}
-use Rattle.lfs_model.proofs.Beside.{last_site}
-use Rattle.lfs_model.proofs.Committed.{IsImageAfterCompletedOperation}
-use Rattle.lfs_model.proofs.Listings.{IsRun}
 use Rattle.lfs_model.proofs.MkdirSteps.{mkdir_in_two_completed}
-use Rattle.lfs_model.proofs.Moves.{IsStep, place_at}
-use Rattle.lfs_model.proofs.Names.{IsPlace}
-use Rattle.lfs_model.proofs.Sites.{IsTrueOfSomeElement, Site, among_right, begin_of, dirs_at, run_changed, thread_at, IsSite}
 use Rattle.lfs_model.proofs.StepsTaken as taken
-use Rattle.lfs_model.proofs.Superblocks.{IsChain}
-use Rattle.lfs_thread.specs.Kept.{KeptThread}
 use Rattle.lfs_operations.specs.Making.{IsLastPairOfHardTailRun}
 use Rattle.lfs_operations.proofs.MakingThreaded.{IsEnd, IsThreaded, IsThreading, fresh_pair, naming_pair}
 use Rattle.lfs_operations.proofs.MkdirAtLast.{mkdir_at_last_completed}

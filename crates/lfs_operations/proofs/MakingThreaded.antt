@@ -1,35 +1,11 @@
 -- A fresh pair is threaded behind the last one of a directory, and the sync bit set: what that comes to, and what a stop in it leaves.
 use Rattle.std.proofs.Common.{ℕ, ◌≡◌, ◌≢◌, ◌+◌, ◌<◌, ◌⊎◌, inl, inr, Bool, true, false, nat_eq, List, [], ◌∷◌, ◌++◌, length, Some, refl, sym, ap, ap₂, subst, ◌∙◌, ◌≤◌, arith, append_assoc, append-nil, flat_map}
 use Rattle.std.specs.Prelude.{All}
-use Rattle.std.specs.List.{IsDistinct}
-use Rattle.std.proofs.lemmas.Option.{same_Some}
-use Rattle.std.proofs.lemmas.List.Elements.{All-from_recursion, recursion_from_All}
-use Rattle.lfs_model.specs.Blocks.{Blocks, AreBlocksEqualExceptThese}
-use Rattle.lfs_model.specs.BlockSets.{AreExactlyTheUsedBlocks}
-use Rattle.lfs_model.specs.Content.{content_of_pair_at, current_block_of_two, current_block_of_pair_at}
-use Rattle.lfs_model.specs.Disk.{Disk, block_bytes_on_disk, block_count}
-use Rattle.lfs_model.specs.PowerLoss.{HasTreeBeforeOrAfterOperation, disk_with_blocks}
-use Rattle.lfs_model.specs.Slots.{PairContent, IsContentFittingPair, Gstate, zero_gstate, gstate_xor, same_pair}
-use Rattle.lfs_model.specs.Thread.{Pair, blocks_of_pairs, gstate_of_pairs, is_hard_tail, blocks_of_pair_address, blocks_of_two_pair_addresses}
-use Rattle.lfs_model.specs.Tree.{Path, Tree}
-use Rattle.lfs_model.specs.View.{BeginsWithLogEntry, superblock_name_log_entry, IsAcceptedImage}
-use Rattle.lfs_model.specs.Profile.{AreNoEmptyPairsAfterHardTails, IsWritableImage}
-use Rattle.lfs_model.specs.Shown.{IsPathToDirectory, all_slots_not_moved, entries_by_directory_in_thread, skip_list_blocks_of_struct, tree_on_disk, used_blocks}
-use Rattle.lfs_model.proofs.Became.{fits_same}
-use Rattle.lfs_model.proofs.Beside.{IsStepBeside, beside_shape, last_site, other_entries, own_entries, threaded}
-use Rattle.lfs_model.proofs.Committed.{no_move_from}
-use Rattle.lfs_model.proofs.Counts.{each_right, occurrence_count_of_number, count_append, count_here, once_from_distinct}
+use Rattle.lfs_operations.proofs.Common.{IsDistinct, same_Some, All-from_recursion, recursion_from_All, Blocks, AreBlocksEqualExceptThese, AreExactlyTheUsedBlocks, content_of_pair_at, current_block_of_two, current_block_of_pair_at, Disk, block_bytes_on_disk, block_count, HasTreeBeforeOrAfterOperation, disk_with_blocks, PairContent, IsContentFittingPair, Gstate, zero_gstate, gstate_xor, same_pair, Pair, blocks_of_pairs, gstate_of_pairs, is_hard_tail, blocks_of_pair_address, blocks_of_two_pair_addresses, Path, Tree, BeginsWithLogEntry, superblock_name_log_entry, IsAcceptedImage, AreNoEmptyPairsAfterHardTails, IsWritableImage, IsPathToDirectory, all_slots_not_moved, entries_by_directory_in_thread, skip_list_blocks_of_struct, tree_on_disk, used_blocks, fits_same, IsStepBeside, last_site, threaded, no_move_from, each_right, occurrence_count_of_number, count_append, count_here, once_from_distinct, HasNoMove, gstate_assoc, gstate_cons, gstate_left, gstate_moved, gstate_right, sync_bit_delta, gstate_with_inverted_sync_bit, turned_is, shown_before, shown_behind, pair_itself, Site, begin_of, dirs_at, thread_at, IsSite, IsPutBeside, IsWritableImageAfterTreeChange, beside_taken, taken_before, within_at, pairs_behind, ends_in_hard_tail, KeepsBlocksOutsideBothPairs, KeptThread, HasSameGeometry, HasPairOldContentOnDisk, IsFreshPairThreadedIn, PowerLossLeavesPairOldOrThreadedIn, ThreadChangesOnlyTheseBlocks, complete_content_after_changes, thread_pair_at_index, block_map_with_used_pair}
+use Rattle.lfs_model.proofs.Beside.{beside_shape, other_entries, own_entries}
 use Rattle.lfs_model.proofs.Devices.{content_same}
-use Rattle.lfs_model.proofs.Global.{HasNoMove, gstate_assoc, gstate_cons, gstate_left, gstate_moved, gstate_right, sync_bit_delta, gstate_with_inverted_sync_bit, turned_is}
-use Rattle.lfs_model.proofs.Moves.{shown_before, shown_behind}
-use Rattle.lfs_model.proofs.Pairs.{pair_itself, put_at}
-use Rattle.lfs_model.proofs.Sites.{Site, begin_of, dirs_at, thread_at, IsSite}
-use Rattle.lfs_model.proofs.StepsTaken.{IsPutBeside, IsWritableImageAfterTreeChange, beside_taken, taken_before, within_at}
-use Rattle.lfs_model.proofs.Superblocks.{pairs_behind}
-use Rattle.lfs_model.proofs.Writable.{ends_in_hard_tail}
-use Rattle.lfs_pair.specs.Split.{KeepsBlocksOutsideBothPairs}
-use Rattle.lfs_thread.specs.Kept.{KeptThread}
-use Rattle.lfs_thread.specs.Steps.{HasSameGeometry, HasPairOldContentOnDisk, IsFreshPairThreadedIn, IsFreshPairThreadedInOnDisk, PowerLossLeavesPairOldOrThreadedIn, KeepsSuperblockEntryFirstInLog, ThreadChangesOnlyTheseBlocks, fresh_pair_with_tail, complete_content_after_changes, thread_pair_at_index, block_map_with_used_pair}
+use Rattle.lfs_model.proofs.Pairs.{put_at}
+use Rattle.lfs_thread.specs.Steps.{IsFreshPairThreadedInOnDisk, KeepsSuperblockEntryFirstInLog, fresh_pair_with_tail}
 use Rattle.lfs_operations.specs.Changing.{AreTwoFreeBlocks, map_with_two_blocks_in_flight}
 use Rattle.lfs_operations.specs.Making.{changes_threading_new_pair}
 use Rattle.lfs_operations.specs.Ready.{IsImageReadyForChange}

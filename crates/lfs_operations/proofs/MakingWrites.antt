@@ -1,24 +1,11 @@
 -- Which blocks the two steps of a mkdir write, together.
 use Rattle.std.proofs.Common.{ℕ, ◌≡◌, ◌≢◌, List, [], ◌∷◌, subst, ◌∙◌, arith}
 use Rattle.std.specs.Prelude.{All}
-use Rattle.std.proofs.lemmas.List.Elements.{All-from_recursion, recursion_from_All}
-use Rattle.lfs_model.specs.Blocks.{Blocks, AreBlocksEqualExceptThese}
-use Rattle.lfs_model.specs.BlockSets.{IsBlockFree}
-use Rattle.lfs_model.specs.PowerLoss.{SurvivesPowerLossInCallsSince, HasTreeBeforeOrAfterOperation as IsLeftOf, disk_with_blocks}
-use Rattle.lfs_model.specs.Tree.{Tree}
-use Rattle.lfs_model.specs.History.{DeviceCallEvent}
-use Rattle.lfs_model.specs.Disk.{Disk}
-use Rattle.lfs_model.proofs.AfterStops.{survives_then}
-use Rattle.lfs_model.proofs.Counts.{each_weaker}
-use Rattle.lfs_model.proofs.Histories.{IsTrueAfterAnyPowerLossSince-trans, IsTrueAfterAnyPowerLossSince-weaker, AreBytesStillUnprogrammed-trans, AreBytesStillUnprogrammed-wider}
-use Rattle.lfs_thread.specs.Device.{PowerLossLeavesSuchBlocksAfterCleanErases}
-use Rattle.lfs_thread.specs.Kept.{KeptThread}
-use Rattle.lfs_thread.specs.Steps.{ThreadChangesOnlyTheseBlocks, thread_pair_at_index, block_map_with_used_pair}
+use Rattle.lfs_operations.proofs.Common.{All-from_recursion, recursion_from_All, Blocks, AreBlocksEqualExceptThese, IsBlockFree, SurvivesPowerLossInCallsSince, HasTreeBeforeOrAfterOperation as IsLeftOf, disk_with_blocks, Tree, DeviceCallEvent, Disk, survives_then, each_weaker, IsTrueAfterAnyPowerLossSince-trans, IsTrueAfterAnyPowerLossSince-weaker, AreBytesStillUnprogrammed-trans, AreBytesStillUnprogrammed-wider, PowerLossLeavesSuchBlocksAfterCleanErases, KeptThread, ThreadChangesOnlyTheseBlocks, thread_pair_at_index, block_map_with_used_pair, blocks_of_two_pair_addresses}
 use Rattle.lfs_operations.specs.Changing.{AreTwoFreeBlocks, WritesPairAndTwoFreeBlocks, map_with_two_blocks_in_flight}
 use Rattle.lfs_operations.specs.Making.{IsLastPairOfHardTailRun, WritesPairLastPairAndFourFreeBlocks}
 use Rattle.lfs_operations.proofs.MakingCounts.{freed}
 use Rattle.lfs_operations.proofs.Putting.{with_map}
-use Rattle.lfs_model.specs.Thread.{blocks_of_two_pair_addresses}
 
 -- of more blocks
 abbrev Covers : List ℕ → List ℕ → Type 0

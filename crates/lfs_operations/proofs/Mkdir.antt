@@ -1,44 +1,13 @@
 -- A directory that comes, as two steps of the thread.
 use Rattle.std.proofs.Common.{ℕ, ◌≡◌, ◌+◌, ◌<◌, ◌≤◌, ◌^◌, ◌⊎◌, inl, inr, true, List, [], ◌∷◌, ◌++◌, length, Some, refl, sym, ap, ap₂, subst, ◌∙◌, arith, append_assoc, length-append, insert, slice_get}
 use Rattle.std.specs.Prelude.{All, Contains}
-use Rattle.std.proofs.lemmas.List.Elements.{recursion_from_All}
+use Rattle.lfs_operations.proofs.Common.{recursion_from_All, tree_after_creation, Blocks, AreBlocksEqualExceptThese, IsBlockFree, IsBlockInFlight, Free, content_of_pair_at, Disk, block_count, charged_entry_size_limit_in_pair, IsPlaceWhereNameBelongs, Are32BitPairAddresses, Name, HasTreeBeforeOrAfterOperation as IsLeftOf, disk_with_blocks, PairContent, IsContentFittingPair, Gstate, Slot, zero_gstate, gstate_xor, same_pair, new_directory_slot, pair_with_slots, Pair, blocks_of_pairs, gstate_of_pairs, is_hard_tail, pair_address_named_by_tail, pair_count_before_root, blocks_of_pair_address, blocks_of_two_pair_addresses, DirectoryNode, IsEntryWithinWritableLimits, IsWritableImage, IsAcceptedImage, IsPathToDirectory, entries_by_directory_in_thread, tree_on_disk, Became, last_site, chain_now, InTwo, mkdir_in_two, IsImageAfterCompletedOperation, no_move_from, recovered_from, each_right, HasNoMove, gstate_assoc, gstate_cons, gstate_moved, gstate_self, sync_bit_delta, gstate_with_inverted_sync_bit, turned_is, entry_small, place_at, insert_here, IsPlace, step_writable, site, place_of_belongs, IsTrueOfSomeElement, Site, among_left, among_right, begin_of, dirs_at, thread_at, IsSite, IsChain, KeptThread, CanThreadInFreshPair, IsFreshPairThreadedIn, PowerLossLeavesPairOldOrThreadedIn, ThreadChangesOnlyTheseBlocks, thread_pair_at_index, complete_content_after_changes}
 use Rattle.lfs_device.specs.Bytes.{AreAllBlockElementsBelow256}
-use Rattle.lfs_model.specs.TreeEdits.{tree_after_creation}
-use Rattle.lfs_model.specs.Blocks.{Blocks, AreBlocksEqualExceptThese}
-use Rattle.lfs_model.specs.BlockSets.{IsBlockFree, IsBlockInFlight}
-use Rattle.lfs_model.specs.BlockSets.BlockState.{Free}
-use Rattle.lfs_model.specs.Content.{content_of_pair_at}
 use Rattle.lfs_model.specs.declared.limits.Profile.{Profile}
-use Rattle.lfs_model.specs.Disk.{Disk, block_count, charged_entry_size_limit_in_pair}
-use Rattle.lfs_model.specs.InDirectory.{IsPlaceWhereNameBelongs}
-use Rattle.lfs_model.specs.LoggedContent.{Are32BitPairAddresses}
-use Rattle.lfs_model.specs.Names.{Name}
 use Rattle.lfs_model.specs.Operations as ops
-use Rattle.lfs_model.specs.PowerLoss.{HasTreeBeforeOrAfterOperation as IsLeftOf, disk_with_blocks}
-use Rattle.lfs_model.specs.Slots.{PairContent, IsContentFittingPair, Gstate, Slot, entry_charge_with_longest_inline_contents, zero_gstate, gstate_xor, same_pair}
-use Rattle.lfs_model.specs.SlotEdits.{new_directory_slot, pair_with_slots}
-use Rattle.lfs_model.specs.Thread.{Pair, blocks_of_pairs, gstate_of_pairs, is_hard_tail, pair_address_named_by_tail, pair_count_before_root, blocks_of_pair_address, blocks_of_two_pair_addresses}
-use Rattle.lfs_model.specs.Tree.{DirectoryNode}
-use Rattle.lfs_model.specs.Profile.{IsEntryWithinWritableLimits, IsWritableImage}
-use Rattle.lfs_model.specs.View.{IsAcceptedImage}
-use Rattle.lfs_model.specs.Shown.{IsPathToDirectory, entries_by_directory_in_thread, tree_on_disk}
-use Rattle.lfs_model.proofs.Became.{Became}
-use Rattle.lfs_model.proofs.Beside.{change, last_site}
-use Rattle.lfs_model.proofs.Changes.{chain_now}
-use Rattle.lfs_model.proofs.Chained.{InTwo, mkdir_in_two}
-use Rattle.lfs_model.proofs.Committed.{IsImageAfterCompletedOperation, no_move_from, recovered_from}
-use Rattle.lfs_model.proofs.Counts.{each_right}
-use Rattle.lfs_model.proofs.Global.{HasNoMove, gstate_assoc, gstate_cons, gstate_moved, gstate_self, sync_bit_delta, gstate_with_inverted_sync_bit, turned_is}
-use Rattle.lfs_model.proofs.Halves.{entry_small}
-use Rattle.lfs_model.proofs.Moves.{place_at, insert_here}
-use Rattle.lfs_model.proofs.Names.{IsPlace}
-use Rattle.lfs_model.proofs.Profiles.{step_writable}
-use Rattle.lfs_model.proofs.Searches.{site, thread_is, is_site, same, number_is, place_of_belongs}
-use Rattle.lfs_model.proofs.Sites.{IsTrueOfSomeElement, Site, among_left, among_right, begin_of, dirs_at, thread_at, IsSite}
+use Rattle.lfs_model.specs.Slots.{entry_charge_with_longest_inline_contents}
+use Rattle.lfs_model.proofs.Beside.{change}
 use Rattle.lfs_model.proofs.StepsTaken as taken
-use Rattle.lfs_model.proofs.Superblocks.{IsChain}
-use Rattle.lfs_thread.specs.Kept.{KeptThread}
-use Rattle.lfs_thread.specs.Steps.{CanThreadInFreshPair, IsFreshPairThreadedIn, PowerLossLeavesPairOldOrThreadedIn, ThreadChangesOnlyTheseBlocks, thread_pair_at_index, complete_content_after_changes}
 use Rattle.lfs_operations.specs.Changing.{IsPairNotKeptUnchanged, AreTwoFreeBlocks, CanChangeOrSplitPair, HasTwoFreeBlocks, IsLeftByStoppedChangeOrSplit, IsPairChangedOrSplit, map_with_two_blocks_in_flight}
 use Rattle.lfs_operations.specs.Making.{ArePairAndLastPairOfDirectoryAltered, CanMakeDirectoryAt, FitsPairWithTailToNewPair, HasSoManyFreeBlocks, IsLastPairOfHardTailRun, IsDirectoryMade, changes_adding_entry_for_directory_pair, changes_threading_new_pair, tree_with_new_directory}
 use Rattle.lfs_operations.proofs.Altered.{put_alters}
@@ -55,6 +24,7 @@ use Rattle.lfs_operations.proofs.Putting.{held, with_map}
 use Rattle.lfs_operations.proofs.RootStays.{root_stays}
 use Rattle.lfs_operations.proofs.Taking.{within}
 use Rattle.lfs_operations.proofs.RenameSlots.{name_length}
+use Rattle.lfs_operations.proofs.PairAt.{HasPairAt, pair_at}
 
 -- what the pair at a site holds
 holds_at : (t : KeptThread) (index : ℕ) (w : Site) (p : Pair) → t.pairs ≡ thread_at w (p ∷ []) → index ≡ length w.chain + length (w.before ++ w.left) → IsAcceptedImage t.disk t.pairs
@@ -79,17 +49,11 @@ module _ (t : KeptThread) (index id : ℕ) (name : Name) (can : CanMakeDirectory
   abbrev w : Site
   w = site t.disk t.pairs can.path can.at can.ready.accepted can.leads can.first index p (b.later ++ b.rest) b.place can.begins
 
-  there : t.pairs ≡ thread_at w (p ∷ [])
-  there = thread_is t.disk t.pairs can.path can.at can.ready.accepted can.leads can.first index p (b.later ++ b.rest) b.place can.begins
-
-  placed : index ≡ length w.chain + length (w.before ++ w.left)
-  placed = number_is t.disk t.pairs can.path can.at can.ready.accepted can.leads can.first index p (b.later ++ b.rest) b.place can.begins
-
-  site_there : IsSite w (p ∷ [])
-  site_there = is_site t.disk t.pairs can.path can.at can.ready.accepted can.leads can.first index p (b.later ++ b.rest) b.place can.begins
+  stand : HasPairAt t index can.path can.at w p
+  stand = pair_at t can.ready can.path can.at can.leads can.first index p (b.later ++ b.rest) b.place can.begins
 
   pub way : IsRoute t last w p fresh b.left b.right can.path name
-  way = route t index last w p there placed site_there is_last fresh b.left b.right can.path name
+  way = route t index last w p stand.there stand.number stand.site is_last fresh b.left b.right can.path name
 
   abbrev x : Pair
   x = way.x
@@ -107,11 +71,8 @@ module _ (t : KeptThread) (index id : ℕ) (name : Name) (can : CanMakeDirectory
   leads_here : IsPathToDirectory (thread_at here (x ∷ [])) can.path can.at
   leads_here = subst (λ z. IsPathToDirectory z can.path can.at) way.end.there can.leads
 
-  same_first : same_pair (begin_of w (p ∷ [])) can.at ≡ true
-  same_first = same t.disk t.pairs can.path can.at can.ready.accepted can.leads can.first index p (b.later ++ b.rest) b.place can.begins
-
   same_here : same_pair (begin_of here (x ∷ [])) can.at ≡ true
-  same_here = ap (λ z. same_pair z can.at) way.began ∙ same_first
+  same_here = ap (λ z. same_pair z can.at) way.began ∙ stand.begin
 
   -- ---- the fresh pair is threaded
 
@@ -175,7 +136,7 @@ module _ (t : KeptThread) (index id : ℕ) (name : Name) (can : CanMakeDirectory
       chain = subst (IsChain w.chain) way.dirs
           (chain_now t.disk m.disk w.chain (w.before ++ way.left) x [] y (f ∷ []) w.after ((fresh.0 ∷ fresh.1 ∷ []) ++ []) way.end.site.chain h.step.accepted
           (change t.disk m.disk w.chain w.before way.left w.after x [] y [] f (fresh.0 ∷ fresh.1 ∷ []) [] x.content.slots [] [] [] h.step can.path can.at leads_here same_here));
-      ends = site_there.ends;
+      ends = stand.site.ends;
       run = way.run;
     }
 
@@ -198,7 +159,7 @@ module _ (t : KeptThread) (index id : ℕ) (name : Name) (can : CanMakeDirectory
     id_within = let e = ap length was in let l = length-append b.left b.right in let n = b.number in omega arith
 
     pair_now : thread_pair_at_index m index ≡ way.p2
-    pair_now = pair_is m index v way.p2 there_now placed
+    pair_now = pair_is m index v way.p2 there_now stand.number
 
     entry_fits : IsEntryWithinWritableLimits m.disk.profile m.disk.block_size m.disk.page u
     entry_fits = record {
@@ -218,12 +179,12 @@ module _ (t : KeptThread) (index id : ℕ) (name : Name) (can : CanMakeDirectory
     one = record { at = way.p2.at; content = now }
 
     made_now : complete_content_after_changes m index (changes_adding_entry_for_directory_pair m index id name fresh) ≡ Some now
-    made_now = named_made m index way.p2 pair_now (holds_at m index v way.p2 there_now placed accepted_now) (logged_there m.disk (thread_pair_at_index m index).at bytes_now)
+    made_now = named_made m index way.p2 pair_now (holds_at m index v way.p2 there_now stand.number accepted_now) (logged_there m.disk (thread_pair_at_index m index).at bytes_now)
         id name fresh (name_length name can.is_name) address id_within fits_there
 
     pub can_enter : CanChangeOrSplitPair m index (changes_adding_entry_for_directory_pair m index id name fresh)
-    can_enter = can_name m index way.p2 pair_now (holds_at m index v way.p2 there_now placed accepted_now) (logged_there m.disk (thread_pair_at_index m index).at bytes_now)
-        id name fresh (name_length name can.is_name) address id_within fits_there (below m index v way.p2 there_now placed) (entry_small m.disk.profile m.disk.block_size m.disk.page u large_now entry_fits)
+    can_enter = can_name m index way.p2 pair_now (holds_at m index v way.p2 there_now stand.number accepted_now) (logged_there m.disk (thread_pair_at_index m index).at bytes_now)
+        id name fresh (name_length name can.is_name) address id_within fits_there (below m index v way.p2 there_now stand.number) (entry_small m.disk.profile m.disk.block_size m.disk.page u large_now entry_fits)
 
     -- the sync bit goes
     turned_back : gstate_of_pairs (one ∷ []) ≡ gstate_xor sync_bit_delta (gstate_of_pairs (way.p2 ∷ []))
@@ -245,7 +206,7 @@ module _ (t : KeptThread) (index id : ℕ) (name : Name) (can : CanMakeDirectory
       used = h.used;
       size = h.size;
       there = there_now;
-      place = placed;
+      place = stand.number;
       site = site_now;
       content = now;
       made = made_now;
@@ -261,7 +222,7 @@ module _ (t : KeptThread) (index id : ℕ) (name : Name) (can : CanMakeDirectory
 
     -- the pair stands where it stood
     pub at_still : (thread_pair_at_index m index).at ≡ (thread_pair_at_index t index).at
-    at_still = ap (λ (z : Pair). z.at) pair_now ∙ way.at ∙ ap (λ (z : Pair). z.at) (sym (pair_is t index w p there placed))
+    at_still = ap (λ (z : Pair). z.at) pair_now ∙ way.at ∙ ap (λ (z : Pair). z.at) (sym (pair_is t index w p stand.there stand.number))
 
     -- ---- after it
 
@@ -284,7 +245,7 @@ module _ (t : KeptThread) (index id : ℕ) (name : Name) (can : CanMakeDirectory
     both disk q more e = mkdir_in_two t.disk m.disk disk w.chain w.before way.left w.after x [] y [] f (fresh.0 ∷ fresh.1 ∷ []) x.content.slots [] h.step can.path can.at leads_here same_here sync
         v way.p2 q more (blocks_of_pairs more) b.left b.right u e.step same_thread can.path can.at
         (subst (λ z. IsPathToDirectory z can.path can.at) same_thread (ap (λ d. d can.path) first.follows.leads ∙ leads_here))
-        (ap (λ z. same_pair z can.at) way.begins ∙ same_first) place_there refl
+        (ap (λ z. same_pair z can.at) way.begins ∙ stand.begin) place_there refl
         (recovered_from t.disk (thread_at here (x ∷ [])) h.step.accepted settled).reached
 
     still_writable : (disk : Disk) (q : Pair) (more : List Pair) → Enters m v way.p2 b.left name fresh b.right disk q more → IsWritableImage disk (thread_at v (q ∷ more))
@@ -354,7 +315,7 @@ module _ (t : KeptThread) (index id : ℕ) (name : Name) (can : CanMakeDirectory
                 subst (λ (j : ℕ). IsPairNotKeptUnchanged t j new) number (subst (λ z. Contains new.pairs z → ⊥) (sym (pair_is t last here x way.end.there way.end.place)) gone)
 
             entry_alters : (Contains new.pairs p → ⊥) → IsPairNotKeptUnchanged t index new
-            entry_alters = subst (λ z. Contains new.pairs z → ⊥) (sym (pair_is t index w p there placed))
+            entry_alters = subst (λ z. Contains new.pairs z → ⊥) (sym (pair_is t index w p stand.there stand.number))
 
             at_now : e.q.at ≡ p.at
             at_now = e.enters.step.shape.at ∙ way.at

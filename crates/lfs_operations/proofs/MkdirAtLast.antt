@@ -1,30 +1,10 @@
 -- A directory is made whose entry comes into the last pair of its parent: its pair is threaded behind that one, with the sync bit set,
 -- and then the entry comes.
 use Rattle.std.proofs.Common.{ℕ, ◌≡◌, true, List, [], ◌∷◌, ◌++◌, refl, sym, ap, subst, ◌∙◌, append_assoc, append-nil, subst₂}
-use Rattle.lfs_model.specs.Disk.{Disk}
-use Rattle.lfs_model.specs.Names.{Name}
-use Rattle.lfs_model.specs.Slots.{Slot, zero_gstate, same_pair, IsContentFittingPair}
-use Rattle.lfs_model.specs.Thread.{Pair, first_pair_address, gstate_of_pairs}
-use Rattle.lfs_model.specs.Tree.{Path, DirectoryNode}
-use Rattle.lfs_model.specs.Profile.{IsWritableImage}
-use Rattle.lfs_model.specs.Shown.{IsPathToDirectory, entries_by_directory_in_thread, tree_on_disk}
-use Rattle.lfs_model.specs.TreeEdits.{tree_after_creation}
+use Rattle.lfs_operations.proofs.Common.{Disk, Name, Slot, zero_gstate, same_pair, IsContentFittingPair, Pair, first_pair_address, gstate_of_pairs, Path, DirectoryNode, IsWritableImage, IsPathToDirectory, entries_by_directory_in_thread, tree_on_disk, tree_after_creation, Session, path_of_bytes_or_root, pair_with_slots, new_directory_slot, IsContentFittingPairOnDisk, IsPlace, Site, thread_at, begin_of, IsStep, place_at, last_site, IsStepBeside, threaded, ArePairsWithSameAddressesAndSlots, alike_itself, IsImageAfterCompletedOperation, recovered_from, Became, step_writable, InTwo, mkdir_in_two, IsWritableImageAfterTreeChange, IsPut, IsPutBeside, beside_taken}
 use Rattle.lfs_model.specs.Operations as ops
-use Rattle.lfs_model.specs.Session.{Session}
-use Rattle.lfs_model.specs.Refusals.{path_of_bytes_or_root}
-use Rattle.lfs_model.specs.SlotEdits.{pair_with_slots, new_directory_slot}
-use Rattle.lfs_model.specs.Layout.{IsContentFittingPairOnDisk}
-use Rattle.lfs_model.proofs.Names.{IsPlace}
-use Rattle.lfs_model.proofs.Sites.{Site, thread_at, begin_of}
-use Rattle.lfs_model.proofs.Moves.{IsStep, place_at}
-use Rattle.lfs_model.proofs.Beside.{last_site, IsStepBeside, threaded}
-use Rattle.lfs_model.proofs.Alike.{ArePairsWithSameAddressesAndSlots, alike_itself}
-use Rattle.lfs_model.proofs.Committed.{IsImageAfterCompletedOperation, recovered_from}
 use Rattle.lfs_model.proofs.MadeDirectory.{Cut, IsMkdir, mkdir_completed, none_there}
-use Rattle.lfs_model.proofs.Became.{Became}
-use Rattle.lfs_model.proofs.Profiles.{step_writable}
-use Rattle.lfs_model.proofs.Chained.{InTwo, mkdir_in_two}
-use Rattle.lfs_model.proofs.StepsTaken.{IsWritableImageAfterTreeChange, IsPut, IsPutBeside, beside_taken, put_within, put_filled}
+use Rattle.lfs_model.proofs.StepsTaken.{put_within, put_filled}
 
 -- the same site with the fresh pair's directory behind it
 abbrev pub ahead_of : List Pair → List Pair → List Pair → Pair → List Pair → Site

@@ -1,30 +1,10 @@
 -- A rename across pairs, of two steps: where the old pair stands between them, and what the operation comes to.
 use Rattle.std.proofs.Common.{ℕ, ◌≡◌, ◌+◌, ◌<◌, ◌⊎◌, inl, inr, Bool, true, false, List, [], ◌∷◌, ◌++◌, length, Option, Some, None, refl, sym, ap, subst, ◌∙◌, arith, append_assoc, length-append}
 use Rattle.std.specs.Prelude.{is_some}
-use Rattle.lfs_model.specs.Disk.{Disk}
-use Rattle.lfs_model.specs.Names.{Name}
-use Rattle.lfs_model.specs.Slots.{Slot, gstate_xor, zero_gstate}
-use Rattle.lfs_model.specs.SlotEdits.{pair_with_slots, slot_of_path}
-use Rattle.lfs_model.specs.Thread.{Pair, gstate_of_pairs, is_hard_tail, pair_count_before_root}
-use Rattle.lfs_model.specs.Tree.{Path}
-use Rattle.lfs_model.specs.TreeEdits.{last_name_of_path, tree_after_rename}
+use Rattle.lfs_operations.proofs.Common.{Disk, Name, Slot, gstate_xor, zero_gstate, pair_with_slots, slot_of_path, Pair, gstate_of_pairs, is_hard_tail, pair_count_before_root, Path, last_name_of_path, tree_after_rename, Session, path_of_bytes_or_root, IsAcceptedImage, IsWritableImage, tree_on_disk, ArePairsWithSameAddressesAndSlots, Became, IsImageAfterTreeChange, IsImageAfterCompletedOperation, onward_all, IsNoDirectory, target_slots, Site, thread_at, IsWritableImageAfterTreeChange, OldStays, two, from_old, ends_in_hard_tail}
 use Rattle.lfs_model.specs.Operations as ops
-use Rattle.lfs_model.specs.Session.{Session}
-use Rattle.lfs_model.specs.Refusals.{path_of_bytes_or_root}
-use Rattle.lfs_model.specs.View.{IsAcceptedImage}
-use Rattle.lfs_model.specs.Profile.{IsWritableImage}
-use Rattle.lfs_model.specs.Shown.{tree_on_disk}
-use Rattle.lfs_model.proofs.Alike.{ArePairsWithSameAddressesAndSlots}
-use Rattle.lfs_model.proofs.Became.{Became}
-use Rattle.lfs_model.proofs.Changes.{IsImageAfterTreeChange}
-use Rattle.lfs_model.proofs.Committed.{IsImageAfterCompletedOperation}
 use Rattle.lfs_model.proofs.Laws.{DirectoryAddressByPath}
-use Rattle.lfs_model.proofs.Layouts.{onward_all}
-use Rattle.lfs_model.proofs.RenamedAcross.{IsRenameAcross, IsNoDirectory, across_completed, target_slots}
-use Rattle.lfs_model.proofs.Sites.{Site, thread_at}
-use Rattle.lfs_model.proofs.StepsTaken.{IsWritableImageAfterTreeChange}
-use Rattle.lfs_model.proofs.TwoPlaces.{OldStays, two, from_old}
-use Rattle.lfs_model.proofs.Writable.{ends_in_hard_tail}
+use Rattle.lfs_model.proofs.RenamedAcross.{IsRenameAcross, across_completed}
 use Rattle.lfs_operations.proofs.MovPlaces.{InTurn, ahead, behind}
 use Rattle.lfs_operations.proofs.MovSet.{HasTurned, IsSetting, turns}
 use Rattle.lfs_operations.specs.MoveEnds.{gstate_naming_moved_slot}

@@ -1,35 +1,11 @@
 -- A set move ends: the slot that it hides goes.
 use Rattle.std.proofs.Common.{ℕ, ◌≡◌, ◌≢◌, ◌+◌, true, false, cond, nat_eq, ◌&&◌, List, [], ◌∷◌, ◌++◌, length, refl, sym, ap, ap₂, subst, ◌∙◌, arith, flat_map, append_assoc, append-nil, remove}
-use Rattle.std.specs.List.{IsDistinct}
+use Rattle.lfs_operations.proofs.Common.{IsDistinct, flat_map-append, recursion_from_All, Disk, Slot, Gstate, is_superblock, same_pair, gstate_xor, pair_with_slots, pairs_without_moved_slot, Pair, blocks_of_pairs, gstate_of_pairs, starts_with_superblock, slots_not_moved, is_hard_tail, pair_count_before_root, directories_in_thread, used_blocks, all_slots_not_moved, gstate_kind_of_set_move, IsAcceptedImage, IsWritableImage, became_front, became_shape, slots_files, chain_now, Each, each_append, each_left, each_right, each_weaker, occurrence_count_of_number, count_append, HasSameFileBlocksOfStructOnDisks, HasNoMove, gstate_cons, gstate_right, flip_false, remove_here, pair_back, IsMoveEnd, move_ends, site_gstate_moved, unmoved_elsewhere, end_change, avoids_front, avoids_behind, Site, thread_at, IsSite, slots_of_pairs_in_order, file_blocks_of_slots, unmoved_in, IsWritableImageAfterTreeChange, IsPut, ends_in_hard_tail, addresses_of_first_pairs_of_directories}
 use Rattle.std.specs.Int.Bits.{xor_self}
-use Rattle.std.proofs.lemmas.List.Concat.{flat_map-append}
-use Rattle.std.proofs.lemmas.List.Elements.{recursion_from_All}
-use Rattle.lfs_model.specs.Disk.{Disk}
-use Rattle.lfs_model.specs.Slots.{Slot, Gstate, is_superblock, same_pair, gstate_xor}
-use Rattle.lfs_model.specs.SlotEdits.{pair_with_slots, pairs_without_moved_slot}
-use Rattle.lfs_model.specs.Thread.{Pair, blocks_of_pairs, gstate_of_pairs, starts_with_superblock, slots_not_moved, is_hard_tail, pair_count_before_root}
-use Rattle.lfs_model.specs.Shown.{directories_in_thread, used_blocks, all_slots_not_moved}
-use Rattle.lfs_model.specs.Slots.{gstate_kind_of_set_move}
-use Rattle.lfs_model.specs.View.{IsAcceptedImage}
-use Rattle.lfs_model.specs.Profile.{IsWritableImage}
-use Rattle.lfs_model.proofs.Became.{became_front, became_shape}
-use Rattle.lfs_model.proofs.Changes.{slots_files, chain_now}
-use Rattle.lfs_model.proofs.Counts.{Each, each_append, each_left, each_right, each_weaker, occurrence_count_of_number, count_append}
-use Rattle.lfs_model.proofs.Files.{HasSameFileBlocksOfStructOnDisks}
-use Rattle.lfs_model.proofs.Global.{HasNoMove, gstate_cons, gstate_right}
-use Rattle.lfs_model.proofs.Listings.{flip_false}
-use Rattle.lfs_model.proofs.Moves.{remove_here}
-use Rattle.lfs_model.proofs.Pairs.{pair_back}
-use Rattle.lfs_model.proofs.Rests.{IsMoveEnd, move_ends, site_gstate_moved, unmoved_elsewhere, end_change}
-use Rattle.lfs_model.proofs.Searches.{avoids_front, avoids_behind}
-use Rattle.lfs_model.proofs.Sites.{Site, thread_at, IsSite}
-use Rattle.lfs_model.proofs.Splices.{slots_of_pairs_in_order, file_blocks_of_slots, unmoved_in}
-use Rattle.lfs_model.proofs.StepsTaken.{IsWritableImageAfterTreeChange, IsPut, end_taken}
-use Rattle.lfs_model.proofs.Writable.{ends_in_hard_tail}
+use Rattle.lfs_model.proofs.StepsTaken.{end_taken}
 use Rattle.lfs_operations.specs.MoveEnds.{gstate_without_sync}
 use Rattle.lfs_operations.proofs.MovSet.{HasTurned}
 use Rattle.lfs_operations.proofs.MovFirsts.{end_firsts}
-use Rattle.lfs_model.proofs.MoveSets.{addresses_of_first_pairs_of_directories}
 use Rattle.lfs_operations.specs.EndingMove.{gstate_without_move}
 use Rattle.lfs_operations.proofs.Owning.{count_pairs}
 use Rattle.lfs_operations.proofs.RecoverBefore.{AreKin, hidden, hidden_append, hidden_far, kin_append}

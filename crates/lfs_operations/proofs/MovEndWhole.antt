@@ -1,31 +1,12 @@
 -- A set move ends where the slot that it hides is all that its pair holds: the pair goes with it, and the one in front of it takes over its tail.
 use Rattle.std.proofs.Common.{ℕ, ◌≡◌, ◌+◌, true, false, cond, nat_eq, ◌&&◌, List, [], ◌∷◌, ◌++◌, sym, ap, ap₂, subst, ◌∙◌, arith, flat_map, append_assoc, remove, length, length-append}
-use Rattle.std.specs.List.{IsDistinct}
-use Rattle.lfs_model.specs.Disk.{Disk}
+use Rattle.lfs_operations.proofs.Common.{IsDistinct, Disk, Slot, Gstate, is_superblock, same_pair, Pair, blocks_of_pairs, gstate_of_pairs, starts_with_superblock, slots_not_moved, is_hard_tail, pair_count_before_root, IsAcceptedImage, IsWritableImage, directories_in_thread, used_blocks, gstate_kind_of_set_move, Each, each_append, each_left, each_right, each_weaker, occurrence_count_of_number, HasNoMove, flip_false, pair_back, IsMoveEnd, move_ends, unmoved_elsewhere, avoids_behind, avoids_front, Site, thread_at, IsSite, drop_shape, IsDevice, IsWritableImageAfterTreeChange, addresses_of_first_pairs_of_directories, IsDirectoryUnreachedOrRemoved, pair_with_slots, pairs_without_moved_slot, KeptThread}
 use Rattle.lfs_model.specs.Operations as ops
-use Rattle.lfs_model.specs.Slots.{Slot, Gstate, is_superblock, same_pair}
-use Rattle.lfs_model.specs.Thread.{Pair, blocks_of_pairs, gstate_of_pairs, starts_with_superblock, slots_not_moved, is_hard_tail, pair_count_before_root}
-use Rattle.lfs_model.specs.View.{IsAcceptedImage}
-use Rattle.lfs_model.specs.Profile.{IsWritableImage}
-use Rattle.lfs_model.specs.Shown.{directories_in_thread, used_blocks}
-use Rattle.lfs_model.specs.Slots.{gstate_kind_of_set_move}
-use Rattle.lfs_model.proofs.Counts.{Each, each_append, each_left, each_right, each_weaker, occurrence_count_of_number}
-use Rattle.lfs_model.proofs.Global.{HasNoMove}
-use Rattle.lfs_model.proofs.Listings.{flip_false}
-use Rattle.lfs_model.proofs.Pairs.{pair_back}
-use Rattle.lfs_model.proofs.Rests.{IsMoveEnd, move_ends, unmoved_elsewhere}
-use Rattle.lfs_model.proofs.Searches.{avoids_behind, avoids_front}
-use Rattle.lfs_model.proofs.Sites.{Site, thread_at, IsSite}
-use Rattle.lfs_model.proofs.Splices.{drop_shape, IsDevice}
-use Rattle.lfs_model.proofs.StepsTaken.{IsWritableImageAfterTreeChange, end_drop_taken}
-use Rattle.lfs_model.proofs.MoveSets.{addresses_of_first_pairs_of_directories}
+use Rattle.lfs_model.proofs.StepsTaken.{end_drop_taken}
 use Rattle.lfs_operations.proofs.MovFirsts.{end_firsts}
 use Rattle.lfs_operations.specs.EndingMove.{gstate_without_move, IsEachRecoveryOfNewAllowedForOld}
 use Rattle.lfs_operations.proofs.MovEnd.{end_count, end_chain}
 use Rattle.lfs_operations.proofs.RecoverBefore.{GoAlike, hidden, hidden_append, hidden_far, hidden_length, laid_out_gap}
-use Rattle.lfs_model.specs.Layout.{IsDirectoryUnreachedOrRemoved}
-use Rattle.lfs_model.specs.SlotEdits.{pair_with_slots, pairs_without_moved_slot}
-use Rattle.lfs_thread.specs.Kept.{KeptThread}
 
 -- At the site stand p and o behind it, joined by a hard tail, and the move hides o's only slot u.
 pub record IsEndingWhole (disk : Disk) (w : Site) (p o : Pair) (u : Slot) : Type 0 where

@@ -1,37 +1,7 @@
 -- The end of a set move, as a step of the thread.
 use Rattle.std.proofs.Common.{ℕ, zero, suc, ◌≡◌, ◌≢◌, ◌-◌, ◌<◌, ◌⊎◌, inl, inr, true, false, take, List, [], ◌∷◌, Option, ◌++◌, length, Some, refl, sym, ap, ap₂, subst, ◌∙◌, arith, length-append, remove, get_or, slice_get, sum_by, subst₂}
 use Rattle.std.specs.Option.{option_and_then}
-use Rattle.std.proofs.lemmas.Nat.{xor_lt}
-use Rattle.std.proofs.lemmas.Option.{same_Some}
-use Rattle.std.proofs.lemmas.List.Elements.{recursion_from_All}
-use Rattle.std.proofs.lemmas.List.Sums.{sum_by-append, sum_by-cons}
-use Rattle.lfs_model.specs.Blocks.{Blocks}
-use Rattle.lfs_model.specs.Changes.{Delete, PutMove, raw_pair_content_after_changes}
-use Rattle.lfs_model.specs.Content.{RawPairContent, content_of_pair_at, raw_content_of_pair_at, pair_content_if_slots_complete}
-use Rattle.lfs_model.specs.Disk.{Disk}
-use Rattle.lfs_model.specs.History.{DeviceCallEvent}
-use Rattle.lfs_model.specs.LoggedContent.{Are32BitPairAddresses, AreMoveStateFieldsWithinBitWidths}
-use Rattle.lfs_model.specs.PowerLoss.{HasTreeBeforeOrAfterOperation as IsLeftOf, SurvivesPowerLossInCallsSince, disk_with_blocks}
-use Rattle.lfs_model.specs.Slots.{Slot, IsContentFittingPair, Gstate, Tail, gstate_xor, same_pair, slot_size}
-use Rattle.lfs_model.specs.Thread.{Pair, gstate_of_pairs, pair_address_named_by_tail, pair_count_before_root}
-use Rattle.lfs_model.specs.View.{IsAcceptedImage}
-use Rattle.lfs_model.specs.Profile.{IsWritableImage}
-use Rattle.lfs_model.specs.Shown.{directories_in_thread, tree_on_disk, used_blocks}
-use Rattle.lfs_model.proofs.Alike.{ArePairsWithSameAddressesAndSlots, alike_itself}
-use Rattle.lfs_model.proofs.Completed.{IsCompleted, complete_length, complete_remove, completed_parts, completed_from}
-use Rattle.lfs_model.proofs.Counts.{Each, each_right, occurrence_count_of_number}
-use Rattle.lfs_model.proofs.Effects.{deletes, does_first, does_nothing, puts_move}
-use Rattle.lfs_model.proofs.Histories.{IsTrueAfterAnyPowerLossSince-weaker}
-use Rattle.lfs_model.proofs.Indexes.{HasSite, site_of_number}
-use Rattle.lfs_model.proofs.MoveSets.{addresses_of_first_pairs_of_directories}
-use Rattle.lfs_model.proofs.Moves.{remove_here}
-use Rattle.lfs_model.proofs.Sites.{IsTrueOfSomeElement, Site, among_left, among_parts, among_right, dirs_at, thread_at}
-use Rattle.lfs_model.proofs.StepsTaken.{IsWritableImageAfterTreeChange}
-use Rattle.lfs_model.proofs.Superblocks.{pairs_behind}
-use Rattle.lfs_model.proofs.Writable.{ends_in_hard_tail}
-use Rattle.lfs_thread.specs.Device.{PowerLossLeavesSuchBlocksAfterCleanErases}
-use Rattle.lfs_thread.specs.Kept.{KeptThread}
-use Rattle.lfs_thread.specs.Steps.{CanChangePair, IsPairChanged, PowerLossLeavesPairOldOrChanged, IsCommitRefused, SlotsBeginWithSuperblock, complete_content_after_changes, empty_pair_at_anchor, thread_pair_at_index, thread_pairs_with_content_replaced_at_index}
+use Rattle.lfs_operations.proofs.Common.{xor_lt, same_Some, recursion_from_All, sum_by-append, sum_by-cons, Blocks, Delete, PutMove, raw_pair_content_after_changes, RawPairContent, content_of_pair_at, raw_content_of_pair_at, pair_content_if_slots_complete, Disk, DeviceCallEvent, Are32BitPairAddresses, AreMoveStateFieldsWithinBitWidths, HasTreeBeforeOrAfterOperation as IsLeftOf, SurvivesPowerLossInCallsSince, disk_with_blocks, Slot, IsContentFittingPair, Gstate, Tail, gstate_xor, same_pair, slot_size, Pair, gstate_of_pairs, pair_address_named_by_tail, pair_count_before_root, IsAcceptedImage, IsWritableImage, directories_in_thread, tree_on_disk, used_blocks, ArePairsWithSameAddressesAndSlots, alike_itself, IsCompleted, complete_length, complete_remove, completed_parts, completed_from, Each, each_right, occurrence_count_of_number, deletes, does_first, does_nothing, puts_move, IsTrueAfterAnyPowerLossSince-weaker, HasSite, site_of_number, addresses_of_first_pairs_of_directories, remove_here, IsTrueOfSomeElement, Site, among_left, among_parts, among_right, dirs_at, thread_at, IsWritableImageAfterTreeChange, pairs_behind, ends_in_hard_tail, PowerLossLeavesSuchBlocksAfterCleanErases, KeptThread, CanChangePair, IsPairChanged, PowerLossLeavesPairOldOrChanged, IsCommitRefused, SlotsBeginWithSuperblock, complete_content_after_changes, empty_pair_at_anchor, thread_pair_at_index, thread_pairs_with_content_replaced_at_index, pairs_without_moved_slot, HasNoMove}
 use Rattle.lfs_operations.specs.MoveEnds.{CanEndMoveAt, HasEndedMoveAt, content_after_move_ends, end_move_changes, is_pair_named_by_hard_tail, gstate_without_sync, delta_without_move}
 use Rattle.lfs_operations.proofs.Held.{CompletesTo, completes_to}
 use Rattle.lfs_operations.proofs.MovEnd.{IsEnding, ended, ended_count, ended_firsts, ended_state, ended_chain, ended_kin}
@@ -41,8 +11,6 @@ use Rattle.lfs_operations.proofs.Placing.{left_after, left_still}
 use Rattle.lfs_operations.specs.EndingMove.{gstate_without_move}
 use Rattle.lfs_operations.proofs.Threads.{take_front}
 use Rattle.lfs_operations.proofs.RecoverBefore.{AreKin, go_alike, laid_out_kin}
-use Rattle.lfs_model.specs.SlotEdits.{pairs_without_moved_slot}
-use Rattle.lfs_model.proofs.Global.{HasNoMove}
 
 pub get_from : (xs : List Pair) (i : ℕ) (p d : Pair) → slice_get xs i ≡ Some p → get_or xs i d ≡ p
 get_from [] i p d e = absurd (cc)

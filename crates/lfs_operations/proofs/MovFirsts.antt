@@ -1,16 +1,7 @@
 -- Where directories begin once a set move has ended: where they did.
 use Rattle.std.proofs.Common.{ℕ, ◌≡◌, List, [], ◌∷◌, ◌++◌, refl, sym, ap, ◌∙◌}
-use Rattle.lfs_model.specs.Disk.{Disk}
-use Rattle.lfs_model.specs.Slots.{Gstate, Slot}
-use Rattle.lfs_model.specs.Thread.{Pair, directories_of_pairs, gstate_of_pairs, entries_not_moved}
-use Rattle.lfs_model.specs.Shown.{directories_in_thread}
-use Rattle.lfs_model.proofs.Changes.{chain_now, rearranged_chain}
-use Rattle.lfs_model.proofs.Counts.{each_always}
-use Rattle.lfs_model.proofs.Listings.{IsRun, SameVisible}
-use Rattle.lfs_model.proofs.MoveSets.{IsMoveSet, SameAround, addresses_of_first_pairs_of_directories, firsts_same, set_rearranged, site_firsts}
-use Rattle.lfs_model.proofs.Rests.{IsMoveEnd, end_change}
-use Rattle.lfs_model.proofs.Sites.{Site, dirs_at, run_changed, thread_at}
-use Rattle.lfs_model.proofs.Superblocks.{IsChain, pairs_behind}
+use Rattle.lfs_operations.proofs.Common.{Disk, Gstate, Slot, Pair, directories_of_pairs, gstate_of_pairs, entries_not_moved, directories_in_thread, chain_now, rearranged_chain, each_always, IsRun, SameVisible, IsMoveSet, SameAround, addresses_of_first_pairs_of_directories, set_rearranged, IsMoveEnd, end_change, Site, dirs_at, run_changed, thread_at, IsChain, pairs_behind}
+use Rattle.lfs_model.proofs.MoveSets.{firsts_same, site_firsts}
 
 module _ (disk new : Disk) (w : Site) (p : Pair) (mid : List Pair) (q : Pair) (more : List Pair) (l : List Slot) (u : Slot) (r : List Slot) (step : IsMoveEnd disk new w p mid q more l u r) where
   abbrev g : Gstate

@@ -3,17 +3,7 @@ use Rattle.std.proofs.Common.{ℕ, ◌≡◌, ◌⊎◌, inl, inr, Bool, false, 
 use Rattle.std.specs.Prelude.{IfErr}
 use Rattle.lfs_device.specs.declared.error.Error.{Error}
 use Rattle.lfs_device.specs.declared.error.Error.TheVariants.{Io, NoMemory, NoSpace}
-use Rattle.lfs_model.specs.Changes.{PairContentChange}
-use Rattle.lfs_model.specs.Disk.{Disk}
-use Rattle.lfs_model.specs.History.{DeviceCallEvent, fault_count_of_history}
-use Rattle.lfs_model.specs.Names.{Name}
-use Rattle.lfs_model.specs.PowerLoss.{SurvivesPowerLossInCallsSince}
-use Rattle.lfs_model.specs.Shown.{tree_on_disk}
-use Rattle.lfs_model.specs.LoggedContent.{Are32BitPairAddresses}
-use Rattle.lfs_model.proofs.AfterStops.{survives_then}
-use Rattle.lfs_model.proofs.Histories.{ArePossibleBlocksAfterPowerLossInCall-read, IsTrueAfterAnyPowerLossSince-read_count_of_history, IsTrueAfterAnyPowerLossSince-trans, AreCallsSinceOnlyReads-trans, AreBytesStillUnprogrammed-read_count_of_history, AreBytesStillUnprogrammed-trans}
-use Rattle.lfs_thread.specs.Kept.{KeptThread, ThreadView}
-use Rattle.lfs_thread.specs.Steps.{IoMeantFaultNoMemoryWroteNothing, IsThreadOnlyRead, thread_pair_at_index}
+use Rattle.lfs_operations.proofs.Common.{PairContentChange, Disk, DeviceCallEvent, fault_count_of_history, Name, SurvivesPowerLossInCallsSince, tree_on_disk, Are32BitPairAddresses, survives_then, ArePossibleBlocksAfterPowerLossInCall-read, IsTrueAfterAnyPowerLossSince-read_count_of_history, IsTrueAfterAnyPowerLossSince-trans, AreCallsSinceOnlyReads-trans, AreBytesStillUnprogrammed-read_count_of_history, AreBytesStillUnprogrammed-trans, KeptThread, ThreadView, IoMeantFaultNoMemoryWroteNothing, IsThreadOnlyRead, thread_pair_at_index}
 use Rattle.lfs_operations.specs.Changing.{CanChangeOrSplitPair, IsPairChangedOrSplit, IsChangedContentTooLarge, HasTwoFreeBlocks, has_thread_failed_after_result}
 use Rattle.lfs_operations.specs.Editing.{CanEditEntryOfPair}
 use Rattle.lfs_operations.specs.MovingSteps.{CanEndMoveAfterFirstCommit, IsSlotPutAndMoveEnded, SurvivesBothMoveCommits, ReportsErrorsOfCommitsTakingBlocks, WritesTwoPairsAndTwoFreeBlocks}

@@ -1,26 +1,6 @@
 -- An entry that goes to a place in another pair, by a move that is set first.
-use Rattle.std.proofs.Common.{◌≢◌, nat_eq, Bool, ℕ, ◌≡◌, ◌+◌, ◌-◌, ◌<◌, ◌⊎◌, inl, inr, true, false, List, [], ◌∷◌, ◌++◌, length, Some, refl, sym, ap, subst, ◌∙◌, arith, append-nil, Option}
-use Rattle.std.specs.List.{IsDistinct}
-use Rattle.lfs_model.specs.Changes.{PairContentChange}
-use Rattle.lfs_model.specs.Disk.{Disk}
-use Rattle.lfs_model.specs.InDirectory.{IsPairAtAddress}
-use Rattle.lfs_model.specs.Names.{Name, is_valid_name}
-use Rattle.lfs_model.specs.Slots.{Slot, gstate_xor, same_pair}
-use Rattle.lfs_model.specs.Thread.{Pair, blocks_of_pairs, gstate_of_pairs, starts_with_superblock, pair_count_before_root}
-use Rattle.lfs_model.specs.Tree.{Path}
-use Rattle.lfs_model.specs.TreeEdits.{tree_after_rename}
-use Rattle.lfs_model.specs.Profile.{IsEntryWithinWritableLimits, IsWritableImage}
-use Rattle.lfs_model.specs.View.{IsAcceptedImage, IsFileOrDirectoryEntry}
-use Rattle.lfs_model.specs.SlotEdits.{slot_of_path}
-use Rattle.lfs_model.proofs.Changes.{IsImageAfterTreeChange}
-use Rattle.lfs_model.proofs.Committed.{no_move_from}
-use Rattle.lfs_model.proofs.Counts.{Each, each_right}
-use Rattle.lfs_model.proofs.Paths.{last_is}
-use Rattle.lfs_model.proofs.Searches.{is_site, number_is, same, site, slot_of_stands, thread_is}
-use Rattle.lfs_model.proofs.Sites.{Site, begin_of, thread_at, IsSite}
-use Rattle.lfs_model.proofs.Writable.{ends_in_hard_tail}
-use Rattle.lfs_thread.specs.Kept.{KeptThread}
-use Rattle.lfs_thread.specs.Steps.{SlotsBeginWithSuperblock, complete_content_after_changes, thread_pair_at_index}
+use Rattle.std.proofs.Common.{◌≢◌, nat_eq, Bool, ℕ, ◌≡◌, ◌+◌, ◌<◌, ◌⊎◌, inl, inr, true, false, List, [], ◌∷◌, ◌++◌, length, Some, refl, sym, ap, subst, ◌∙◌, arith, append-nil, Option}
+use Rattle.lfs_operations.proofs.Common.{IsDistinct, PairContentChange, Disk, IsPairAtAddress, Name, is_valid_name, Slot, gstate_xor, same_pair, Pair, blocks_of_pairs, gstate_of_pairs, starts_with_superblock, pair_count_before_root, Path, tree_after_rename, IsEntryWithinWritableLimits, IsWritableImage, IsAcceptedImage, IsFileOrDirectoryEntry, slot_of_path, IsImageAfterTreeChange, no_move_from, Each, each_right, last_is, is_site, number_is, same, site, slot_of_stands, thread_is, Site, begin_of, thread_at, IsSite, ends_in_hard_tail, KeptThread, SlotsBeginWithSuperblock, complete_content_after_changes, thread_pair_at_index, IsNoDirectory, target_slots}
 use Rattle.lfs_operations.specs.Editing.{CanEditEntryOfPair}
 use Rattle.lfs_operations.specs.MoveEnds.{gstate_naming_moved_slot}
 use Rattle.lfs_operations.specs.Ready.{IsRawPairContentWellFormed}
@@ -31,7 +11,6 @@ use Rattle.lfs_operations.proofs.MovStep.{IsFirst}
 use Rattle.lfs_operations.proofs.MovTurned.{content_with}
 use Rattle.lfs_operations.proofs.Removed.{alone, flag_ends, stays_there}
 use Rattle.lfs_operations.proofs.RemovedWhole.{flag_whole, stands_whole}
-use Rattle.lfs_model.proofs.RenamedAcross.{IsNoDirectory, target_slots}
 
 -- The entry may have the name at the place in the pair p at the site w, where the target stands, if there is one.
 pub record IsPlaceInOtherPair (t : KeptThread) (old_pair old_id new_pair : ℕ) (can : CanEditEntryOfPair t old_pair old_id) (w : Site) (p : Pair) (l : List Slot) (target : Option Slot) (r : List Slot) (name : Name) : Type 0 where

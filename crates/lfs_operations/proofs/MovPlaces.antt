@@ -1,25 +1,17 @@
 -- Two pairs of one thread: a slot of the one comes into the other, and a set move hides it where it stood.
 use Rattle.std.proofs.Common.{ℕ, zero, suc, ◌≡◌, ◌≢◌, Bool, true, false, cond, not, nat_eq, ◌&&◌, List, [], ◌∷◌, ◌++◌, length, take, drop, refl, sym, ap, ap₂, subst, ◌∙◌, arith, flat_map, append_assoc, append-nil, remove, Less}
-use Rattle.std.proofs.lemmas.List.Elements.{filter-append}
+use Rattle.lfs_operations.proofs.Common.{filter-append, Disk, Name, Slot, Gstate, is_superblock, same_pair, Pair, gstate_of_pairs, slots_not_moved, entries_not_moved, directories_of_pairs, Path, EntriesByDirectory, directories_in_thread, entries_by_directory_in_thread, IsPathToDirectory, Each, each_append, each_left, each_right, each_weaker, each_always, each_pieces, each_joined, unmoved_all, site_shows, SameVisible, IsRun, shown_before, shown_behind, place_at, remove_here, entry_only, SameAround, IsMoveSet, IsPlace, unmoved_elsewhere, Site, dirs_at, thread_at, begin_of, run_changed, slots_of_pairs_in_order, pairs_behind}
 use Rattle.lfs_model.specs.declared.order.NameOrder.{NameOrder}
-use Rattle.lfs_model.specs.Disk.{Disk}
-use Rattle.lfs_model.specs.Names.{Name, name_cmp}
-use Rattle.lfs_model.specs.Slots.{Slot, Gstate, is_superblock, same_pair}
-use Rattle.lfs_model.specs.Thread.{Pair, gstate_of_pairs, slots_not_moved, entries_not_moved, directories_of_pairs, entries_of_directory}
-use Rattle.lfs_model.specs.Tree.{Path, EntriesByDirectory}
-use Rattle.lfs_model.specs.Shown.{directories_in_thread, entries_by_directory_in_thread, IsPathToDirectory}
-use Rattle.lfs_model.proofs.Counts.{Each, each_append, each_left, each_right, each_weaker, each_always, each_pieces, each_joined}
-use Rattle.lfs_model.proofs.Global.{unmoved_all}
-use Rattle.lfs_model.proofs.Indexes.{place_between, site_shows}
-use Rattle.lfs_model.proofs.Listings.{SameVisible, IsRun, Apart, distinct_apart, distinct_right}
-use Rattle.lfs_model.proofs.Moves.{shown_before, shown_behind, place_at, shown_place, shown_of, remove_here, entry_only}
-use Rattle.lfs_model.proofs.MoveSets.{SameAround, IsMoveSet, site_own, site_entries}
-use Rattle.lfs_model.proofs.Names.{IsPlace}
+use Rattle.lfs_model.specs.Names.{name_cmp}
+use Rattle.lfs_model.specs.Thread.{entries_of_directory}
+use Rattle.lfs_model.proofs.Indexes.{place_between}
+use Rattle.lfs_model.proofs.Listings.{Apart, distinct_apart, distinct_right}
+use Rattle.lfs_model.proofs.Moves.{shown_place, shown_of}
+use Rattle.lfs_model.proofs.MoveSets.{site_own, site_entries}
 use Rattle.lfs_model.proofs.Pairs.{put}
-use Rattle.lfs_model.proofs.Rests.{hidden_visible, unmoved_elsewhere}
-use Rattle.lfs_model.proofs.Sites.{Site, dirs_at, thread_at, begin_of, shown_at, run_changed}
-use Rattle.lfs_model.proofs.Splices.{slots_of_pairs_in_order, slots_without_superblock, visible_in}
-use Rattle.lfs_model.proofs.Superblocks.{pairs_behind}
+use Rattle.lfs_model.proofs.Rests.{hidden_visible}
+use Rattle.lfs_model.proofs.Sites.{shown_at}
+use Rattle.lfs_model.proofs.Splices.{slots_without_superblock, visible_in}
 
 -- ---- lists
 

@@ -1,38 +1,7 @@
 -- A rename across pairs, from where the entry stands and where its name belongs.
-use Rattle.std.proofs.Common.{Bool, ℕ, ◌≡◌, ◌+◌, ◌-◌, ◌<◌, true, false, List, [], ◌∷◌, ◌++◌, length, None, Some, refl, sym, ap, ap₂, subst, ◌∙◌, arith, length-append, insert}
+use Rattle.std.proofs.Common.{Bool, ℕ, ◌≡◌, ◌-◌, ◌<◌, true, false, List, [], ◌∷◌, ◌++◌, length, None, Some, refl, sym, ap, ap₂, subst, ◌∙◌, arith, length-append, insert}
 use Rattle.std.specs.Option.{option_and_then}
-use Rattle.std.proofs.lemmas.Nat.{xor_lt}
-use Rattle.std.proofs.lemmas.List.Sums.{sum_by-append}
-use Rattle.lfs_model.specs.Changes.{PairContentChange, PutMove, raw_pair_content_after_changes}
-use Rattle.lfs_model.specs.Content.{RawPairContent, RawSlot, slots_if_names_and_structs_present, pair_content_if_slots_complete, raw_content_of_pair_at}
-use Rattle.lfs_model.specs.Cut.{CanSplitSlotsIntoTwoPairs}
-use Rattle.lfs_model.specs.Disk.{Disk}
-use Rattle.lfs_model.specs.History.{DeviceCallEvent}
-use Rattle.lfs_model.specs.InDirectory.{IsPlaceWhereNameBelongs, IsPairOfDirectory}
-use Rattle.lfs_model.specs.LoggedContent.{Are32BitPairAddresses, AreMoveStateFieldsWithinBitWidths}
-use Rattle.lfs_model.specs.Names.{Name, is_valid_name}
-use Rattle.lfs_model.specs.PowerLoss.{SurvivesPowerLossInCallsSince}
-use Rattle.lfs_model.specs.Slots.{Slot, IsContentFittingPair, Gstate, gstate_xor, slot_size}
-use Rattle.lfs_model.specs.Thread.{Pair, pair_address_named_by_tail}
-use Rattle.lfs_model.specs.Tree.{Path}
-use Rattle.lfs_model.specs.TreeEdits.{tree_after_rename, path_without_prefix}
-use Rattle.lfs_model.specs.Profile.{IsEntryWithinWritableLimits}
-use Rattle.lfs_model.specs.Shown.{IsPathToDirectory, entries_by_directory_in_thread, tree_on_disk}
-use Rattle.lfs_model.proofs.Changes.{IsImageAfterTreeChange}
-use Rattle.lfs_model.proofs.Committed.{no_move_from}
-use Rattle.lfs_model.proofs.Completed.{IsCompleted, complete_insert, complete_length, completed_from, completed_parts}
-use Rattle.lfs_model.proofs.Effects.{does_first, puts_move}
-use Rattle.lfs_model.proofs.Halves.{content_cut, entry_small}
-use Rattle.lfs_model.proofs.Indexes.{nothing_there}
-use Rattle.lfs_model.proofs.Moves.{insert_here, place_at}
-use Rattle.lfs_model.proofs.Names.{IsPlace}
-use Rattle.lfs_model.proofs.Searches.{is_site, number_is, place_of_belongs, same, site, thread_is}
-use Rattle.lfs_model.proofs.Sites.{Site, thread_at}
-use Rattle.lfs_model.proofs.StoredChanges.{logged_changed}
-use Rattle.lfs_pair.specs.Commit.{pair_content_after_changes}
-use Rattle.lfs_thread.specs.Device.{PowerLossLeavesSuchBlocksAfterCleanErases}
-use Rattle.lfs_thread.specs.Kept.{KeptThread}
-use Rattle.lfs_thread.specs.Steps.{complete_content_after_changes, thread_pair_at_index}
+use Rattle.lfs_operations.proofs.Common.{xor_lt, sum_by-append, PairContentChange, PutMove, raw_pair_content_after_changes, RawPairContent, RawSlot, slots_if_names_and_structs_present, pair_content_if_slots_complete, raw_content_of_pair_at, CanSplitSlotsIntoTwoPairs, Disk, DeviceCallEvent, IsPlaceWhereNameBelongs, IsPairOfDirectory, Are32BitPairAddresses, AreMoveStateFieldsWithinBitWidths, Name, is_valid_name, SurvivesPowerLossInCallsSince, Slot, IsContentFittingPair, Gstate, gstate_xor, slot_size, Pair, pair_address_named_by_tail, Path, tree_after_rename, path_without_prefix, IsEntryWithinWritableLimits, IsPathToDirectory, entries_by_directory_in_thread, tree_on_disk, IsImageAfterTreeChange, no_move_from, IsCompleted, complete_insert, complete_length, completed_from, completed_parts, does_first, puts_move, content_cut, entry_small, nothing_there, insert_here, place_at, IsPlace, is_site, number_is, place_of_belongs, same, site, thread_is, Site, thread_at, logged_changed, pair_content_after_changes, PowerLossLeavesSuchBlocksAfterCleanErases, KeptThread, complete_content_after_changes, thread_pair_at_index}
 use Rattle.lfs_operations.specs.Changing.{IsPairNotKeptUnchanged, CanChangeOrSplitPair, IsLeftByStoppedChangeOrSplit, IsPairChangedOrSplit}
 use Rattle.lfs_operations.specs.Editing.{CanEditEntryOfPair}
 use Rattle.lfs_operations.specs.MoveEnds.{CanEndMoveAt, HasEndedMoveAt, gstate_naming_moved_slot}

@@ -1,27 +1,6 @@
 -- A rename across pairs onto a file, from where both stand.
 use Rattle.std.proofs.Common.{Bool, ℕ, ◌≡◌, ◌+◌, ◌-◌, ◌<◌, ◌≤◌, true, false, List, [], ◌∷◌, ◌++◌, length, Some, sym, ap, subst, ◌∙◌, arith, append-nil, length-append}
-use Rattle.lfs_model.specs.Changes.{Delete}
-use Rattle.lfs_model.specs.Content.{slots_if_names_and_structs_present}
-use Rattle.lfs_model.specs.Disk.{Disk}
-use Rattle.lfs_model.specs.History.{DeviceCallEvent}
-use Rattle.lfs_model.specs.InDirectory.{IsPlaceOfNameInDirectory}
-use Rattle.lfs_model.specs.LoggedContent.{Are32BitPairAddresses}
-use Rattle.lfs_model.specs.Names.{Name, is_valid_name}
-use Rattle.lfs_model.specs.PowerLoss.{SurvivesPowerLossInCallsSince}
-use Rattle.lfs_model.specs.Slots.{Slot, IsContentFittingPair, gstate_xor}
-use Rattle.lfs_model.specs.Thread.{Pair}
-use Rattle.lfs_model.specs.Tree.{Path}
-use Rattle.lfs_model.specs.TreeEdits.{tree_after_rename, path_without_prefix}
-use Rattle.lfs_model.specs.Shown.{skip_list_blocks_of_struct, IsPathToDirectory, tree_on_disk, used_blocks}
-use Rattle.lfs_model.proofs.Changes.{IsImageAfterTreeChange}
-use Rattle.lfs_model.proofs.Committed.{no_move_from}
-use Rattle.lfs_model.proofs.Completed.{completed_parts}
-use Rattle.lfs_model.proofs.Counts.{Each, each_right, occurrence_count_of_number}
-use Rattle.lfs_model.proofs.Searches.{is_site, number_is, same, site, slot_of_stands, thread_is}
-use Rattle.lfs_model.proofs.Sites.{Site, thread_at}
-use Rattle.lfs_thread.specs.Device.{PowerLossLeavesSuchBlocksAfterCleanErases}
-use Rattle.lfs_thread.specs.Kept.{KeptThread}
-use Rattle.lfs_thread.specs.Steps.{thread_pair_at_index}
+use Rattle.lfs_operations.proofs.Common.{Delete, slots_if_names_and_structs_present, Disk, DeviceCallEvent, IsPlaceOfNameInDirectory, Are32BitPairAddresses, Name, is_valid_name, SurvivesPowerLossInCallsSince, Slot, IsContentFittingPair, gstate_xor, Pair, Path, tree_after_rename, path_without_prefix, skip_list_blocks_of_struct, IsPathToDirectory, tree_on_disk, used_blocks, IsImageAfterTreeChange, no_move_from, completed_parts, Each, each_right, occurrence_count_of_number, is_site, number_is, same, site, slot_of_stands, thread_is, Site, thread_at, PowerLossLeavesSuchBlocksAfterCleanErases, KeptThread, thread_pair_at_index}
 use Rattle.lfs_operations.specs.Changing.{CanChangeOrSplitPair, IsLeftByStoppedChangeOrSplit, IsPairChangedOrSplit}
 use Rattle.lfs_operations.specs.Editing.{CanEditEntryOfPair}
 use Rattle.lfs_operations.specs.MoveEnds.{CanEndMoveAt, HasEndedMoveAt, gstate_naming_moved_slot}
@@ -30,7 +9,7 @@ use Rattle.lfs_operations.specs.MovingAcross.{tree_with_moved_entry}
 use Rattle.lfs_operations.specs.MovingOnto.{CanReplaceEntryAcrossPairs, CanReplaceFileAcrossPairs, CanReplaceDirectoryAcrossPairs, IsFileReplacedAcrossPairs, replace_entry_across_pairs_changes}
 use Rattle.lfs_operations.specs.Dropping.{ShowsTreeAfterPairDrops}
 use Rattle.lfs_operations.specs.Removing.{is_pair_dropped_with_slot}
-use Rattle.lfs_operations.proofs.Held.{IsEntryIfOther, each_pair, fits_there, here, other_entries}
+use Rattle.lfs_operations.proofs.Held.{IsEntryIfOther, each_pair, fits_there, other_entries}
 use Rattle.lfs_operations.proofs.MovSet.{HasTurned, set_onto, walk_by}
 use Rattle.lfs_operations.proofs.MovStep.{IsFirst, first_survives, first_turned, grown, mid_ends, mid_shows, rename_becomes, rename_completed, rename_once, same_at}
 use Rattle.lfs_operations.proofs.RenameMade.{Leaves, fits_without, leaves_without}

@@ -1,28 +1,14 @@
 -- What two steps tell, one after the other, and what a stop in them leaves.
 use Rattle.std.proofs.Common.{ℕ, zero, suc, ◌≡◌, ◌≢◌, ◌+◌, ◌-◌, ◌<◌, ◌≤◌, ◌⊎◌, inl, inr, Bool, true, false, cond, List, [], ◌∷◌, length, Result, Ok, Err, refl, sym, ap, subst, ◌∙◌, arith, get_or, insert, length-set, set, take}
 use Rattle.std.specs.Prelude.{All, IfErr, IsErrOf, is_err, nat_lt}
-use Rattle.std.proofs.lemmas.Bool.{cases_lt, le-ltb, lt-ltb}
-use Rattle.std.proofs.lemmas.List.Elements.{All-from_recursion, recursion_from_All}
+use Rattle.lfs_operations.proofs.Common.{cases_lt, le-ltb, lt-ltb, All-from_recursion, recursion_from_All, PairContentChange, Disk, DeviceCallEvent, IsTrueOfEachCallSince, fault_count_of_history, Blocks, HasTreeBeforeOrAfterOperation as IsLeftOf, SurvivesPowerLossInCallsSince, disk_with_blocks, Pair, pairs_from_root_directory_on, pair_count_before_root, blocks_of_pair_address, blocks_of_two_pair_addresses, tree_on_disk, survives_then, IsTrueAfterAnyPowerLossSince-weaker, ends_in_hard_tail, PowerLossLeavesSuchBlocksAfterCleanErases, KeptThread, ThreadView, HasSameGeometry, IsPairChanged, ThreadChangesOnlyTheseBlocks, back_pair_of_split, front_pair_of_split, empty_pair_at_anchor, thread_pair_at_index}
 use Rattle.lfs_device.specs.declared.error.Error.{Error}
 use Rattle.lfs_device.specs.declared.error.Error.TheVariants.{Io, NoMemory, NoSpace}
-use Rattle.lfs_model.specs.Changes.{PairContentChange}
-use Rattle.lfs_model.specs.Disk.{Disk}
-use Rattle.lfs_model.specs.History.{DeviceCallEvent, IsTrueOfEachCallSince, fault_count_of_history}
-use Rattle.lfs_model.specs.Blocks.{Blocks}
-use Rattle.lfs_model.specs.PowerLoss.{HasTreeBeforeOrAfterOperation as IsLeftOf, SurvivesPowerLossInCallsSince, disk_with_blocks}
-use Rattle.lfs_model.specs.Thread.{Pair, pairs_from_root_directory_on, pair_count_before_root, blocks_of_pair_address, blocks_of_two_pair_addresses}
-use Rattle.lfs_model.specs.Shown.{tree_on_disk}
-use Rattle.lfs_model.proofs.AfterStops.{survives_then}
-use Rattle.lfs_model.proofs.Histories.{IsTrueAfterAnyPowerLossSince-trans, IsTrueAfterAnyPowerLossSince-weaker, AreBytesStillUnprogrammed-trans, AreBytesStillUnprogrammed-wider}
-use Rattle.lfs_model.proofs.Overwrites.{AreBlocksEqualExceptThese-trans, AreBlocksEqualExceptThese-wider}
-use Rattle.lfs_model.proofs.Writable.{ends_in_hard_tail}
-use Rattle.lfs_thread.specs.Device.{PowerLossLeavesSuchBlocksAfterCleanErases}
-use Rattle.lfs_thread.specs.Kept.{KeptThread, ThreadView}
-use Rattle.lfs_thread.specs.Steps.{HasSameGeometry, IsPairChanged, ThreadChangesOnlyTheseBlocks, back_pair_of_split, front_pair_of_split, empty_pair_at_anchor, thread_pair_at_index}
 use Rattle.lfs_operations.specs.Changing.{AreTwoFreeBlocks, IsPairSplitInto, IsLeftByStoppedChangeOrSplit, IsPairChangedOrSplit, WritesPairAndTwoFreeBlocks, has_thread_failed_after_result}
 use Rattle.lfs_operations.specs.MoveEnds.{pair_written_at_move_end, is_pair_named_by_hard_tail}
 use Rattle.lfs_operations.specs.MovingSteps.{CanEndMoveAfterFirstCommit, SurvivesBothMoveCommits, ReportsErrorsOfCommitsTakingBlocks, WritesTwoPairsAndTwoFreeBlocks, pair_number_after_insertion}
 use Rattle.lfs_operations.specs.Removing.{ReportsErrorsOfCommitTakingNoBlock}
+use Rattle.lfs_operations.proofs.Putting.{writes_trans, writes_wider}
 
 failing : (e : Error) → (e ≡ Io) ⊎ (e ≡ NoMemory) → has_thread_failed_after_result {X = Unit {0}} (Err e) ≡ true
 failing e (inl io) = ap (λ z. has_thread_failed_after_result {X = Unit {0}} (Err z)) io
@@ -58,22 +44,6 @@ not_io r x is io = absurd (let z = sym is ∙ io in cc)
 
 -- ---- the device
 
-wider_writes : (bs cs : List ℕ) (old new : KeptThread) → ((k : ℕ) → All (λ x. x ≢ k) cs → All (λ x. x ≢ k) bs) → ThreadChangesOnlyTheseBlocks bs old new → ThreadChangesOnlyTheseBlocks cs old new
-wider_writes bs cs old new f w = record {
-  others = AreBlocksEqualExceptThese-wider cs f w.others;
-  elsewhere = AreBytesStillUnprogrammed-wider cs f w.elsewhere;
-  shape = w.shape;
-  at_worst = IsTrueAfterAnyPowerLossSince-weaker (λ blocks k. AreBlocksEqualExceptThese-wider cs f k) w.at_worst;
-}
-
-writes_then : (bs : List ℕ) (old mid new : KeptThread) → ThreadChangesOnlyTheseBlocks bs old mid → ThreadChangesOnlyTheseBlocks bs mid new → ThreadChangesOnlyTheseBlocks bs old new
-writes_then bs old mid new v w = record {
-  others = AreBlocksEqualExceptThese-trans v.others w.others;
-  elsewhere = AreBytesStillUnprogrammed-trans v.elsewhere w.elsewhere;
-  shape = record { block_size = w.shape.block_size ∙ v.shape.block_size; page = w.shape.page ∙ v.shape.page; order = w.shape.order ∙ v.shape.order; profile = w.shape.profile ∙ v.shape.profile; count = w.shape.count ∙ v.shape.count };
-  at_worst = IsTrueAfterAnyPowerLossSince-trans v.at_worst (IsTrueAfterAnyPowerLossSince-weaker (λ blocks k. AreBlocksEqualExceptThese-trans v.others k) w.at_worst);
-}
-
 -- a fact of all blocks of both pairs is one of each pair's
 without_second : (a b c d : ℕ) (fresh : List ℕ) (k : ℕ) → All (λ x. x ≢ k) (a ∷ b ∷ c ∷ d ∷ fresh) → All (λ x. x ≢ k) (a ∷ b ∷ fresh)
 without_second a b c d fresh k h =
@@ -90,8 +60,7 @@ writes_first old mid one other w = record {
   fresh = w.fresh;
   few = w.few;
   free = w.free;
-  writes = wider_writes ((thread_pair_at_index old other).at.0 ∷ (thread_pair_at_index old other).at.1 ∷ w.fresh) ((thread_pair_at_index old other).at.0 ∷ (thread_pair_at_index old other).at.1 ∷ (thread_pair_at_index old one).at.0 ∷ (thread_pair_at_index old one).at.1 ∷ w.fresh) old mid
-      (without_second (thread_pair_at_index old other).at.0 (thread_pair_at_index old other).at.1 (thread_pair_at_index old one).at.0 (thread_pair_at_index old one).at.1 w.fresh) w.writes;
+  writes = writes_wider ((thread_pair_at_index old other).at.0 ∷ (thread_pair_at_index old other).at.1 ∷ (thread_pair_at_index old one).at.0 ∷ (thread_pair_at_index old one).at.1 ∷ w.fresh) (without_second (thread_pair_at_index old other).at.0 (thread_pair_at_index old other).at.1 (thread_pair_at_index old one).at.0 (thread_pair_at_index old one).at.1 w.fresh) w.writes;
 }
 
 pub writes_both : (old mid new : KeptThread) (one other place : ℕ) → (thread_pair_at_index mid place).at ≡ (thread_pair_at_index old one).at → WritesPairAndTwoFreeBlocks old other mid → ThreadChangesOnlyTheseBlocks (blocks_of_pair_address (thread_pair_at_index mid place).at) mid new → WritesTwoPairsAndTwoFreeBlocks old one other new
@@ -102,10 +71,7 @@ writes_both old mid new one other place at w e =
       fresh = w.fresh;
       few = w.few;
       free = w.free;
-      writes = writes_then ((thread_pair_at_index old other).at.0 ∷ (thread_pair_at_index old other).at.1 ∷ (thread_pair_at_index old one).at.0 ∷ (thread_pair_at_index old one).at.1 ∷ w.fresh) old mid new f.writes
-          (wider_writes ((thread_pair_at_index old one).at.0 ∷ (thread_pair_at_index old one).at.1 ∷ []) ((thread_pair_at_index old other).at.0 ∷ (thread_pair_at_index old other).at.1 ∷ (thread_pair_at_index old one).at.0 ∷ (thread_pair_at_index old one).at.1 ∷ w.fresh) mid new
-          (without_first (thread_pair_at_index old other).at.0 (thread_pair_at_index old other).at.1 (thread_pair_at_index old one).at.0 (thread_pair_at_index old one).at.1 w.fresh)
-          (subst (λ (a : ℕ × ℕ). ThreadChangesOnlyTheseBlocks (blocks_of_pair_address a) mid new) at e));
+      writes = writes_trans f.writes (writes_wider ((thread_pair_at_index old other).at.0 ∷ (thread_pair_at_index old other).at.1 ∷ (thread_pair_at_index old one).at.0 ∷ (thread_pair_at_index old one).at.1 ∷ w.fresh) (without_first (thread_pair_at_index old other).at.0 (thread_pair_at_index old other).at.1 (thread_pair_at_index old one).at.0 (thread_pair_at_index old one).at.1 w.fresh) (subst (λ (a : ℕ × ℕ). ThreadChangesOnlyTheseBlocks (blocks_of_pair_address a) mid new) at e));
     }
 
 -- the second step writes the fresh pair
@@ -116,9 +82,7 @@ writes_fresh old mid new one other fresh free w e =
       fresh = fresh.0 ∷ fresh.1 ∷ [];
       few = omega arith;
       free = (free.first, (free.second, tt));
-      writes = writes_then bs old mid new
-          (wider_writes (blocks_of_two_pair_addresses (thread_pair_at_index old other).at fresh) bs old mid (without_second (thread_pair_at_index old other).at.0 (thread_pair_at_index old other).at.1 (thread_pair_at_index old one).at.0 (thread_pair_at_index old one).at.1 (fresh.0 ∷ fresh.1 ∷ [])) w)
-          (wider_writes (blocks_of_pair_address fresh) bs mid new (λ k h. (let e = recursion_from_All (λ x. x ≢ k) bs h in All-from_recursion (λ x. x ≢ k) (blocks_of_pair_address fresh) e.1.1.1.1)) e);
+      writes = writes_trans (writes_wider bs (without_second (thread_pair_at_index old other).at.0 (thread_pair_at_index old other).at.1 (thread_pair_at_index old one).at.0 (thread_pair_at_index old one).at.1 (fresh.0 ∷ fresh.1 ∷ [])) w) (writes_wider bs (λ k h. (let e = recursion_from_All (λ x. x ≢ k) bs h in All-from_recursion (λ x. x ≢ k) (blocks_of_pair_address fresh) e.1.1.1.1)) e);
     }
 
 -- ---- the pair in front of the old one, once the new one has changed

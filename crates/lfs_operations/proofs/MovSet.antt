@@ -1,36 +1,12 @@
 -- The first step of a rename across pairs: the slot comes under its new name, and a set move hides the old one.
 use Rattle.std.proofs.Common.{ℕ, ◌≡◌, ◌≢◌, ◌+◌, inl, inr, Bool, true, false, cond, nat_eq, List, [], ◌∷◌, ◌++◌, length, None, refl, sym, ap, ap₂, subst, ◌∙◌, arith, flat_map, append_assoc, append-nil, remove, slice_get}
 use Rattle.std.specs.Prelude.{All}
-use Rattle.std.specs.List.{IsDistinct}
-use Rattle.std.proofs.lemmas.List.Elements.{recursion_from_All}
-use Rattle.std.proofs.lemmas.List.Concat.{flat_map-append}
-use Rattle.lfs_model.specs.Disk.{Disk, block_bytes_on_disk}
-use Rattle.lfs_model.specs.Slots.{Slot, Gstate, is_superblock, same_pair, zero_gstate, gstate_xor}
-use Rattle.lfs_model.specs.SlotEdits.{pair_with_slots}
-use Rattle.lfs_model.specs.Thread.{Pair, blocks_of_pairs, gstate_of_pairs, starts_with_superblock, pair_count_before_root, slots_not_moved}
-use Rattle.lfs_model.specs.Tree.{Path, Tree, branch_address_of_struct}
-use Rattle.lfs_model.specs.TreeEdits.{path_without_prefix, tree_after_subtree_replacement, tree_after_rename}
-use Rattle.lfs_model.specs.Shown.{entries_by_directory_in_thread, IsPathToDirectory, used_blocks, skip_list_blocks_of_struct, all_slots_not_moved}
-use Rattle.lfs_model.specs.View.{IsFileOrDirectoryEntry, HasValidMoveOrNone, IsSomeSlotButNotSuperblock, IsAcceptedImage}
-use Rattle.lfs_model.specs.Profile.{IsWritableImage, IsSlotWithinWritableLimits}
-use Rattle.lfs_model.proofs.Became.{Became, became_front, became_shape}
-use Rattle.lfs_model.proofs.Changes.{IsImageAfterTreeChange, SameFiles, slots_files}
-use Rattle.lfs_model.proofs.Committed.{no_move_from, recovered_from}
-use Rattle.lfs_model.proofs.Counts.{Each, each_append, each_left, each_right, each_weaker, each_pieces, occurrence_count_of_number, count_append, once_from_distinct, distinct_from_once}
-use Rattle.lfs_model.proofs.Files.{HasSameFileBlocksOfStructOnDisks}
-use Rattle.lfs_model.proofs.Global.{gstate_cons, gstate_right}
+use Rattle.lfs_operations.proofs.Common.{IsDistinct, recursion_from_All, flat_map-append, Disk, block_bytes_on_disk, Slot, Gstate, is_superblock, same_pair, zero_gstate, gstate_xor, pair_with_slots, Pair, blocks_of_pairs, gstate_of_pairs, starts_with_superblock, pair_count_before_root, slots_not_moved, Path, Tree, branch_address_of_struct, path_without_prefix, tree_after_subtree_replacement, tree_after_rename, entries_by_directory_in_thread, IsPathToDirectory, used_blocks, skip_list_blocks_of_struct, all_slots_not_moved, IsFileOrDirectoryEntry, HasValidMoveOrNone, IsSomeSlotButNotSuperblock, IsAcceptedImage, IsWritableImage, IsSlotWithinWritableLimits, Became, became_front, became_shape, IsImageAfterTreeChange, SameFiles, slots_files, no_move_from, recovered_from, Each, each_append, each_left, each_right, each_weaker, each_pieces, occurrence_count_of_number, count_append, once_from_distinct, distinct_from_once, HasSameFileBlocksOfStructOnDisks, gstate_cons, gstate_right, flip_false, place_at, get_here, remove_here, IsMoveSet, IsPlace, some_filled, pair_itself, site_gstate_moved, unmoved_elsewhere, avoids_front, avoids_behind, Site, dirs_at, thread_at, IsSite, begin_of, IsTrueOfSomeElement, among_right, among_left, slots_of_pairs_in_order, file_blocks_of_slots, count_files, unmoved_in, IsDevice, IsWritableImageAfterTreeChange, IsPut}
 use Rattle.lfs_model.proofs.Laws.{DirectoryAddressByPath}
-use Rattle.lfs_model.proofs.Listings.{flip_false}
-use Rattle.lfs_model.proofs.Moves.{place_at, get_here, remove_here}
-use Rattle.lfs_model.proofs.MoveSets.{IsMoveSet, move_sets, move_sets_onto}
-use Rattle.lfs_model.proofs.Names.{IsPlace}
-use Rattle.lfs_model.proofs.OneCommit.{some_filled}
-use Rattle.lfs_model.proofs.Pairs.{pair_itself}
-use Rattle.lfs_model.proofs.Rests.{site_gstate_moved, unmoved_elsewhere}
-use Rattle.lfs_model.proofs.Searches.{avoids_front, avoids_behind}
-use Rattle.lfs_model.proofs.Sites.{Site, dirs_at, thread_at, IsSite, begin_of, IsTrueOfSomeElement, any_from, among_right, among_left}
-use Rattle.lfs_model.proofs.Splices.{slots_of_pairs_in_order, file_blocks_of_slots, count_files, unmoved_in, IsDevice, AreFree}
-use Rattle.lfs_model.proofs.StepsTaken.{IsWritableImageAfterTreeChange, IsPut, set_taken}
+use Rattle.lfs_model.proofs.MoveSets.{move_sets, move_sets_onto}
+use Rattle.lfs_model.proofs.Sites.{any_from}
+use Rattle.lfs_model.proofs.Splices.{AreFree}
+use Rattle.lfs_model.proofs.StepsTaken.{set_taken}
 use Rattle.lfs_operations.specs.MoveEnds.{gstate_naming_moved_slot}
 use Rattle.lfs_operations.proofs.MovPlaces.{SameParts, same_parts, InTurn, ahead, behind, in_turn, hidden_place}
 use Rattle.lfs_operations.proofs.Placing.{blocks_append}

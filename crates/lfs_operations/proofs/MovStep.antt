@@ -1,58 +1,19 @@
 -- The first step of a rename across pairs, as a step of the thread, and what the second one makes of it.
 use Rattle.std.proofs.Common.{ℕ, ◌≡◌, ◌≢◌, ◌+◌, ◌-◌, ◌<◌, ◌≤◌, ◌⊎◌, inl, inr, Bool, true, false, cond, take, List, [], ◌∷◌, ◌++◌, length, Option, Some, refl, sym, ap, ap₂, subst, ◌∙◌, arith, append_assoc, length-append, get_or, set, remove}
-use Rattle.std.proofs.lemmas.Bool.{le-ltb, lt-ltb}
-use Rattle.lfs_model.specs.Blocks.{Blocks}
-use Rattle.lfs_model.specs.BlockSets.{AreExactlyTheUsedBlocks}
-use Rattle.lfs_model.specs.BlockSets.BlockState.{Free, InFlight}
-use Rattle.lfs_model.specs.Changes.{PairContentChange}
-use Rattle.lfs_model.specs.Content.{content_after_log_entries, current_block_of_two, empty_raw_pair_content, raw_content_of_pair_at}
-use Rattle.lfs_model.specs.Disk.{block_count, Disk, block_bytes_on_disk}
-use Rattle.lfs_model.specs.History.{DeviceCallEvent}
-use Rattle.lfs_model.specs.Log.{log_entries_of_block}
+use Rattle.lfs_operations.proofs.Common.{le-ltb, lt-ltb, Blocks, AreExactlyTheUsedBlocks, Free, InFlight, PairContentChange, content_after_log_entries, current_block_of_two, empty_raw_pair_content, raw_content_of_pair_at, block_count, Disk, block_bytes_on_disk, DeviceCallEvent, log_entries_of_block, Name, HasTreeBeforeOrAfterOperation as IsLeftOf, SurvivesPowerLossInCallsSince, disk_with_blocks, Slot, Gstate, gstate_xor, zero_gstate, same_pair, slot_of_path, Pair, blocks_of_pairs, gstate_of_pairs, is_hard_tail, pair_count_before_root, Path, Tree, last_name_of_path, tree_after_rename, Session, path_of_bytes_or_root, directories_in_thread, all_slots_not_moved, skip_list_blocks_of_struct, tree_on_disk, used_blocks, IsAcceptedImage, IsWritableImage, flat_map, ArePairsWithSameAddressesAndSlots, IsImageAfterTreeChange, rearranged_chain, IsImageAfterCompletedOperation, occurrence_count_of_number, count_append, count_here, once_from_distinct, IsTrueAfterAnyPowerLossSince-weaker, remove_here, addresses_of_first_pairs_of_directories, set_rearranged, pair_itself, IsNoDirectory, target_slots, IsTrueOfSomeElement, Site, among_left, among_parts, among_right, dirs_at, thread_at, file_blocks_of_slots, IsWritableImageAfterTreeChange, IsChain, pairs_behind, OldStays, from_old, two, ends_in_hard_tail, PowerLossLeavesSuchBlocksAfterCleanErases, KeptThread, HasSameGeometry, empty_pair_at_anchor, thread_pair_at_index}
 use Rattle.std.specs.Option.{option_and_then}
-use Rattle.lfs_model.specs.Names.{Name}
-use Rattle.lfs_model.specs.PowerLoss.{HasTreeBeforeOrAfterOperation as IsLeftOf, SurvivesPowerLossInCallsSince, disk_with_blocks}
-use Rattle.lfs_model.specs.Slots.{Slot, Gstate, gstate_xor, zero_gstate, same_pair}
-use Rattle.lfs_model.specs.SlotEdits.{slot_of_path}
-use Rattle.lfs_model.specs.Thread.{Pair, blocks_of_pairs, gstate_of_pairs, is_hard_tail, pair_count_before_root, blocks_of_pair_address}
-use Rattle.lfs_model.specs.Tree.{Path, Tree}
-use Rattle.lfs_model.specs.TreeEdits.{last_name_of_path, tree_after_rename}
 use Rattle.lfs_model.specs.Operations as ops
-use Rattle.lfs_model.specs.Session.{Session}
-use Rattle.lfs_model.specs.Refusals.{path_of_bytes_or_root}
-use Rattle.lfs_model.specs.Shown.{directories_in_thread, all_slots_not_moved, skip_list_blocks_of_struct, tree_on_disk, used_blocks}
-use Rattle.lfs_model.specs.View.{IsAcceptedImage}
-use Rattle.lfs_model.specs.Profile.{IsWritableImage}
-use Rattle.std.specs.List.{flat_map}
-use Rattle.lfs_model.proofs.Alike.{ArePairsWithSameAddressesAndSlots}
 use Rattle.lfs_model.proofs.LeftFiles.{ends_same}
-use Rattle.lfs_model.proofs.Changes.{IsImageAfterTreeChange, rearranged_chain}
-use Rattle.lfs_model.proofs.Committed.{IsImageAfterCompletedOperation}
-use Rattle.lfs_model.proofs.Counts.{occurrence_count_of_number, count_append, count_here, once_from_distinct}
-use Rattle.lfs_model.proofs.Histories.{IsTrueAfterAnyPowerLossSince-weaker}
-use Rattle.lfs_model.proofs.Moves.{remove_here}
-use Rattle.lfs_model.proofs.MoveSets.{addresses_of_first_pairs_of_directories, set_rearranged}
-use Rattle.lfs_model.proofs.Pairs.{pair_itself}
-use Rattle.lfs_model.proofs.RenamedAcross.{IsNoDirectory, target_slots}
-use Rattle.lfs_model.proofs.Sites.{IsTrueOfSomeElement, Site, among_left, among_parts, among_right, dirs_at, thread_at}
-use Rattle.lfs_model.proofs.Splices.{file_blocks_of_slots}
-use Rattle.lfs_model.proofs.StepsTaken.{IsWritableImageAfterTreeChange, taken_then}
-use Rattle.lfs_model.proofs.Superblocks.{IsChain, pairs_behind}
-use Rattle.lfs_model.proofs.TwoPlaces.{OldStays, from_old, two}
-use Rattle.lfs_model.proofs.Writable.{ends_in_hard_tail}
-use Rattle.lfs_thread.specs.Device.{PowerLossLeavesSuchBlocksAfterCleanErases}
-use Rattle.lfs_thread.specs.Kept.{KeptThread}
-use Rattle.lfs_thread.specs.Steps.{HasSameGeometry, empty_pair_at_anchor, thread_pair_at_index, block_map_with_freed_pair}
+use Rattle.lfs_model.proofs.StepsTaken.{taken_then}
 use Rattle.lfs_operations.specs.Changing.{IsLeftByStoppedChangeOrSplit, IsPairChangedOrSplit}
 use Rattle.lfs_operations.specs.Dropping.{ShowsTreeAfterPairDrops, HasSameBlocksInFlight}
-use Rattle.lfs_operations.specs.MoveEnds.{CanEndMoveAt, HasEndedMoveAt, blocks_dropped_at_move_end, content_after_move_ends, is_pair_named_by_hard_tail, map_after_move_ends, gstate_naming_moved_slot, pairs_after_move_ends}
+use Rattle.lfs_operations.specs.MoveEnds.{CanEndMoveAt, HasEndedMoveAt, blocks_dropped_at_move_end, content_after_move_ends, is_pair_named_by_hard_tail, gstate_naming_moved_slot, pairs_after_move_ends}
 use Rattle.lfs_operations.specs.MovingSteps.{pair_number_after_insertion}
 use Rattle.lfs_operations.specs.Ready.{IsRawPairContentWellFormed, IsImageReadyForChange, KeepsPairCountBeforeRoot}
-use Rattle.lfs_operations.proofs.Dropped.{flying_same, length_fewer, used_fewer}
+use Rattle.lfs_operations.proofs.Dropped.{HasMapWithout, map_ended}
 use Rattle.lfs_operations.proofs.MovAcross.{Arranged, arrangement, completed}
 use Rattle.lfs_operations.proofs.MovFirsts.{set_firsts}
 use Rattle.lfs_operations.proofs.MovSet.{HasTurned, IsSetting, set_count, set_step, state_is, taken_by, walk_by}
-use Rattle.lfs_operations.proofs.Owning.{used_same}
 use Rattle.lfs_operations.proofs.MovTurned.{IsTurn, Stays, TurnedOn, TurnedTo, left_put, put_turned}
 use Rattle.lfs_operations.proofs.Placing.{blocks_append, left_after, left_still}
 use Rattle.lfs_operations.specs.EndingMove.{gstate_without_move}
@@ -400,35 +361,8 @@ module _ (t : KeptThread) (sync : Bool) (old_pair : ℕ) (goes : Bool) (new_pair
           let g = count_append b (blocks_of_pairs x.more) (used_blocks t.disk t.pairs) in
           omega arith
 
-      record IsMapOf : Type 0 where
-        used : AreExactlyTheUsedBlocks last.map (used_blocks last.disk last.pairs ++ file_blocks_of_slots t.disk (target_slots target))
-        size : length last.map ≡ length mid.map
-        flying : HasSameBlocksInFlight mid.map last.map
-
-      map_is : IsMapOf
-      map_is = go goes refl
-        where
-          were : AreExactlyTheUsedBlocks mid.map (blocks_of_pairs x.more ++ used_blocks t.disk t.pairs)
-          were = x.used (used_blocks t.disk t.pairs) k.ready.used
-
-          go : (b : Bool) → goes ≡ b → IsMapOf
-          go false is =
-              let same : last.map ≡ mid.map = e.map ∙ ap (map_after_move_ends mid index) is in
-              record {
-                used = subst (λ m. AreExactlyTheUsedBlocks m kept) (sym same) (used_same mid.map (blocks_of_pairs x.more ++ used_blocks t.disk t.pairs) kept
-                    (λ b. let n = before_last b in let g = ap (λ z. occurrence_count_of_number b (blocks_dropped_at_move_end mid index z)) is in omega arith) were);
-                size = ap length same;
-                flying = subst (HasSameBlocksInFlight mid.map) (sym same) (λ b. ((λ h. h), (λ h. h)));
-              }
-          go true is =
-              let same : last.map ≡ block_map_with_freed_pair mid.map (thread_pair_at_index mid index).at = e.map ∙ ap (map_after_move_ends mid index) is in
-              let less : (b : ℕ) → occurrence_count_of_number b kept + occurrence_count_of_number b (blocks_of_pair_address (thread_pair_at_index mid index).at) ≡ occurrence_count_of_number b (blocks_of_pairs x.more ++ used_blocks t.disk t.pairs)
-              = λ b. ap (λ z. occurrence_count_of_number b kept + occurrence_count_of_number b (blocks_dropped_at_move_end mid index z)) (sym is) ∙ before_last b in
-              record {
-                used = subst (λ m. AreExactlyTheUsedBlocks m kept) (sym same) (used_fewer mid.map (thread_pair_at_index mid index).at (blocks_of_pairs x.more ++ used_blocks t.disk t.pairs) kept were once_before less);
-                size = ap length same ∙ length_fewer mid.map (thread_pair_at_index mid index).at (blocks_of_pairs x.more ++ used_blocks t.disk t.pairs) kept were once_before less;
-                flying = subst (HasSameBlocksInFlight mid.map) (sym same) (flying_same mid.map (thread_pair_at_index mid index).at (blocks_of_pairs x.more ++ used_blocks t.disk t.pairs) kept were once_before less);
-              }
+      map_is : HasMapWithout mid.map last.map (used_blocks last.disk last.pairs ++ file_blocks_of_slots t.disk (target_slots target))
+      map_is = map_ended mid index goes (blocks_of_pairs x.more ++ used_blocks t.disk t.pairs) kept (x.used (used_blocks t.disk t.pairs) k.ready.used) once_before before_last last.map e.map
 
       pub rename_once : (b : ℕ) → occurrence_count_of_number b (used_blocks last.disk last.pairs) + occurrence_count_of_number b (file_blocks_of_slots t.disk (target_slots target)) ≤ 1
       rename_once b =

@@ -1,30 +1,7 @@
 -- A pair of an accepted image that is changed, or split, and gets any delta of the global state.
 use Rattle.std.proofs.Common.{ℕ, zero, suc, ◌≡◌, ◌+◌, ◌<◌, ◌≤◌, ◌⊎◌, inl, inr, Bool, true, false, cond, eqb-true, nat_eq, List, [], ◌∷◌, ◌++◌, length, take, drop, Some, refl, sym, ap, subst, ◌∙◌, arith, append-nil, slice_get}
 use Rattle.std.specs.Prelude.{All}
-use Rattle.std.specs.List.{IsDistinct}
-use Rattle.std.proofs.lemmas.Option.{same_Some}
-use Rattle.std.proofs.lemmas.List.{take-append-drop}
-use Rattle.std.proofs.lemmas.List.Elements.{All-from_recursion, recursion_from_All}
-use Rattle.lfs_model.specs.Blocks.{Blocks}
-use Rattle.lfs_model.specs.BlockSets.{AreExactlyTheUsedBlocks, BlockStateList, IsBlockFree, IsBlockInFlight}
-use Rattle.lfs_model.specs.Changes.{PairContentChange}
-use Rattle.lfs_model.specs.Content.{content_of_pair_at, current_block_of_pair_at}
-use Rattle.lfs_model.specs.Disk.{Disk, block_count}
-use Rattle.lfs_model.specs.PowerLoss.{disk_with_blocks}
-use Rattle.lfs_model.specs.Slots.{Slot, PairContent, Gstate, IsContentFittingPair, gstate_xor}
-use Rattle.lfs_model.specs.SlotEdits.{pair_with_slots}
-use Rattle.lfs_model.specs.Thread.{Pair, blocks_of_pairs, gstate_of_pairs}
-use Rattle.lfs_model.specs.View.{BeginsWithLogEntry, superblock_name_log_entry, IsAcceptedImage}
-use Rattle.lfs_model.specs.Shown.{used_blocks}
-use Rattle.lfs_model.proofs.Became.{fits_same}
-use Rattle.lfs_model.proofs.Counts.{each_right, occurrence_count_of_number}
-use Rattle.lfs_model.proofs.Global.{gstate_cons, gstate_left, gstate_right}
-use Rattle.lfs_model.proofs.Sites.{Site, thread_at, IsSite}
-use Rattle.lfs_model.proofs.Splices.{IsDevice}
-use Rattle.lfs_model.proofs.Unchanged.{HasFirst}
-use Rattle.lfs_pair.specs.Split.{KeepsBlocksOutsideBothPairs}
-use Rattle.lfs_thread.specs.Kept.{KeptThread}
-use Rattle.lfs_thread.specs.Steps.{thread_pair_at_index, complete_content_after_changes, thread_pairs_with_content_replaced_at_index, AreBothSplitPartsOnDisk, HasSameGeometry, HasPairOldContentOnDisk, IsPairChanged, PowerLossLeavesPairOldOrChanged, IsPairWrittenOnDisk, SlotsBeginWithSuperblock, front_pair_of_split, back_pair_of_split, SplitPartsFitPairs}
+use Rattle.lfs_operations.proofs.Common.{IsDistinct, same_Some, take-append-drop, All-from_recursion, recursion_from_All, Blocks, AreExactlyTheUsedBlocks, BlockStateList, IsBlockFree, IsBlockInFlight, PairContentChange, content_of_pair_at, current_block_of_pair_at, Disk, block_count, disk_with_blocks, Slot, PairContent, Gstate, IsContentFittingPair, gstate_xor, pair_with_slots, Pair, blocks_of_pairs, gstate_of_pairs, BeginsWithLogEntry, superblock_name_log_entry, IsAcceptedImage, used_blocks, fits_same, each_right, occurrence_count_of_number, gstate_cons, gstate_left, gstate_right, Site, thread_at, IsSite, IsDevice, HasFirst, KeepsBlocksOutsideBothPairs, KeptThread, thread_pair_at_index, complete_content_after_changes, thread_pairs_with_content_replaced_at_index, AreBothSplitPartsOnDisk, HasSameGeometry, HasPairOldContentOnDisk, IsPairChanged, PowerLossLeavesPairOldOrChanged, IsPairWrittenOnDisk, SlotsBeginWithSuperblock, front_pair_of_split, back_pair_of_split, SplitPartsFitPairs}
 use Rattle.lfs_operations.specs.Changing.{AreTwoFreeBlocks, IsPairSplitInto, IsLeftByStoppedChangeOrSplit, IsPairChangedOrSplit, IsChangedContentTooLarge}
 use Rattle.lfs_operations.specs.Ready.{HasNoNewBlockInFlight, KeepsStatesOfTakenBlocks}
 use Rattle.lfs_operations.proofs.Owning.{length_now, none_comes_now, stay_taken, used_more}
@@ -142,7 +119,7 @@ module _ (t : KeptThread) (index : ℕ) (changes : List PairContentChange) (w : 
 
   -- ---- what it comes to
 
-  turned_one : (disk : Disk) → IsPairWrittenOnDisk t index c disk → IsContentFittingPair t.disk.block_size t.disk.page c → HasTurned t.disk w p slots move disk (record { at = p.at; content = c }) []
+  pub turned_one : (disk : Disk) → IsPairWrittenOnDisk t index c disk → IsContentFittingPair t.disk.block_size t.disk.page c → HasTurned t.disk w p slots move disk (record { at = p.at; content = c }) []
   turned_one disk is fits = record {
     at = refl;
     delta = gstate_cons (record { at = p.at; content = c }) [] ∙ gstate_right move;

@@ -1,52 +1,18 @@
 -- A rename across pairs onto an empty directory: where the directory's pair stands after the move, and what the last step comes to.
-use Rattle.std.proofs.Common.{ℕ, zero, suc, ◌≡◌, ◌≢◌, ◌<◌, ◌⊎◌, inl, inr, ◌+◌, ◌-◌, Bool, true, false, cond, nat_eq, slice_get, take, List, [], ◌∷◌, ◌++◌, length, map, Some, None, sym, ap, ap₂, subst, ◌∙◌, arith, append_assoc, append-nil, refl}
-use Rattle.std.specs.List.{AllByRecursion, IsDistinct}
+use Rattle.std.proofs.Common.{ℕ, zero, suc, ◌≡◌, ◌≢◌, ◌<◌, ◌⊎◌, inl, inr, ◌-◌, Bool, true, false, cond, nat_eq, slice_get, take, List, [], ◌∷◌, ◌++◌, length, map, Some, None, sym, ap, ap₂, subst, ◌∙◌, arith, append_assoc, append-nil, refl}
+use Rattle.lfs_operations.proofs.Common.{AllByRecursion, IsDistinct, recursion_from_All, same_Some, last_name_of_path, tree_after_rename, path_without_prefix, Blocks, PairContentChange, IsPairAtAddress, IsPlaceOfNameInDirectory, IsContentFittingPairOnDisk, IsDirectoryUnreachedOrRemoved, Are32BitPairAddresses, Name, HasTreeBeforeOrAfterOperation as IsLeftOf, disk_with_blocks, slot_of_path, pair_with_slots, Branch, Ctz, Inline, Slot, Struct, gstate_xor, zero_gstate, same_pair, path_of_bytes_or_root, ThreadDirectory, Pair, anchor_pair_address, blocks_of_pairs, pairs_from_root_directory_on, first_pair_address, gstate_of_pairs, root_directory_address_of_pairs, pair_count_before_root, Path, branch_address_of_struct, directory_address_at_path, AreNoEmptyPairsAfterHardTails, IsWritableImage, IsAcceptedImage, IsDirectoryAddressReachedBySomePath, IsPathToDirectory, directories_in_thread, entries_by_directory_in_thread, tree_on_disk, used_blocks, ArePairsWithSameAddressesAndSlots, IsImageAfterTreeChange, IsImageAfterCompletedOperation, no_move_from, recovered_from, Each, occurrence_count_of_number, count_append, each_right, each_weaker, HasDirectory, chain_of_thread, site_shows, NoneGoes, joined_parts, none_where, rest_all, entry_only, get_here, place_at, shown_before, shown_behind, some_filled, pair_itself, pair_on, last_is, Gains, Keeps, Piece, Stays, olds_of, segment_of, directory_addresses_after_rename, IsReplaced, avoids_behind, avoids_front, same, site, slot_of_stands, drafts_of, parts_of, IsTrueOfSomeElement, Site, begin_of, dirs_at, thread_at, file_blocks_of_slots, IsWritableImageAfterTreeChange, IsChain, pairs_behind, OldStays, from_old, two, KeptThread, empty_pair_at_anchor, thread_pair_at_index, HasNoMove}
 use Rattle.std.specs.Prelude.{Any}
-use Rattle.std.proofs.lemmas.List.Elements.{recursion_from_All}
-use Rattle.std.proofs.lemmas.Option.{same_Some}
-use Rattle.lfs_model.specs.TreeEdits.{last_name_of_path, tree_after_rename, path_without_prefix, same_path}
-use Rattle.lfs_model.specs.Blocks.{Blocks}
-use Rattle.lfs_model.specs.Changes.{PairContentChange}
-use Rattle.lfs_model.specs.InDirectory.{IsPairAtAddress, IsPlaceOfNameInDirectory}
-use Rattle.lfs_model.specs.Layout.{IsContentFittingPairOnDisk, IsDirectoryUnreachedOrRemoved, directory_addresses_of_slot, addresses_of_removed_directories}
-use Rattle.lfs_model.specs.LoggedContent.{Are32BitPairAddresses}
-use Rattle.lfs_model.specs.Names.{Name}
+use Rattle.lfs_model.specs.TreeEdits.{same_path}
+use Rattle.lfs_model.specs.Layout.{directory_addresses_of_slot, addresses_of_removed_directories}
 use Rattle.lfs_model.specs.Operations as ops
-use Rattle.lfs_model.specs.PowerLoss.{HasTreeBeforeOrAfterOperation as IsLeftOf, disk_with_blocks}
-use Rattle.lfs_model.specs.SlotEdits.{slot_of_path, pair_with_slots}
-use Rattle.lfs_model.specs.Slots.{Branch, Ctz, Inline, Slot, Struct, gstate_xor, zero_gstate, same_pair}
-use Rattle.lfs_model.specs.Refusals.{path_of_bytes_or_root}
-use Rattle.lfs_model.specs.Thread.{IsAddressOfDirectoryFirstPair, ThreadDirectory, Pair, anchor_pair_address, blocks_of_pairs, pairs_from_root_directory_on, first_pair_address, gstate_of_pairs, is_hard_tail, root_directory_address_of_pairs, pair_count_before_root}
-use Rattle.lfs_model.specs.Tree.{Path, branch_address_of_struct, directory_address_at_path}
-use Rattle.lfs_model.specs.Profile.{AreNoEmptyPairsAfterHardTails, IsWritableImage}
-use Rattle.lfs_model.specs.View.{IsAcceptedImage}
-use Rattle.lfs_model.specs.Shown.{IsDirectoryAddressReachedBySomePath, IsPathToDirectory, directories_in_thread, entries_by_directory_in_thread, tree_on_disk, used_blocks}
-use Rattle.lfs_model.proofs.Alike.{ArePairsWithSameAddressesAndSlots, Stood}
-use Rattle.lfs_model.proofs.Changes.{IsImageAfterTreeChange}
-use Rattle.lfs_model.proofs.Committed.{IsImageAfterCompletedOperation, no_move_from, recovered_from}
-use Rattle.lfs_model.proofs.Counts.{Each, occurrence_count_of_number, count_append, each_right, each_weaker}
-use Rattle.lfs_model.proofs.Found.{HasDirectory, chain_of_thread, directory_found, links_behind}
-use Rattle.lfs_model.proofs.Indexes.{site_shows}
-use Rattle.lfs_model.proofs.Layouts.{NoneGoes, joined_parts, none_where, rest_all}
+use Rattle.lfs_model.specs.Thread.{IsAddressOfDirectoryFirstPair}
+use Rattle.lfs_model.proofs.Alike.{Stood}
+use Rattle.lfs_model.proofs.Found.{directory_found, links_behind}
 use Rattle.lfs_model.proofs.MoveSets.{all_at_firsts, begins_at_firsts}
-use Rattle.lfs_model.proofs.Moves.{entry_only, get_here, place_at, shown_before, shown_behind}
-use Rattle.lfs_model.proofs.OneCommit.{some_filled}
-use Rattle.lfs_model.proofs.Pairs.{pair_itself, pair_on}
-use Rattle.lfs_model.proofs.Paths.{last_is}
-use Rattle.lfs_model.proofs.Pieces.{Gains, GoesAt, Keeps, Piece, Stays, olds_of, pieces_stood, segment_of}
+use Rattle.lfs_model.proofs.Pieces.{GoesAt, pieces_stood}
 use Rattle.lfs_model.proofs.RenamedOnto.{IsRenameOnto, onto_completed}
-use Rattle.lfs_model.proofs.Renames.{directory_addresses_after_rename}
-use Rattle.lfs_model.proofs.Replacing.{IsReplaced}
-use Rattle.lfs_model.proofs.Searches.{avoids_behind, avoids_front, same, site, slot_of_stands}
-use Rattle.lfs_model.proofs.Segments.{drafts_of, parts_of}
-use Rattle.lfs_model.proofs.Sites.{IsTrueOfSomeElement, Site, begin_of, dirs_at, thread_at}
-use Rattle.lfs_model.proofs.Splices.{file_blocks_of_slots}
-use Rattle.lfs_model.proofs.StepsTaken.{IsWritableImageAfterTreeChange}
-use Rattle.lfs_model.proofs.Superblocks.{IsChain, pairs_behind}
 use Rattle.lfs_model.proofs.Trees.{not_before}
-use Rattle.lfs_model.proofs.TwoPlaces.{OldStays, fits_fewer, from_old, two}
-use Rattle.lfs_thread.specs.Kept.{KeptThread}
-use Rattle.lfs_thread.specs.Steps.{empty_pair_at_anchor, thread_pair_at_index}
+use Rattle.lfs_model.proofs.TwoPlaces.{fits_fewer}
 use Rattle.lfs_operations.specs.Dropping.{CanDropPairAt, IsNextPairDropped, IsLeftByStoppedPairDrop}
 use Rattle.lfs_operations.specs.Editing.{CanEditEntryOfPair}
 use Rattle.lfs_operations.specs.MoveEnds.{HasEndedMoveAt, gstate_naming_moved_slot}
@@ -64,9 +30,8 @@ use Rattle.lfs_operations.proofs.OntoPieces.{AreKnown, IsCutOut, alike_then, ali
 use Rattle.lfs_operations.proofs.MovLater.{edit_later}
 use Rattle.lfs_operations.proofs.Owning.{used_same}
 use Rattle.lfs_operations.proofs.Putting.{read_is, with_history}
-use Rattle.lfs_operations.proofs.RmdirPlaces.{HasFront, directory_led, front_of, get_some, has_front, not_the_root, number_of_first, shows_nothing, soft_end}
+use Rattle.lfs_operations.proofs.RmdirPlaces.{HasOwnPair, led_to, own_pair, HasFront, front_of, get_some, not_the_root, number_of_first, soft_end}
 use Rattle.lfs_operations.proofs.LastDrop.{IsAllButDropped, alike_end, can_drop_last, left_last, shows_dropped, taken_end}
-use Rattle.lfs_model.proofs.Global.{HasNoMove}
 
 -- ---- lists
 
@@ -163,24 +128,20 @@ module _ (t : KeptThread) (old_pair old_id first new_pair new_id : ℕ) (name : 
   entry_there = ap (λ z. slice_get z (place_at w l)) (site_shows t.disk w p l (g ∷ []) r rename.at first_step.setting.accepted first_step.setting.site (no_move_from (thread_at w (p ∷ [])) first_step.setting.settled) same_begin tb.stands.held
       ∙ ap (λ z. shown_before w l ++ (z ++ shown_behind w r)) (entry_only g tb.stands.entry)) ∙ get_here (shown_before w l) (shown_behind w r) g
 
-  led : IsPathToDirectory (thread_at w (p ∷ [])) (rename.path ++ g.name ∷ []) rename.to
-  led = directory_led t.disk (thread_at w (p ∷ [])) rename.path rename.at (place_at w l) g rename.to first_step.setting.accepted leads entry_there rename.branch
+  led_there : IsPathToDirectory t.pairs (rename.path ++ name ∷ []) rename.to
+  led_there = led_to t can.ready rename.path rename.at rename.leads rename.to_first new_pair new_id name tb rename.begins rename.to rename.branch
 
-  front : HasFront (dirs_at w (p ∷ [])) rename.to
-  front = has_front t.disk w.chain (dirs_at w (p ∷ [])) rename.path g.name rename.to first_step.setting.accepted first_step.setting.site.chain led
+  own : HasOwnPair t w.chain (dirs_at w (p ∷ [])) gone rename.to
+  own = own_pair t can.ready w.chain (dirs_at w (p ∷ [])) first_step.turn.there first_step.setting.site.chain rename.path name rename.to gone led_there rename.below rename.alike rename.empty rename.alone
+
+  abbrev front : HasFront (dirs_at w (p ∷ [])) rename.to
+  front = own.front
 
   o_there : slice_get t.pairs gone ≡ Some o
   o_there = get_some t.pairs gone empty_pair_at_anchor rename.below
 
-  first_is : (gone ≡ length (w.chain ++ front.front) + 1) × (front.first ≡ o)
-  first_is = number_of_first t.disk w.chain (dirs_at w (p ∷ [])) rename.to first_step.setting.accepted front gone o (subst (λ z. slice_get z gone ≡ Some o) first_step.turn.there o_there) rename.alike
-
   pub gone_above : 0 < gone
-  gone_above = let e = first_is.0 in omega arith
-
-  empty : entries_by_directory_in_thread (thread_at w (p ∷ [])) rename.to ≡ []
-  empty = shows_nothing t.disk w.chain (dirs_at w (p ∷ [])) rename.to first_step.setting.accepted first_step.setting.site.chain (no_move_from (thread_at w (p ∷ [])) first_step.setting.settled) front
-      (ap (λ (z : Pair). is_hard_tail z.content.tail) first_is.1 ∙ rename.alone) (ap (λ (z : Pair). z.content.slots) first_is.1 ∙ rename.empty)
+  gone_above = let e = own.number in omega arith
 
   not_new : p ≡ o → ⊥
   not_new k = some_filled l r g (sym tb.stands.held ∙ ap (λ (z : Pair). z.content.slots) k ∙ rename.empty)
@@ -193,11 +154,8 @@ module _ (t : KeptThread) (old_pair old_id first new_pair new_id : ℕ) (name : 
   moved : IsWritableImageAfterTreeChange t.disk t.pairs m.disk m.pairs (tree_after_rename (can.path ++ can.name ∷ []) (rename.path ++ name ∷ [])) (directory_addresses_after_rename (can.path ++ can.name ∷ []) (rename.path ++ name ∷ []))
   moved = last_taken t true old_pair goes new_pair changes wo q0 lo s ro w p l (Some g) v r from to name first_step is.mid x m e
 
-  led_there : IsPathToDirectory t.pairs (rename.path ++ g.name ∷ []) rename.to
-  led_there = subst (λ z. IsPathToDirectory z (rename.path ++ g.name ∷ []) rename.to) (sym first_step.turn.there) led
-
   begun : IsAddressOfDirectoryFirstPair (directories_in_thread m.pairs) rename.to
-  begun = begins_at_firsts (directories_in_thread t.pairs) (directories_in_thread m.pairs) (last_firsts t true old_pair goes new_pair changes wo q0 lo s ro w p l (Some g) v r from to name first_step is.mid x m e) rename.to (can.ready.accepted.branches (rename.path ++ g.name ∷ []) rename.to led_there)
+  begun = begins_at_firsts (directories_in_thread t.pairs) (directories_in_thread m.pairs) (last_firsts t true old_pair goes new_pair changes wo q0 lo s ro w p l (Some g) v r from to name first_step is.mid x m e) rename.to (can.ready.accepted.branches (rename.path ++ name ∷ []) rename.to led_there)
 
   found : HasDirectory (pairs_from_root_directory_on m.pairs) rename.to
   found =
@@ -205,7 +163,7 @@ module _ (t : KeptThread) (old_pair old_id first new_pair new_id : ℕ) (name : 
       directory_found (gstate_of_pairs m.pairs) rename.to k.0 (pairs_from_root_directory_on m.pairs) k.1 begun
 
   now : HasFront (pairs_from_root_directory_on m.pairs) rename.to
-  now = front_of (pairs_from_root_directory_on m.pairs) rename.to found (λ none. not_the_root t.disk t.pairs rename.path g.name rename.to can.ready.accepted led_there
+  now = front_of (pairs_from_root_directory_on m.pairs) rename.to found (λ none. not_the_root t.disk t.pairs rename.path name rename.to can.ready.accepted led_there
       (subst (λ z. same_pair z rename.to ≡ true) (sym (ap first_pair_address (found.is ∙ ap (λ z. z ++ (found.first ∷ found.run ++ found.after)) none)) ∙ moved.follows.root) found.at))
 
   abbrev chain : List Pair
@@ -256,7 +214,7 @@ module _ (t : KeptThread) (old_pair old_id first new_pair new_id : ℕ) (name : 
       drops = replaced_drops t m from to rename.to (take (pair_count_before_root m.pairs) m.pairs) now.front now.before o (now.run ++ now.after) can.ready moved no_move_now there_now chain_now
           (subst (λ z. IsReplaced (directory_address_at_path (entries_by_directory_in_thread z) (root_directory_address_of_pairs z)) from to rename.to) (sym first_step.turn.there)
           (subst (λ (n : Name). IsReplaced (directory_address_at_path (entries_by_directory_in_thread (thread_at w (p ∷ []))) (root_directory_address_of_pairs (thread_at w (p ∷ [])))) from (rename.path ++ n ∷ []) rename.to) tb.stands.named
-          (replaced_by t.disk (thread_at w (p ∷ [])) rename.path rename.at (place_at w l) g rename.to from first_step.setting.accepted leads entry_there rename.branch empty
+          (replaced_by t.disk (thread_at w (p ∷ [])) rename.path rename.at (place_at w l) g rename.to from first_step.setting.accepted leads entry_there rename.branch own.empty
           (ap (λ (n : Name). path_without_prefix from (rename.path ++ n ∷ [])) tb.stands.named ∙ rename.not_beneath))))
           (λ Q h. all_at_firsts Q (directories_in_thread t.pairs) (directories_in_thread m.pairs) (last_firsts t true old_pair goes new_pair changes wo q0 lo s ro w p l (Some g) v r from to name first_step is.mid x m e) h)
           rename.alike rename.alone;
@@ -324,7 +282,7 @@ module _ (t : KeptThread) (old_pair old_id first new_pair new_id : ℕ) (name : 
       behind = front.run ++ front.after
 
       dirs_were : dirs_at w (p ∷ []) ≡ ahead ++ o ∷ behind
-      dirs_were = front.is ∙ ap (λ z. front.front ++ front.before ∷ z ∷ (front.run ++ front.after)) first_is.1 ∙ sym (append_assoc front.front (front.before ∷ []) (o ∷ (front.run ++ front.after)))
+      dirs_were = own.dirs_are ∙ sym (append_assoc front.front (front.before ∷ []) (o ∷ (front.run ++ front.after)))
 
       abbrev Apart : Pair → Type 0
       Apart z = same_pair z.at rename.to ≡ false

@@ -2,27 +2,13 @@
 use Rattle.std.proofs.Common.{ℕ, ◌≡◌, false, true, List, [], ◌∷◌, ◌++◌, Some, None, sym, ap, subst, ◌∙◌, append-nil, slice_get}
 use Rattle.std.specs.Option.{option_and_then}
 use Rattle.std.specs.Prelude.{All}
-use Rattle.std.proofs.lemmas.Option.{same_Some}
-use Rattle.lfs_model.specs.TreeEdits.{tree_after_rename, path_without_prefix}
-use Rattle.lfs_model.specs.Disk.{Disk}
-use Rattle.lfs_model.specs.Slots.{Branch, Slot, same_pair}
-use Rattle.lfs_model.specs.Thread.{Pair, gstate_of_pairs, is_hard_tail, root_directory_address_of_pairs}
-use Rattle.lfs_model.specs.Tree.{Path, branch_address_of_struct, directory_address_at_path, directory_address_at_path_from_slot, root_slot}
-use Rattle.lfs_model.specs.View.{IsAcceptedImage}
-use Rattle.lfs_model.specs.Profile.{IsWritableImage}
-use Rattle.lfs_model.specs.Shown.{IsPathToDirectory, directories_in_thread, entries_by_directory_in_thread}
-use Rattle.lfs_model.proofs.Committed.{recovered_from}
-use Rattle.lfs_model.proofs.Global.{HasNoMove}
+use Rattle.lfs_operations.proofs.Common.{same_Some, tree_after_rename, path_without_prefix, Disk, Branch, Slot, same_pair, Pair, gstate_of_pairs, is_hard_tail, root_directory_address_of_pairs, Path, branch_address_of_struct, directory_address_at_path, IsAcceptedImage, IsWritableImage, IsPathToDirectory, directories_in_thread, entries_by_directory_in_thread, recovered_from, HasNoMove, directory_addresses_after_rename, IsReplaced, IsGone, IsWritableImageAfterTreeChange, IsChain, KeptThread}
+use Rattle.lfs_model.specs.Tree.{directory_address_at_path_from_slot, root_slot}
 use Rattle.lfs_model.proofs.Names.{found_at}
 use Rattle.lfs_model.proofs.Paths.{append_step}
-use Rattle.lfs_model.proofs.Renames.{directory_addresses_after_rename}
-use Rattle.lfs_model.proofs.Replacing.{IsReplaced, replacing_taken}
-use Rattle.lfs_model.proofs.RmdirSteps.{IsGone}
-use Rattle.lfs_model.proofs.StepsTaken.{IsWritableImageAfterTreeChange}
-use Rattle.lfs_model.proofs.Superblocks.{IsChain}
+use Rattle.lfs_model.proofs.Replacing.{replacing_taken}
 use Rattle.lfs_model.proofs.Uses.{accepted_sound}
 use Rattle.lfs_model.proofs.Walks.{leaf_leads, leads_below}
-use Rattle.lfs_thread.specs.Kept.{KeptThread}
 use Rattle.lfs_operations.specs.Ready.{IsImageReadyForChange}
 
 -- ---- the directory that is replaced

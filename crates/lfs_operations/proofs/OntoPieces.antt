@@ -1,19 +1,8 @@
 -- Where slots stand once a pair among others is gone: a piece is cut out.
 use Rattle.std.proofs.Common.{ℕ, ◌≡◌, ◌≢◌, false, true, List, [], ◌∷◌, ◌++◌, map, Option, None, refl, sym, ap, subst, ◌∙◌, append_assoc}
-use Rattle.lfs_model.specs.Disk.{Disk}
-use Rattle.lfs_model.specs.Layout.{IsContentFittingPairOnDisk, directory_address_continued_by_hard_tail}
-use Rattle.lfs_model.specs.SlotEdits.{pair_with_slots}
-use Rattle.lfs_model.specs.Slots.{same_pair}
-use Rattle.lfs_model.specs.Thread.{Pair, is_hard_tail}
-use Rattle.lfs_model.proofs.Alike.{ArePairsWithSameAddressesAndSlots}
-use Rattle.lfs_model.proofs.Became.{Became}
-use Rattle.lfs_model.proofs.Counts.{Each, each_left, each_right}
-use Rattle.lfs_model.proofs.Layouts.{joined_append, joined_parts, joined_singles, onward_all, singles}
-use Rattle.lfs_model.proofs.Pieces.{AreThere, Gains, Goes, Keeps, Piece, Stays, olds_of, segment_of}
-use Rattle.lfs_model.proofs.RemovedDirectory.{onward_append}
-use Rattle.lfs_model.proofs.Segments.{drafts_of, parts_of}
-use Rattle.lfs_model.proofs.Splices.{slots_of_pairs_in_order}
-use Rattle.lfs_model.proofs.TwoPlaces.{OldStays}
+use Rattle.lfs_operations.proofs.Common.{Disk, IsContentFittingPairOnDisk, directory_address_continued_by_hard_tail, pair_with_slots, same_pair, Pair, is_hard_tail, ArePairsWithSameAddressesAndSlots, Became, Each, each_left, each_right, joined_parts, joined_singles, onward_all, singles, Gains, Keeps, Piece, Stays, olds_of, segment_of, onward_append, drafts_of, parts_of, slots_of_pairs_in_order, OldStays}
+use Rattle.lfs_model.proofs.Layouts.{joined_append}
+use Rattle.lfs_model.proofs.Pieces.{AreThere, Goes}
 
 -- ---- lists
 

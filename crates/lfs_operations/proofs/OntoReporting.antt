@@ -1,18 +1,7 @@
 -- What the steps of a rename onto a directory tell, write and leave, one after the other.
 use Rattle.std.proofs.Common.{ℕ, ◌≡◌, ◌-◌, ◌<◌, ◌⊎◌, inl, inr, Bool, true, false, List, length, arith, Result, Ok, sym, ap, subst, ◌∙◌, get_or}
 use Rattle.lfs_device.specs.declared.error.Error.{Error}
-use Rattle.lfs_model.specs.Blocks.{Blocks}
-use Rattle.lfs_model.specs.History.{fault_count_of_history}
-use Rattle.lfs_model.specs.PowerLoss.{HasTreeBeforeOrAfterOperation as IsLeftOf, SurvivesPowerLossInCallsSince, disk_with_blocks}
-use Rattle.lfs_model.specs.Slots.{zero_gstate}
-use Rattle.lfs_model.specs.Thread.{Pair, blocks_of_pair_address, blocks_of_two_pair_addresses}
-use Rattle.lfs_model.specs.Tree.{Tree}
-use Rattle.lfs_model.proofs.AfterStops.{survives_then}
-use Rattle.lfs_model.proofs.Histories.{IsTrueAfterAnyPowerLossSince-weaker}
-use Rattle.lfs_model.specs.Changes.{PairContentChange}
-use Rattle.lfs_thread.specs.Device.{PowerLossLeavesSuchBlocksAfterCleanErases}
-use Rattle.lfs_thread.specs.Kept.{KeptThread, ThreadView}
-use Rattle.lfs_thread.specs.Steps.{IsPairChanged, IsThreadOnlyRead, ThreadChangesOnlyTheseBlocks, empty_pair_at_anchor, thread_pair_at_index}
+use Rattle.lfs_operations.proofs.Common.{Blocks, fault_count_of_history, HasTreeBeforeOrAfterOperation as IsLeftOf, SurvivesPowerLossInCallsSince, disk_with_blocks, zero_gstate, Pair, blocks_of_pair_address, blocks_of_two_pair_addresses, Tree, survives_then, IsTrueAfterAnyPowerLossSince-weaker, PairContentChange, PowerLossLeavesSuchBlocksAfterCleanErases, KeptThread, ThreadView, IsPairChanged, IsThreadOnlyRead, ThreadChangesOnlyTheseBlocks, empty_pair_at_anchor, thread_pair_at_index}
 use Rattle.lfs_operations.specs.Dropping.{IsLeftByStoppedPairDrop}
 use Rattle.lfs_operations.specs.Changing.{has_thread_failed_after_result}
 use Rattle.lfs_operations.specs.MoveEnds.{pair_written_at_move_end}

@@ -1,24 +1,13 @@
 -- Steps that write blocks of pairs, and at most two blocks that were free.
 use Rattle.std.proofs.Common.{ℕ, zero, suc, ◌≡◌, ◌≢◌, ◌≤◌, ◌<◌, ◌⊎◌, inl, inr, ◌+◌, Bool, true, false, List, [], ◌∷◌, ◌++◌, length, get_or, insert, remove, set, length-set, refl, ap, subst, ◌∙◌, arith}
 use Rattle.std.specs.Prelude.{All, Contains}
-use Rattle.std.proofs.lemmas.Bool.{cases_lt}
-use Rattle.std.proofs.lemmas.List.Elements.{All-from_recursion, recursion_from_All}
-use Rattle.lfs_model.specs.BlockSets.{IsBlockFree}
-use Rattle.lfs_model.specs.Changes.{PairContentChange}
-use Rattle.lfs_model.specs.Names.{Name}
-use Rattle.lfs_model.specs.Thread.{Pair, blocks_of_pairs, blocks_of_pair_address, blocks_of_two_pair_addresses}
-use Rattle.lfs_model.proofs.BlockSets.{Contains-occurrence_count_of_number, occurrence_count_of_number-Contains}
-use Rattle.lfs_model.proofs.Counts.{occurrence_count_of_number, count_append, each_append, each_counted, each_from_counted, each_weaker}
-use Rattle.lfs_model.proofs.Histories.{ArePossibleBlocksAfterPowerLossInCall-read, IsTrueAfterAnyPowerLossSince-read_count_of_history, IsTrueAfterAnyPowerLossSince-trans, AreBytesStillUnprogrammed-read_count_of_history, AreBytesStillUnprogrammed-trans}
-use Rattle.lfs_thread.specs.Kept.{KeptThread}
-use Rattle.lfs_thread.specs.Steps.{IsThreadOnlyRead, ThreadChangesOnlyTheseBlocks, back_pair_of_split, front_pair_of_split, empty_pair_at_anchor, thread_pair_at_index}
+use Rattle.lfs_operations.proofs.Common.{cases_lt, All-from_recursion, recursion_from_All, IsBlockFree, PairContentChange, Name, Pair, blocks_of_pairs, blocks_of_pair_address, blocks_of_two_pair_addresses, Contains-occurrence_count_of_number, occurrence_count_of_number-Contains, occurrence_count_of_number, count_append, each_append, each_counted, each_from_counted, each_weaker, ArePossibleBlocksAfterPowerLossInCall-read, IsTrueAfterAnyPowerLossSince-read_count_of_history, IsTrueAfterAnyPowerLossSince-trans, AreBytesStillUnprogrammed-read_count_of_history, AreBytesStillUnprogrammed-trans, KeptThread, IsThreadOnlyRead, ThreadChangesOnlyTheseBlocks, back_pair_of_split, front_pair_of_split, empty_pair_at_anchor, thread_pair_at_index}
 use Rattle.lfs_operations.specs.Changing.{IsPairChangedOrSplit, WritesOnlyThreadPairsAndTwoFreeBlocks, WritesPairAndTwoFreeBlocks, GivesPairsAtMostTwoFreeBlocks}
 use Rattle.lfs_operations.specs.MoveEnds.{HasEndedMoveAt, content_after_move_ends, pair_written_at_move_end, pairs_after_move_ends}
 use Rattle.lfs_operations.specs.MovingSteps.{WritesOnlyThreadPairsAndFreeBlocks, WritesTwoPairsAndTwoFreeBlocks}
 use Rattle.lfs_operations.specs.MovingOnto.{IsEntryReplacedAcrossPairs}
 use Rattle.lfs_operations.proofs.MovStep.{blocks_alike}
-use Rattle.lfs_operations.proofs.Putting.{read_is, with_history}
-use Rattle.lfs_operations.proofs.UnlinkedSteps.{writes_trans, writes_wider}
+use Rattle.lfs_operations.proofs.Putting.{read_is, with_history, writes_trans, writes_wider}
 
 -- ---- blocks of pairs
 

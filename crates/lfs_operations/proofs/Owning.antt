@@ -1,24 +1,7 @@
 -- Which blocks an image uses after a commit: those that it used, and those of a pair that came.
 use Rattle.std.proofs.Common.{ℕ, ◌≡◌, ◌≢◌, ◌+◌, ◌≤◌, Bool, true, false, cond, eqb-true, eq-eqb, nat_eq, List, [], ◌∷◌, ◌++◌, length, Some, refl, sym, ap, subst, ◌∙◌, arith, append-nil, set, slice_get, length-set, zero, suc}
 use Rattle.std.specs.Prelude.{Contains, ◌↔◌}
-use Rattle.std.specs.List.{flat_map}
-use Rattle.std.proofs.lemmas.List.Elements.{recursion_from_All}
-use Rattle.std.proofs.lemmas.List.Concat.{flat_map-append}
-use Rattle.lfs_model.specs.Disk.{Disk}
-use Rattle.lfs_model.specs.BlockSets.{AreExactlyTheUsedBlocks, BlockStateList, IsBlockFree, IsBlockInFlight, IsBlockMarkedUsedInMap}
-use Rattle.lfs_model.specs.BlockSets.BlockState.{Free, InFlight, Used}
-use Rattle.lfs_model.specs.Slots.{Slot}
-use Rattle.lfs_model.specs.Thread.{Pair, blocks_of_pairs, gstate_of_pairs}
-use Rattle.lfs_model.specs.Shown.{all_slots_not_moved, skip_list_blocks_of_struct, used_blocks}
-use Rattle.lfs_model.proofs.BlockSets.{occurrence_count_of_number-Contains, Contains-occurrence_count_of_number, slice_get-set_same, slice_get-set_other}
-use Rattle.lfs_model.proofs.Changes.{SameFiles, slots_files}
-use Rattle.lfs_model.proofs.Committed.{IsCommit, no_move_from}
-use Rattle.lfs_model.proofs.Counts.{each_left, each_right, occurrence_count_of_number, count_append}
-use Rattle.lfs_model.proofs.Files.{HasSameFileBlocksOfStructOnDisks}
-use Rattle.lfs_model.proofs.Global.{HasNoMove}
-use Rattle.lfs_model.proofs.Sites.{Site, thread_at}
-use Rattle.lfs_model.proofs.Splices.{IsDevice, file_blocks_of_slots, slots_of_pairs_in_order, unmoved_in, count_files}
-use Rattle.lfs_thread.specs.Steps.{block_map_with_used_pair}
+use Rattle.lfs_operations.proofs.Common.{flat_map, recursion_from_All, flat_map-append, Disk, AreExactlyTheUsedBlocks, BlockStateList, IsBlockFree, IsBlockInFlight, IsBlockMarkedUsedInMap, Free, InFlight, Used, Slot, Pair, blocks_of_pairs, gstate_of_pairs, all_slots_not_moved, skip_list_blocks_of_struct, used_blocks, occurrence_count_of_number-Contains, Contains-occurrence_count_of_number, slice_get-set_same, slice_get-set_other, SameFiles, slots_files, IsCommit, no_move_from, each_left, each_right, occurrence_count_of_number, count_append, HasSameFileBlocksOfStructOnDisks, HasNoMove, Site, thread_at, IsDevice, file_blocks_of_slots, slots_of_pairs_in_order, unmoved_in, count_files, block_map_with_used_pair}
 use Rattle.lfs_operations.specs.Changing.{AreTwoFreeBlocks, map_with_two_blocks_in_flight}
 use Rattle.lfs_operations.specs.Ready.{HasNoNewBlockInFlight, KeepsStatesOfTakenBlocks}
 use Rattle.lfs_operations.proofs.Placing.{blocks_append}

@@ -1,30 +1,15 @@
 -- At a site of an accepted image a pair becomes others, on a disk where only its blocks and some that nobody owned differ.
 use Rattle.std.proofs.Common.{ℕ, ◌≡◌, ◌≢◌, ◌⊎◌, inl, inr, ◌+◌, ◌≤◌, true, cond, nat_eq, List, [], ◌∷◌, ◌++◌, take, Some, refl, sym, ap, subst, ◌∙◌, arith, append_assoc}
 use Rattle.std.specs.Prelude.{All}
-use Rattle.std.specs.List.{IsDistinct, flat_map}
+use Rattle.lfs_operations.proofs.Common.{IsDistinct, flat_map, All-from_recursion, flat_map-append, Disk, block_bytes_on_disk, SameGeometry, Blocks, HasTreeBeforeOrAfterOperation, disk_with_blocks, IsSlotWithinWritableLimits, IsWritableImage, IsContentFittingPair, Slot, DirectoryAddressByPath, Tree, content_of_pair_at, current_block_of_pair_at, Pair, blocks_of_pairs, first_pair_address, pair_count_before_root, pairs_from_root_directory_on, starts_with_superblock, BeginsWithLogEntry, superblock_name_log_entry, IsAcceptedImage, first_pair_slots, all_slots_not_moved, tree_on_disk, used_blocks, skip_list_blocks_of_struct, Each, occurrence_count_of_number, count_append, once_from_distinct, each_from_counted, Site, thread_at, IsDevice, IsImageAfterTreeChange, chain_of_thread, IsChain, HasFirst}
 use Rattle.std.proofs.lemmas.List.{append-nil}
-use Rattle.std.proofs.lemmas.List.Elements.{All-from_recursion}
-use Rattle.std.proofs.lemmas.List.Concat.{flat_map-append}
-use Rattle.lfs_model.specs.Disk.{Disk, block_bytes_on_disk, SameGeometry}
-use Rattle.lfs_model.specs.Blocks.{Blocks}
 use Rattle.lfs_model.specs.declared.limits.Profile.{Profile}
-use Rattle.lfs_model.specs.PowerLoss.{HasTreeBeforeOrAfterOperation, disk_with_blocks}
-use Rattle.lfs_model.specs.Profile.{IsSlotWithinWritableLimits, IsWritableImage}
-use Rattle.lfs_model.specs.Slots.{IsContentFittingPair, Slot}
-use Rattle.lfs_model.specs.Steps.{DirectoryAddressByPath, IsWritableImageAfterTreeChange}
-use Rattle.lfs_model.specs.Tree.{Tree}
-use Rattle.lfs_model.specs.Content.{content_of_pair_at, current_block_of_pair_at}
-use Rattle.lfs_model.specs.Thread.{Pair, blocks_of_pairs, first_pair_address, pair_count_before_root, pairs_from_first_with_slots, pairs_from_root_directory_on, has_slots, starts_with_superblock}
-use Rattle.lfs_model.specs.View.{BeginsWithLogEntry, superblock_name_log_entry, IsAcceptedImage, first_pair_slots, first_slot_name}
-use Rattle.lfs_model.specs.Shown.{all_slots_not_moved, tree_on_disk, used_blocks, skip_list_blocks_of_struct}
-use Rattle.lfs_model.proofs.Counts.{Each, occurrence_count_of_number, count_append, once_from_distinct, each_from_counted}
-use Rattle.lfs_model.proofs.Sites.{Site, thread_at}
-use Rattle.lfs_model.proofs.Splices.{IsDevice}
+use Rattle.lfs_model.specs.Steps.{IsWritableImageAfterTreeChange}
+use Rattle.lfs_model.specs.Thread.{pairs_from_first_with_slots, has_slots}
+use Rattle.lfs_model.specs.View.{first_slot_name}
 use Rattle.lfs_model.proofs.Devices.{device_from, first_same}
-use Rattle.lfs_model.proofs.Changes.{IsImageAfterTreeChange}
-use Rattle.lfs_model.proofs.Found.{chain_of_thread}
-use Rattle.lfs_model.proofs.Superblocks.{Behind, FromSlots, InFront, IsChain, first_counted, from_front}
-use Rattle.lfs_model.proofs.Unchanged.{HasFirst, accepted_first, same_follows}
+use Rattle.lfs_model.proofs.Superblocks.{Behind, FromSlots, InFront, first_counted, from_front}
+use Rattle.lfs_model.proofs.Unchanged.{accepted_first, same_follows}
 
 -- ---- blocks
 

@@ -1,24 +1,40 @@
 -- A pair that is changed, or split into two free blocks.
-use Rattle.std.proofs.Common.{true, ℕ, ◌≡◌, ◌≤◌, ◌⊎◌, Option, None, Some, inl, inr, List, [], ◌∷◌, Result, Ok, Err, arith, refl, sym, ap, subst, ◌∙◌, set}
-use Rattle.std.specs.Prelude.{IfErr, is_err}
+use Rattle.std.proofs.Common.{true, ℕ, ◌≡◌, ◌≢◌, ◌∙◌, ◌≤◌, ◌⊎◌, Option, None, Some, inl, inr, List, [], ◌∷◌, Result, Ok, Err, arith, refl, sym, ap, subst, ◌∙◌, set}
+use Rattle.std.specs.Prelude.{All, IfErr, is_err}
 use Rattle.lfs_device.specs.declared.error.Error.{Error}
 use Rattle.lfs_device.specs.declared.error.Error.TheVariants.{Io, NoMemory, NoSpace}
-use Rattle.lfs_model.specs.Blocks.{Blocks}
-use Rattle.lfs_model.specs.BlockSets.{BlockStateList}
-use Rattle.lfs_model.specs.BlockSets.BlockState.{Free, InFlight}
-use Rattle.lfs_model.specs.Changes.{PairContentChange}
-use Rattle.lfs_model.specs.Disk.{Disk}
-use Rattle.lfs_model.specs.Slots.{PairContent}
-use Rattle.lfs_model.specs.History.{DeviceCallEvent, AreCallsSinceOnlyReads, fault_count_of_history}
-use Rattle.lfs_model.proofs.BlockSets.{slice_get-set_same, slice_get-set_other}
-use Rattle.lfs_model.proofs.Histories.{IsTrueAfterAnyPowerLossSince-weaker, IsTrueAfterAnyPowerLossSince-trans, AreBytesStillUnprogrammed-refl, AreBytesStillUnprogrammed-trans, IsTrueOfEachCallSince-until, IsTrueOfEachCallSince-behind, began, AreCallsSinceOnlyReads-trans, AreBytesStillUnprogrammed-read_count_of_history, IsTrueAfterAnyPowerLossSince-read_count_of_history, ArePossibleBlocksAfterPowerLossInCall-read}
-use Rattle.lfs_thread.specs.Device.{PowerLossLeavesSuchBlocksAfterCleanErases}
-use Rattle.lfs_thread.specs.Kept.{KeptThread, ThreadView}
+use Rattle.lfs_operations.proofs.Common.{Blocks, BlockStateList, Free, InFlight, PairContentChange, Disk, PairContent, DeviceCallEvent, AreCallsSinceOnlyReads, fault_count_of_history, slice_get-set_same, slice_get-set_other, IsTrueAfterAnyPowerLossSince-weaker, IsTrueAfterAnyPowerLossSince-trans, AreBytesStillUnprogrammed-refl, AreBytesStillUnprogrammed-trans, IsTrueOfEachCallSince-until, IsTrueOfEachCallSince-behind, AreCallsSinceOnlyReads-trans, AreBytesStillUnprogrammed-read_count_of_history, IsTrueAfterAnyPowerLossSince-read_count_of_history, ArePossibleBlocksAfterPowerLossInCall-read, PowerLossLeavesSuchBlocksAfterCleanErases, KeptThread, ThreadView, thread_pair_at_index, AreBothSplitPartsOnDisk, SplitPartsFitPairs, CanSplitPairAtIndex, PowerLossLeavesPairOldOrChanged, IoMeantFaultNoMemoryWroteNothing, HasPairOldContentOnDisk, PowerLossLeavesPairOldOrSplit, IsThreadOnlyRead, IsPairSplitInTwo, ThreadChangesOnlyTheseBlocks, blocks_of_two_pair_addresses, AreBlocksEqualExceptThese-trans, AreBlocksEqualExceptThese-wider, AreBytesStillUnprogrammed-wider}
+use Rattle.lfs_model.proofs.Histories.{began}
 use Rattle.lfs_thread.specs.CachedLog.{read_count_unless_cached}
-use Rattle.lfs_thread.specs.Steps.{thread_pair_at_index, AreFreshBlocksInFlight, AreBothSplitPartsOnDisk, SplitPartsFitPairs, CanSplitPairAtIndex, PowerLossLeavesPairOldOrChanged, IoMeantFaultNoMemoryWroteNothing, HasPairOldContentOnDisk, PowerLossLeavesPairOldOrSplit, IsThreadOnlyRead, IsPairSplitInTwo, ThreadChangesOnlyTheseBlocks}
+use Rattle.lfs_thread.specs.Steps.{AreFreshBlocksInFlight}
 use Rattle.lfs_operations.specs.Changing.{AreTwoFreeBlocks, CanChangeOrSplitPair, IsPairSplit, IsPairSplitInto, IsLeftByStoppedChangeOrSplit, IsChangedContentTooLarge, IsLeftByStoppedSplit, ReportsFaultsChangingNothingAtNoSpace, WritesPairAndTwoFreeBlocks, map_with_two_blocks_in_flight, ReportsErrorsOfCommitTakingBlocks, has_thread_failed_after_result}
 use Rattle.lfs_operations.proofs.Taking.{within}
-use Rattle.lfs_model.specs.Thread.{blocks_of_two_pair_addresses}
+
+-- ---- the blocks that steps change
+
+pub writes_wider : {bs : List ℕ} (cs : List ℕ) {old new : KeptThread} → ((b : ℕ) → All (λ c. c ≢ b) cs → All (λ c. c ≢ b) bs) → ThreadChangesOnlyTheseBlocks bs old new → ThreadChangesOnlyTheseBlocks cs old new
+writes_wider cs f h = record {
+  others = AreBlocksEqualExceptThese-wider cs f h.others;
+  elsewhere = AreBytesStillUnprogrammed-wider cs f h.elsewhere;
+  shape = h.shape;
+  at_worst = IsTrueAfterAnyPowerLossSince-weaker (λ blocks k. AreBlocksEqualExceptThese-wider cs f k) h.at_worst;
+}
+
+pub writes_trans : {bs : List ℕ} {old mid new : KeptThread} → ThreadChangesOnlyTheseBlocks bs old mid → ThreadChangesOnlyTheseBlocks bs mid new → ThreadChangesOnlyTheseBlocks bs old new
+writes_trans first second = record {
+  others = AreBlocksEqualExceptThese-trans first.others second.others;
+  elsewhere = AreBytesStillUnprogrammed-trans first.elsewhere second.elsewhere;
+  shape = record {
+    block_size = second.shape.block_size ∙ first.shape.block_size;
+    page = second.shape.page ∙ first.shape.page;
+    order = second.shape.order ∙ first.shape.order;
+    profile = second.shape.profile ∙ first.shape.profile;
+    count = second.shape.count ∙ first.shape.count;
+  };
+  at_worst = IsTrueAfterAnyPowerLossSince-trans first.at_worst (IsTrueAfterAnyPowerLossSince-weaker (λ blocks k. AreBlocksEqualExceptThese-trans first.others k) second.at_worst);
+}
+
+-- ---- a thread that is read on
 
 -- with other states of the blocks
 abbrev pub with_map : KeptThread → BlockStateList → KeptThread

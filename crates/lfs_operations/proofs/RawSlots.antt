@@ -2,11 +2,8 @@
 use Rattle.std.proofs.Common.{ℕ, ◌≡◌, ◌≤◌, ◌+◌, Bool, true, false, cond, not, nat_eq, List, [], ◌∷◌, ◌++◌, length, Option, Some, None, refl, ap, ◌∙◌, arith}
 use Rattle.std.specs.Prelude.{is_some}
 use Rattle.std.specs.Option.{option_and_then, option_map}
-use Rattle.std.proofs.lemmas.Option.{same_Some}
-use Rattle.std.proofs.lemmas.List.Sums.{sum_by-cons}
-use Rattle.lfs_model.specs.Content.{RawSlot, slot_if_name_and_struct_present, slots_if_names_and_structs_present, kind_of_name_type, slot_of_id, struct_of_type_and_bytes, attributes_without_attribute}
-use Rattle.lfs_model.specs.Slots.{Attributes, Slot, attributes_size}
-use Rattle.lfs_model.proofs.Completed.{complete_parts}
+use Rattle.lfs_operations.proofs.Common.{same_Some, sum_by-cons, RawSlot, slot_if_name_and_struct_present, slots_if_names_and_structs_present, kind_of_name_type, slot_of_id, struct_of_type_and_bytes, attributes_without_attribute, Attributes, Slot, complete_parts}
+use Rattle.lfs_model.specs.Slots.{attributes_size}
 
 -- it has a name
 pub is_named : (s : RawSlot) (t : Slot) → slot_if_name_and_struct_present s ≡ Some t → is_some s.name ≡ true

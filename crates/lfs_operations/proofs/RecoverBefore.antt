@@ -1,21 +1,9 @@
 -- Where slots stand after a recovery of an image whose set move was ended, they stand after one of the image from before.
 use Rattle.std.proofs.Common.{ℕ, zero, suc, ◌≡◌, ◌≤◌, inl, inr, Bool, true, false, cond, List, [], ◌∷◌, ◌++◌, map, length, Option, Some, None, refl, sym, ap, ap₂, subst, ◌∙◌, arith}
 use Rattle.std.specs.Prelude.{is_none}
-use Rattle.lfs_model.specs.Disk.{Disk}
-use Rattle.lfs_model.specs.Layout.{ArePairsKeptSplitOrDropped, IsContentFittingPairOnDisk, IsDirectoryUnreachedOrRemoved, IsPairKeptSplitOrDropped, directory_address_of_pair, directory_address_continued_by_hard_tail}
+use Rattle.lfs_operations.proofs.Common.{Disk, IsContentFittingPairOnDisk, IsDirectoryUnreachedOrRemoved, directory_address_of_pair, directory_address_continued_by_hard_tail, pair_with_slots, pairs_without_moved_slot, IsContentFittingPair, Gstate, same_pair, Pair, gstate_of_pairs, is_hard_tail, pair_count_before_root, slots_not_moved, IsDirectoryAddressReachedBySomePath, fits_same, IsImageAfterTreeChange, Each, HasNoMove, unmoved_all, joined_parts, unmoved_elsewhere, KeptThread, HasSameGeometry}
+use Rattle.lfs_model.specs.Layout.{ArePairsKeptSplitOrDropped, IsPairKeptSplitOrDropped}
 use Rattle.lfs_model.specs.Operations as ops
-use Rattle.lfs_model.specs.SlotEdits.{pair_with_slots, pairs_without_moved_slot}
-use Rattle.lfs_model.specs.Slots.{IsContentFittingPair, Gstate, same_pair}
-use Rattle.lfs_model.specs.Thread.{Pair, gstate_of_pairs, is_hard_tail, pair_count_before_root, slots_not_moved}
-use Rattle.lfs_model.specs.Shown.{IsDirectoryAddressReachedBySomePath}
-use Rattle.lfs_model.proofs.Became.{fits_same}
-use Rattle.lfs_model.proofs.Changes.{IsImageAfterTreeChange}
-use Rattle.lfs_model.proofs.Counts.{Each}
-use Rattle.lfs_model.proofs.Global.{HasNoMove, unmoved_all}
-use Rattle.lfs_model.proofs.Layouts.{joined_parts}
-use Rattle.lfs_model.proofs.Rests.{unmoved_elsewhere}
-use Rattle.lfs_thread.specs.Kept.{KeptThread}
-use Rattle.lfs_thread.specs.Steps.{HasSameGeometry}
 use Rattle.lfs_operations.specs.EndingMove.{IsEachRecoveryOfNewAllowedForOld}
 
 -- ---- pairs of the same addresses and slots, which hard tails join alike

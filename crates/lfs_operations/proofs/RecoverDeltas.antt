@@ -1,18 +1,7 @@
 -- What a commit makes of a pair that sets the global state.
 use Rattle.std.proofs.Common.{ℕ, ◌≡◌, ◌<◌, List, [], ◌∷◌, Some, refl, sym, ap, subst, ◌∙◌, arith, get_or, length, zero, suc}
 use Rattle.std.specs.Option.{option_and_then}
-use Rattle.std.proofs.lemmas.Option.{same_Some}
-use Rattle.std.proofs.lemmas.List.Elements.{recursion_from_All}
-use Rattle.lfs_model.specs.Changes.{PutMove, raw_pair_content_after_changes}
-use Rattle.lfs_model.specs.Content.{RawPairContent, pair_content_if_slots_complete, content_of_pair_at, raw_content_of_pair_at}
-use Rattle.lfs_model.specs.LoggedContent.{AreMoveStateFieldsWithinBitWidths}
-use Rattle.lfs_model.specs.Slots.{IsContentFittingPair, Gstate, gstate_xor}
-use Rattle.lfs_model.specs.Thread.{Pair, gstate_of_pairs}
-use Rattle.lfs_model.proofs.Completed.{completed_from, completed_parts}
-use Rattle.lfs_model.proofs.Counts.{Each, each_weaker}
-use Rattle.lfs_model.proofs.Effects.{does_first, does_nothing, puts_move}
-use Rattle.lfs_thread.specs.Kept.{KeptThread}
-use Rattle.lfs_thread.specs.Steps.{CanChangePair, IsCommitRefused, complete_content_after_changes, empty_pair_at_anchor, thread_pair_at_index}
+use Rattle.lfs_operations.proofs.Common.{same_Some, recursion_from_All, PutMove, raw_pair_content_after_changes, RawPairContent, pair_content_if_slots_complete, content_of_pair_at, raw_content_of_pair_at, AreMoveStateFieldsWithinBitWidths, IsContentFittingPair, Gstate, gstate_xor, Pair, gstate_of_pairs, completed_from, completed_parts, Each, each_weaker, does_first, does_nothing, puts_move, KeptThread, CanChangePair, IsCommitRefused, complete_content_after_changes, empty_pair_at_anchor, thread_pair_at_index}
 use Rattle.lfs_operations.specs.Deltas.{CanSetGstateInPair, gstate_setting_changes, delta_reaching_gstate, content_reaching_gstate}
 use Rattle.lfs_operations.proofs.Held.{completes_to}
 use Rattle.lfs_operations.proofs.DroppedTails.{all_again, move_xor, moves_joined, IsWritableAgain}

@@ -1,37 +1,11 @@
 -- The end of a recovery: every pair was seen, and the sync bit is cleared.
 use Rattle.std.proofs.Common.{ℕ, suc, ◌≡◌, ◌+◌, ◌<◌, ◌≤◌, ◌⊎◌, ◌&&◌, inl, inr, Bool, true, false, cond, List, [], ◌∷◌, ◌++◌, length, take, Option, Some, None, Result, Err, refl, sym, ap, subst, subst₂, ◌∙◌, arith, append-nil}
 use Rattle.std.specs.Prelude.{All}
-use Rattle.std.proofs.lemmas.Option.{same_Some}
-use Rattle.std.proofs.lemmas.List.Elements.{All-from_recursion, recursion_from_All}
+use Rattle.lfs_operations.proofs.Common.{same_Some, All-from_recursion, recursion_from_All, Blocks, SameGeometry, block_bytes_on_disk, DeviceCallEvent, fault_count_of_history, HasTreeBeforeOrAfterOperation as IsLeftOf, SurvivesPowerLossInCallsSince, disk_with_blocks, directory_address_continued_by_hard_tail, Gstate, Slot, zero_gstate, AreLinkedByTails, ThreadDirectory, Pair, anchor_pair_address, blocks_of_pairs, pairs_from_root_directory_on, gstate_of_pairs, may_superblock_chain_continue_after_pair, has_superblock_in_first_nonempty_pair, pair_count_before_root, IsAcceptedImage, IsDirectoryAddressReachedBySomePath, all_slots_not_moved, directories_in_thread, skip_list_blocks_of_struct, tree_on_disk, IsWritableImage, survives_then, ArePairsWithSameAddressesAndSlots, alike_itself, SameFiles, Each, occurrence_count_of_number, each_always, each_weaker, HasSameFileBlocksOfStructOnDisks, chain_of_thread, HasNoMove, IsTrueAfterAnyPowerLossSince-weaker, NoneGoes, none_where, rest_all, AllReached, thread_at, IsWritableImageAfterTreeChange, pairs_behind, PowerLossLeavesSuchBlocksAfterCleanErases, KeptThread, ThreadView, IsPairChanged, PowerLossLeavesPairOldOrChanged, IsPairWrittenOnDisk, ThreadChangesOnlyTheseBlocks, thread_pairs_with_content_replaced_at_index, complete_content_after_changes}
 use Rattle.lfs_device.specs.declared.error.Error.{Error}
-use Rattle.lfs_model.specs.Blocks.{Blocks}
-use Rattle.lfs_model.specs.Disk.{SameGeometry, block_bytes_on_disk}
-use Rattle.lfs_model.specs.History.{DeviceCallEvent, fault_count_of_history}
-use Rattle.lfs_model.specs.PowerLoss.{HasTreeBeforeOrAfterOperation as IsLeftOf, SurvivesPowerLossInCallsSince, disk_with_blocks}
-use Rattle.lfs_model.specs.Layout.{directory_address_continued_by_hard_tail}
 use Rattle.lfs_model.specs.Recovery.{IsNothingLeftToRecover}
-use Rattle.lfs_model.specs.Slots.{Gstate, Slot, zero_gstate}
-use Rattle.lfs_model.specs.Thread.{AreLinkedByTails, ThreadDirectory, Pair, anchor_pair_address, blocks_of_pairs, pairs_from_root_directory_on, gstate_of_pairs, may_superblock_chain_continue_after_pair, has_superblock_in_first_nonempty_pair, pair_count_before_root}
-use Rattle.lfs_model.specs.View.{IsAcceptedImage}
-use Rattle.lfs_model.specs.Shown.{IsDirectoryAddressReachedBySomePath, all_slots_not_moved, directories_in_thread, skip_list_blocks_of_struct, tree_on_disk}
-use Rattle.lfs_model.specs.Profile.{IsWritableImage}
-use Rattle.lfs_model.proofs.AfterStops.{survives_then}
-use Rattle.lfs_model.proofs.Alike.{ArePairsWithSameAddressesAndSlots, alike_itself}
-use Rattle.lfs_model.proofs.Changes.{SameFiles, follows_itself}
-use Rattle.lfs_model.proofs.Counts.{Each, occurrence_count_of_number, each_always, each_weaker}
-use Rattle.lfs_model.proofs.Files.{HasSameFileBlocksOfStructOnDisks}
-use Rattle.lfs_model.proofs.Found.{chain_of_thread}
-use Rattle.lfs_model.proofs.Global.{HasNoMove}
-use Rattle.lfs_model.proofs.Histories.{IsTrueAfterAnyPowerLossSince-weaker}
-use Rattle.lfs_model.proofs.Layouts.{NoneGoes, none_where, rest_all}
-use Rattle.lfs_model.proofs.Moves.{AllReached}
+use Rattle.lfs_model.proofs.Changes.{follows_itself}
 use Rattle.lfs_model.proofs.Recovering.{recovery_ends}
-use Rattle.lfs_model.proofs.Sites.{thread_at}
-use Rattle.lfs_model.proofs.StepsTaken.{IsWritableImageAfterTreeChange}
-use Rattle.lfs_model.proofs.Superblocks.{pairs_behind}
-use Rattle.lfs_thread.specs.Device.{PowerLossLeavesSuchBlocksAfterCleanErases}
-use Rattle.lfs_thread.specs.Kept.{KeptThread, ThreadView}
-use Rattle.lfs_thread.specs.Steps.{IsPairChanged, PowerLossLeavesPairOldOrChanged, IsPairWrittenOnDisk, ThreadChangesOnlyTheseBlocks, thread_pairs_with_content_replaced_at_index, complete_content_after_changes}
 use Rattle.lfs_operations.specs.Deltas.{gstate_setting_changes, content_reaching_gstate}
 use Rattle.lfs_operations.specs.Recovering.{AreUnreachedPairNumbers, AreUnreachedPairNumbersFrom, CanClearSyncBit, HasDroppedUnreachedPairsAndRecovered, IsSyncBitCleared, ReportsErrorsOfRecovery, list_blocks_of_numbered_pairs, slots_of_numbered_pairs}
 use Rattle.lfs_operations.specs.Dropping.{HasSameBlocksInFlight}

@@ -1,39 +1,19 @@
 -- A recovery ends a set move: which pair the step is about, and what it comes to.
 use Rattle.std.proofs.Common.{ℕ, ◌≡◌, ◌≢◌, ◌≤◌, ◌<◌, ◌+◌, ◌-◌, ◌⊎◌, inl, inr, ◌&&◌, ◌==◌, Bool, true, false, List, [], ◌∷◌, ◌++◌, length, take, refl, sym, ap, ap₂, subst, ◌∙◌, arith, append_assoc, length-append, eqb-true, eq-eqb, nat_lt}
-use Rattle.std.proofs.lemmas.Bool.{and_parts, cases_lt, lt-ltb}
-use Rattle.std.proofs.lemmas.List.Elements.{recursion_from_All}
-use Rattle.lfs_model.specs.BlockSets.{AreExactlyTheUsedBlocks}
-use Rattle.lfs_model.specs.Shown.{used_blocks}
-use Rattle.lfs_model.specs.Thread.{Pair, gstate_of_pairs, is_hard_tail, pair_count_before_root}
-use Rattle.lfs_model.specs.View.{HasSuperblockIfAnySlot}
-use Rattle.lfs_model.proofs.Counts.{occurrence_count_of_number, once_from_distinct}
-use Rattle.lfs_model.proofs.Global.{HasNoMove}
-use Rattle.lfs_model.proofs.Indexes.{HasSite, site_of_number}
-use Rattle.lfs_model.proofs.Pairs.{pair_back}
-use Rattle.lfs_model.proofs.Writable.{ends_in_hard_tail}
-use Rattle.lfs_thread.specs.Kept.{KeptThread}
-use Rattle.lfs_thread.specs.Steps.{thread_pair_at_index}
+use Rattle.lfs_operations.proofs.Common.{and_parts, cases_lt, lt-ltb, recursion_from_All, used_blocks, Pair, gstate_of_pairs, is_hard_tail, pair_count_before_root, HasSuperblockIfAnySlot, once_from_distinct, HasNoMove, HasSite, site_of_number, pair_back, ends_in_hard_tail, KeptThread, thread_pair_at_index}
 use Rattle.lfs_operations.specs.Deltas.{has_hard_tail_at}
-use Rattle.lfs_operations.specs.Dropping.{HasSameBlocksInFlight}
 use Rattle.lfs_operations.specs.EndingMove.{CanEndMove, HasEndedMove, HasMovedSlotInPair, has_one_slot_after_hard_tail}
-use Rattle.lfs_operations.specs.MoveEnds.{CanEndMoveAt, HasEndedMoveAt, blocks_dropped_at_move_end, is_pair_named_by_hard_tail, map_after_move_ends, pair_written_at_move_end}
+use Rattle.lfs_operations.specs.MoveEnds.{CanEndMoveAt, HasEndedMoveAt, is_pair_named_by_hard_tail, pair_written_at_move_end}
 use Rattle.lfs_operations.specs.Ready.{IsRawPairContentWellFormed}
-use Rattle.lfs_operations.proofs.Dropped.{flying_same, length_fewer, used_fewer}
+use Rattle.lfs_operations.proofs.Dropped.{HasMapWithout, map_ended}
 use Rattle.lfs_operations.proofs.DroppedTails.{front_is}
 use Rattle.lfs_operations.proofs.MovEnding.{led_is}
-use Rattle.lfs_operations.proofs.Owning.{used_same}
 use Rattle.lfs_operations.proofs.RecoverMoved.{heads, in_directory}
 use Rattle.lfs_operations.proofs.RemovedWhole.{last_pair, flag_last, only_slot}
 
 pub written_below : (t : KeptThread) (index : ℕ) (goes : Bool) → index < length t.pairs → pair_written_at_move_end index goes < length t.pairs
 written_below t index true low = omega arith
 written_below t index false low = low
-
--- the map, once the step is done
-record IsMapEnded (t new : KeptThread) : Type 0 where
-  used : AreExactlyTheUsedBlocks new.map (used_blocks new.disk new.pairs)
-  size : length new.map ≡ length t.map
-  flying : HasSameBlocksInFlight t.map new.map
 
 module _ (t : KeptThread) (can : CanEndMove t) (index : ℕ) (m : HasMovedSlotInPair t index) where
   h : HasSite t.pairs index
@@ -144,20 +124,5 @@ module _ (t : KeptThread) (can : CanEndMove t) (index : ℕ) (m : HasMovedSlotIn
     leads_on = e.leads_on;
   }
     where
-      once : (b : ℕ) → occurrence_count_of_number b (used_blocks t.disk t.pairs) ≤ 1
-      once b = once_from_distinct (used_blocks t.disk t.pairs) can.accepted.owned_once b
-
-      go : (b : Bool) → new.map ≡ map_after_move_ends t index b → ((k : ℕ) → occurrence_count_of_number k (used_blocks new.disk new.pairs) + occurrence_count_of_number k (blocks_dropped_at_move_end t index b) ≡ occurrence_count_of_number k (used_blocks t.disk t.pairs)) → IsMapEnded t new
-      go false is same = record {
-        used = subst (λ s. AreExactlyTheUsedBlocks s (used_blocks new.disk new.pairs)) (sym is) (used_same t.map (used_blocks t.disk t.pairs) (used_blocks new.disk new.pairs) (λ k. let u = same k in omega arith) can.used);
-        size = ap length is;
-        flying = subst (HasSameBlocksInFlight t.map) (sym is) (λ k. ((λ f. f), (λ f. f)));
-      }
-      go true is same = record {
-        used = subst (λ s. AreExactlyTheUsedBlocks s (used_blocks new.disk new.pairs)) (sym is) (used_fewer t.map (thread_pair_at_index t index).at (used_blocks t.disk t.pairs) (used_blocks new.disk new.pairs) can.used once same);
-        size = ap length is ∙ length_fewer t.map (thread_pair_at_index t index).at (used_blocks t.disk t.pairs) (used_blocks new.disk new.pairs) can.used once same;
-        flying = subst (HasSameBlocksInFlight t.map) (sym is) (flying_same t.map (thread_pair_at_index t index).at (used_blocks t.disk t.pairs) (used_blocks new.disk new.pairs) can.used once same);
-      }
-
-      map_is : IsMapEnded t new
-      map_is = go (has_one_slot_after_hard_tail t index) e.map e.blocks
+      map_is : HasMapWithout t.map new.map (used_blocks new.disk new.pairs)
+      map_is = map_ended t index (has_one_slot_after_hard_tail t index) (used_blocks t.disk t.pairs) (used_blocks new.disk new.pairs) can.used (λ b. once_from_distinct (used_blocks t.disk t.pairs) can.accepted.owned_once b) e.blocks new.map e.map

@@ -1,21 +1,7 @@
 -- The lists of pairs that go in a recovery: they are known by the pairs' numbers, and stay on the disk.
 use Rattle.std.proofs.Common.{ℕ, zero, suc, ◌≡◌, ◌≢◌, ◌+◌, ◌≤◌, inl, inr, List, [], ◌∷◌, ◌++◌, length, Option, refl, sym, ap, subst, ◌∙◌, arith, append-nil, length-append, append_assoc}
 use Rattle.std.specs.Prelude.{slice_index_or}
-use Rattle.std.proofs.lemmas.List.Concat.{flat_map-append}
-use Rattle.std.proofs.lemmas.List.Elements.{All-from_recursion}
-use Rattle.lfs_model.specs.Disk.{SameGeometry, block_bytes_on_disk}
-use Rattle.lfs_model.specs.Layout.{directory_address_continued_by_hard_tail}
-use Rattle.lfs_model.specs.Slots.{Slot}
-use Rattle.lfs_model.specs.Thread.{Pair, blocks_of_pairs, gstate_of_pairs}
-use Rattle.lfs_model.specs.View.{IsAcceptedImage}
-use Rattle.lfs_model.specs.Shown.{skip_list_blocks_of_struct, used_blocks}
-use Rattle.lfs_model.proofs.Changes.{SameFiles, slots_files}
-use Rattle.lfs_model.proofs.Counts.{Each, occurrence_count_of_number, count_append, each_always, each_from_counted, each_joined, each_left, each_pieces, each_right, once_from_distinct}
-use Rattle.lfs_model.proofs.Files.{HasSameFileBlocksOfStructOnDisks}
-use Rattle.lfs_model.proofs.Global.{HasNoMove}
-use Rattle.lfs_model.proofs.Splices.{file_blocks_of_slots, slots_of_pairs_in_order}
-use Rattle.lfs_thread.specs.Kept.{KeptThread}
-use Rattle.lfs_thread.specs.Steps.{ThreadChangesOnlyTheseBlocks, empty_pair_at_anchor}
+use Rattle.lfs_operations.proofs.Common.{flat_map-append, All-from_recursion, SameGeometry, block_bytes_on_disk, directory_address_continued_by_hard_tail, Slot, Pair, blocks_of_pairs, gstate_of_pairs, IsAcceptedImage, skip_list_blocks_of_struct, used_blocks, SameFiles, slots_files, Each, occurrence_count_of_number, count_append, each_always, each_from_counted, each_joined, each_left, each_pieces, each_right, once_from_distinct, HasSameFileBlocksOfStructOnDisks, HasNoMove, file_blocks_of_slots, slots_of_pairs_in_order, KeptThread, ThreadChangesOnlyTheseBlocks, empty_pair_at_anchor}
 use Rattle.lfs_operations.specs.Recovering.{AreUnreachedPairNumbersFrom, list_blocks_of_numbered_pairs, slots_of_numbered_pairs}
 use Rattle.lfs_operations.proofs.RecoverWrites.{none_there}
 use Rattle.lfs_operations.proofs.Owning.{count_used}

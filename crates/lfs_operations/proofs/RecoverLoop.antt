@@ -1,25 +1,10 @@
 -- A recovery pair by pair: a pair whose directory a path leads to stays, and the next one of another goes.
 use Rattle.std.proofs.Common.{ℕ, suc, ◌≡◌, ◌+◌, ◌⊎◌, inl, inr, Bool, true, false, cond, List, [], ◌∷◌, ◌++◌, length, Option, Some, None, refl, sym, ap, subst, subst₂, ◌∙◌, arith, append_assoc, length-append}
 use Rattle.std.specs.Prelude.{All, is_some}
-use Rattle.std.proofs.lemmas.Option.{same_Some}
-use Rattle.std.proofs.lemmas.List.Elements.{All-from_recursion, recursion_from_All}
-use Rattle.lfs_model.specs.Disk.{Disk}
-use Rattle.lfs_model.specs.Layout.{directory_address_of_pair, directory_address_continued_by_hard_tail}
-use Rattle.lfs_model.specs.Slots.{Gstate, Slot, Tail, same_pair}
-use Rattle.lfs_model.specs.Thread.{AreLinkedByTails, ThreadDirectory, Pair, anchor_pair_address, directories_of_pairs, pairs_from_root_directory_on, gstate_of_pairs, is_hard_tail, directories_with_pair_prepended, pair_address_named_by_tail, entries_not_moved}
-use Rattle.lfs_model.specs.Tree.{Path}
-use Rattle.lfs_model.specs.Profile.{AreNoEmptyPairsAfterHardTails}
-use Rattle.lfs_model.specs.Shown.{IsDirectoryAddressReachedBySomePath, IsPathToDirectory, directories_in_thread}
-use Rattle.lfs_model.proofs.Counts.{Each, each_weaker}
-use Rattle.lfs_model.proofs.Drops.{softened}
-use Rattle.lfs_model.proofs.Global.{HasNoMove, unmoved_all}
-use Rattle.lfs_model.proofs.Layouts.{NoneGoes, joined_parts, joined_singles, none_goes_right, none_where, onward_all, onward_some, rest_all, rest_of, singles}
-use Rattle.lfs_model.proofs.Moves.{AllReachedBut}
-use Rattle.lfs_model.proofs.Pairs.{pair_itself}
+use Rattle.lfs_operations.proofs.Common.{same_Some, All-from_recursion, recursion_from_All, Disk, directory_address_of_pair, directory_address_continued_by_hard_tail, Gstate, Slot, Tail, same_pair, AreLinkedByTails, ThreadDirectory, Pair, anchor_pair_address, directories_of_pairs, pairs_from_root_directory_on, gstate_of_pairs, is_hard_tail, pair_address_named_by_tail, entries_not_moved, Path, AreNoEmptyPairsAfterHardTails, IsDirectoryAddressReachedBySomePath, IsPathToDirectory, directories_in_thread, Each, each_weaker, softened, HasNoMove, unmoved_all, NoneGoes, joined_parts, joined_singles, none_where, onward_all, onward_some, rest_all, singles, AllReachedBut, pair_itself, pairs_behind, IsReady, IsUnthreaded, KeptThread}
+use Rattle.lfs_model.specs.Thread.{directories_with_pair_prepended}
+use Rattle.lfs_model.proofs.Layouts.{none_goes_right, rest_of}
 use Rattle.lfs_model.proofs.Recovering.{IsRecovering, recovery_drops, recovery_keeps}
-use Rattle.lfs_model.proofs.Superblocks.{pairs_behind}
-use Rattle.lfs_model.proofs.Unthreaded.{IsReady, IsUnthreaded}
-use Rattle.lfs_thread.specs.Kept.{KeptThread}
 use Rattle.lfs_operations.specs.Recovering.{AreUnreachedPairNumbersFrom}
 
 -- ---- where the pairs' directories begin
@@ -117,7 +102,7 @@ pub record IsOnWay (disk : Disk) (ps : List Pair) (t : KeptThread) (dropped : �
 some_behind : (xs : List Pair) (p : Pair) → xs ++ p ∷ [] ≡ [] → ⊥
 some_behind xs p e = absurd (let l = ap length e in let k = length-append xs (p ∷ []) in omega arith)
 
-module _ (disk : Disk) (ps : List Pair) (t : KeptThread) (dropped : ℕ) (chain seen : List Pair) (x : Pair) (todo : List Pair) (parts : List (List Pair)) (kept : List Pair) (numbers : List ℕ)
+module _ {disk : Disk} {ps : List Pair} {t : KeptThread} {dropped : ℕ} {chain seen : List Pair} {x : Pair} {todo : List Pair} {parts : List (List Pair)} {kept : List Pair} {numbers : List ℕ}
     (w : IsOnWay disk ps t dropped chain seen (x ∷ todo) parts kept numbers) where
   abbrev f : Option (ℕ × ℕ)
   f = onward_all None seen
@@ -355,5 +340,5 @@ goes_to disk ps t dropped chain seen (x ∷ todo) parts kept numbers w =
     go : AreUnreachedPairNumbersFrom (IsDirectoryAddressReachedBySomePath ps) (length chain + length kept + dropped) (onward_all None seen) (x ∷ todo) numbers
         → (IsOnWay disk ps t dropped chain (seen ++ x ∷ []) todo (parts ++ (x ∷ []) ∷ []) (kept ++ x ∷ []) numbers → IsAtEnd disk ps t dropped chain numbers ⊎ IsAtDrop disk ps t dropped chain numbers)
         → IsAtEnd disk ps t dropped chain numbers ⊎ IsAtDrop disk ps t dropped chain numbers
-    go (inl h) next = next (keeps disk ps t dropped chain seen x todo parts kept numbers w h.0 h.1)
+    go (inl h) next = next (keeps w h.0 h.1)
     go (inr h) next = inr (record { seen = seen; x = x; todo = todo; parts = parts; kept = kept; way = w; rest = h.0; is = h.1.0; unreached = h.1.1.0; more = h.1.1.1 })

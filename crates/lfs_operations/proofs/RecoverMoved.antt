@@ -1,21 +1,11 @@
 -- The pair whose slot a set move names.
 use Rattle.std.proofs.Common.{ℕ, suc, zero, ◌≡◌, ◌+◌, ◌<◌, ◌≤◌, ◌⊎◌, ◌&&◌, inl, inr, Bool, true, false, cond, List, [], ◌∷◌, ◌++◌, length, take, Option, Some, None, refl, sym, ap, subst, ◌∙◌, arith, get_or, slice_get}
 use Rattle.std.specs.Prelude.{IfNone, IfSome}
-use Rattle.std.specs.List.{AllByRecursion}
-use Rattle.std.proofs.lemmas.Bool.{and_parts, cases_lt}
-use Rattle.std.proofs.lemmas.Option.{same_Some}
-use Rattle.lfs_model.specs.InDirectory.{IsPairAtAddress}
-use Rattle.lfs_model.specs.Slots.{Gstate, Slot, is_superblock, same_pair}
-use Rattle.lfs_model.specs.Thread.{Pair, gstate_of_pairs, has_no_slot_or_only_superblock, is_hard_tail, may_superblock_chain_continue_after_pair, has_superblock_in_first_nonempty_pair, pair_count_before_root}
-use Rattle.lfs_model.specs.View.{IsAcceptedImage, HasValidMoveOrNone, IsSomeSlotButNotSuperblock, IsEntrySlotInThread}
-use Rattle.lfs_model.specs.Slots.{gstate_kind_of_no_move, gstate_kind_of_set_move}
-use Rattle.lfs_model.proofs.Counts.{Each}
-use Rattle.lfs_model.proofs.Global.{HasNoMove}
-use Rattle.lfs_model.proofs.Pairs.{pair_back, pair_on}
-use Rattle.lfs_model.proofs.Searches.{same_number}
-use Rattle.lfs_model.proofs.Sites.{IsTrueOfSomeElement, among_from}
-use Rattle.lfs_thread.specs.Kept.{KeptThread}
-use Rattle.lfs_thread.specs.Steps.{empty_pair_at_anchor, thread_pair_at_index}
+use Rattle.lfs_operations.proofs.Common.{AllByRecursion, and_parts, cases_lt, same_Some, IsPairAtAddress, Gstate, Slot, is_superblock, same_pair, Pair, gstate_of_pairs, is_hard_tail, may_superblock_chain_continue_after_pair, has_superblock_in_first_nonempty_pair, pair_count_before_root, IsAcceptedImage, HasValidMoveOrNone, IsSomeSlotButNotSuperblock, gstate_kind_of_set_move, Each, HasNoMove, pair_back, pair_on, same_number, IsTrueOfSomeElement, KeptThread, empty_pair_at_anchor, thread_pair_at_index}
+use Rattle.lfs_model.specs.Thread.{has_no_slot_or_only_superblock}
+use Rattle.lfs_model.specs.View.{IsEntrySlotInThread}
+use Rattle.lfs_model.specs.Slots.{gstate_kind_of_no_move}
+use Rattle.lfs_model.proofs.Sites.{among_from}
 use Rattle.lfs_operations.specs.EndingMove.{HasMovedSlotInPair}
 
 -- ---- no move, or one that names a slot

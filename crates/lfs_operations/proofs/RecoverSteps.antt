@@ -1,33 +1,14 @@
 -- The steps of a recovery, on the disk that they write and on those that a stop leaves.
-use Rattle.std.proofs.Common.{ℕ, ◌≡◌, ◌<◌, ◌≤◌, ◌⊎◌, inl, inr, true, false, List, [], ◌∷◌, ◌++◌, length, Some, refl, sym, ap, ap₂, subst, ◌∙◌, arith, length-append, append_assoc, subst₂}
-use Rattle.std.proofs.lemmas.Option.{same_Some}
-use Rattle.lfs_model.specs.Blocks.{Blocks}
-use Rattle.lfs_model.specs.Disk.{Disk}
-use Rattle.lfs_model.specs.PowerLoss.{HasTreeBeforeOrAfterOperation as IsLeftOf, disk_with_blocks}
-use Rattle.lfs_model.specs.Slots.{IsContentFittingPair, Gstate, zero_gstate, same_pair}
-use Rattle.lfs_model.specs.Thread.{Pair, gstate_of_pairs, is_hard_tail, pair_count_before_root}
-use Rattle.lfs_model.specs.Tree.{Path}
-use Rattle.lfs_model.specs.View.{IsAcceptedImage}
-use Rattle.lfs_model.specs.Profile.{IsWritableImage}
-use Rattle.lfs_model.specs.Shown.{IsPathToDirectory, tree_on_disk}
-use Rattle.lfs_model.proofs.Alike.{ArePairsWithSameAddressesAndSlots, alike_append, alike_itself}
-use Rattle.lfs_model.proofs.Global.{HasNoMove}
-use Rattle.lfs_model.proofs.Indexes.{HasSite, site_of_number}
-use Rattle.lfs_model.proofs.Moves.{AllReached, AllReachedBut, IsStep}
-use Rattle.lfs_model.proofs.Profiles.{step_writable}
+use Rattle.std.proofs.Common.{ℕ, ◌≡◌, ◌<◌, ◌≤◌, ◌+◌, ◌-◌, ◌⊎◌, inl, inr, true, false, List, [], ◌∷◌, ◌++◌, length, Some, refl, sym, ap, subst, ◌∙◌, arith, length-append}
+use Rattle.lfs_operations.proofs.Common.{same_Some, Blocks, Disk, HasTreeBeforeOrAfterOperation as IsLeftOf, disk_with_blocks, IsContentFittingPair, Gstate, gstate_xor, zero_gstate, same_pair, Pair, gstate_of_pairs, is_hard_tail, pair_count_before_root, Path, IsAcceptedImage, IsWritableImage, IsPathToDirectory, tree_on_disk, ArePairsWithSameAddressesAndSlots, alike_append, alike_itself, HasNoMove, gstate_assoc, gstate_cons, gstate_right, gstate_self, HasSite, site_of_number, AllReached, AllReachedBut, IsStep, step_writable, site_gstate_moved, Site, thread_at, IsDevice, stays_shape, IsWritableImageAfterTreeChange, taken_before, within_at, IsReady, IsUnthreaded, KeptThread, PowerLossLeavesPairOldOrChanged, IsPairWrittenOnDisk, complete_content_after_changes, thread_pair_at_index, thread_pairs_with_content_replaced_at_index}
 use Rattle.lfs_model.proofs.Rests.{slots_stay}
-use Rattle.lfs_model.proofs.Sites.{thread_at}
-use Rattle.lfs_model.proofs.Splices.{IsDevice, stays_shape}
-use Rattle.lfs_model.proofs.StepsTaken.{IsWritableImageAfterTreeChange, taken_before, within_at, within_same}
-use Rattle.lfs_model.proofs.Unthreaded.{IsReady, IsUnthreaded, Unthreads, unthread}
-use Rattle.lfs_thread.specs.Kept.{KeptThread}
-use Rattle.lfs_thread.specs.Steps.{PowerLossLeavesPairOldOrChanged, IsPairWrittenOnDisk, complete_content_after_changes, thread_pair_at_index, thread_pairs_with_content_replaced_at_index}
+use Rattle.lfs_model.proofs.StepsTaken.{within_same}
+use Rattle.lfs_model.proofs.Unthreaded.{Unthreads, unthread}
 use Rattle.lfs_operations.specs.Deltas.{gstate_setting_changes, delta_reaching_gstate, content_reaching_gstate}
-use Rattle.lfs_operations.proofs.RecoverPlaced.{IsAt, here_is, placed_device, set_state_is, with_is}
-use Rattle.lfs_operations.proofs.Placing.{left_still, left_after}
-use Rattle.lfs_operations.specs.Dropping.{IsLeftByStoppedPairDrop, content_after_next_pair_drop, tail_over_dropped_pair}
-use Rattle.lfs_operations.proofs.Dropped.{device_dropped, device_kept}
-use Rattle.lfs_operations.proofs.DroppedTails.{front_is, gone_is, gstate_is}
+use Rattle.lfs_operations.proofs.Threads.{one_now, pair_is, placed_one}
+use Rattle.lfs_operations.proofs.Placing.{device, left_still, left_after}
+use Rattle.lfs_operations.specs.Dropping.{IsLeftByStoppedPairDrop, content_after_next_pair_drop}
+use Rattle.lfs_operations.proofs.Dropped.{IsToBeDropped, device_left, left_dropped, slots_left, state_left, tail_left}
 use Rattle.lfs_operations.proofs.Rmdir.{over_soft}
 
 -- ---- a pair takes over the tail and the delta of one that no path leads to
@@ -39,53 +20,33 @@ pub record IsUnled (t : KeptThread) (g : Gstate) (before x : Pair) : Type 0 wher
   pub unled : (path : Path) (a : ℕ × ℕ) → IsPathToDirectory t.pairs path a → same_pair x.at a ≡ true → ⊥
   pub reached : g.sync ≡ false → (is_hard_tail x.content.tail ≡ false) × AllReachedBut t.pairs x.at
 
+-- the pairs in front of two, and those behind them
+abbrev pub site_of : List Pair → List Pair → List Pair → Site
+site_of chain front todo = record { chain = chain; before = []; left = front; right = []; after = todo }
+
 module _ (t : KeptThread) (chain front : List Pair) (before x : Pair) (todo : List Pair) (index : ℕ) (g : Gstate)
-    (k : IsAt t chain front before (x ∷ todo) index) (ready : IsReady t.disk chain (front ++ before ∷ x ∷ todo)) (u : IsUnled t g before x) where
+    (k : IsToBeDropped t index g (site_of chain front todo) before x) (ready : IsReady t.disk chain (front ++ before ∷ x ∷ todo)) (u : IsUnled t g before x) where
   abbrev q : Pair
-  q = record { at = before.at; content = content_after_next_pair_drop t index g }
+  q = record { at = before.at; content = content_after_next_pair_drop t (index - 1) g }
 
-  pub were_is : t.pairs ≡ (chain ++ front) ++ before ∷ x ∷ todo
-  were_is = k.there ∙ sym (append_assoc chain front (before ∷ x ∷ todo))
-
-  pub number_is : length (chain ++ front) ≡ index
-  number_is = length-append chain front ∙ sym k.number
-
-  first_is : thread_pair_at_index t index ≡ before
-  first_is = front_is t index (chain ++ front) before x todo were_is number_is
-
-  accepted_were : IsAcceptedImage t.disk ((chain ++ front) ++ before ∷ x ∷ todo)
-  accepted_were = subst (IsAcceptedImage t.disk) (sym (append_assoc chain front (before ∷ x ∷ todo))) ready.accepted
-
-  pub state_now : gstate_of_pairs (chain ++ (front ++ q ∷ todo)) ≡ g
-  state_now = ap gstate_of_pairs (sym (append_assoc chain front (q ∷ todo))) ∙ gstate_is t index (chain ++ front) before x todo were_is number_is g q refl
-
-  pub over_on : (disk : Disk) → IsPairWrittenOnDisk t index (content_after_next_pair_drop t index g) disk → IsUnthreaded t.disk disk chain front before x q todo
+  pub over_on : (disk : Disk) → IsPairWrittenOnDisk t (index - 1) (content_after_next_pair_drop t (index - 1) g) disk → IsUnthreaded t.disk disk chain front before x q todo
   over_on disk is = record {
-    device = subst₂ (IsDevice t.disk disk) (append_assoc chain front (before ∷ x ∷ todo)) (append_assoc chain front (q ∷ todo))
-        (device_dropped t index (chain ++ front) before x todo were_is number_is accepted_were disk (content_after_next_pair_drop t index g) (ap (λ (z : Pair). z.content.slots) first_is) is);
-    no_move = subst HasNoMove (sym state_now) u.none;
+    device = device_left k disk is;
+    no_move = subst HasNoMove (sym (state_left k)) u.none;
     soft = u.soft;
     at = refl;
-    slots = ap (λ (z : Pair). z.content.slots) first_is;
-    tail = ap₂ (λ (a b : Pair). tail_over_dropped_pair a.content.tail b.content.tail) first_is (gone_is t index (chain ++ front) before x todo were_is number_is) ∙ over_soft before.content.tail x.content.tail u.soft;
+    slots = slots_left k;
+    tail = tail_left k ∙ over_soft before.content.tail x.content.tail u.soft;
     unled = λ path a l s. u.unled path a (subst (λ z. IsPathToDirectory z path a) (sym k.there) l) s;
-    reached = λ off. let r = u.reached (ap (λ (z : Gstate). z.sync) (sym state_now) ∙ off) in (r.0, subst (λ z. AllReachedBut z x.at) k.there r.1);
+    reached = λ off. let r = u.reached (ap (λ (z : Gstate). z.sync) (sym (state_left k)) ∙ off) in (r.0, subst (λ z. AllReachedBut z x.at) k.there r.1);
   }
 
-  over_taken : (disk : Disk) → IsPairWrittenOnDisk t index (content_after_next_pair_drop t index g) disk → Unthreads t.disk disk chain (front ++ before ∷ x ∷ todo) (front ++ q ∷ todo)
+  over_taken : (disk : Disk) → IsPairWrittenOnDisk t (index - 1) (content_after_next_pair_drop t (index - 1) g) disk → Unthreads t.disk disk chain (front ++ before ∷ x ∷ todo) (front ++ q ∷ todo)
   over_taken disk is = unthread t.disk disk chain front before x q todo ready (over_on disk is)
 
   -- a stop leaves the tree
-  pub over_left : (left : Blocks) → IsLeftByStoppedPairDrop t index g left → IsLeftOf (disk_with_blocks left t.disk) (tree_on_disk t.disk t.pairs) (tree_on_disk t.disk t.pairs)
-  over_left left is = go is.is
-    where
-      go : (is.content ≡ (thread_pair_at_index t index).content) ⊎ (is.content ≡ content_after_next_pair_drop t index g) → IsLeftOf (disk_with_blocks left t.disk) (tree_on_disk t.disk t.pairs) (tree_on_disk t.disk t.pairs)
-      go (inl e) =
-          let same : is.content ≡ before.content = e ∙ ap (λ (z : Pair). z.content) first_is in
-          left_still t.disk left ((chain ++ front) ++ before ∷ x ∷ todo) accepted_were (subst (IsWritableImage t.disk) (sym (append_assoc chain front (before ∷ x ∷ todo))) ready.writable)
-          (device_kept t index (chain ++ front) before x todo were_is number_is accepted_were (disk_with_blocks left t.disk) before.content refl (subst (λ c. IsPairWrittenOnDisk t index c (disk_with_blocks left t.disk)) same is.written))
-          (inl (ap (tree_on_disk t.disk) (sym were_is)))
-      go (inr e) = left_after (over_taken (disk_with_blocks left t.disk) (subst (λ c. IsPairWrittenOnDisk t index c (disk_with_blocks left t.disk)) e is.written)).taken (inl (ap (tree_on_disk t.disk) (sym k.there)))
+  pub over_left : (left : Blocks) → IsLeftByStoppedPairDrop t (index - 1) g left → IsLeftOf (disk_with_blocks left t.disk) (tree_on_disk t.disk t.pairs) (tree_on_disk t.disk t.pairs)
+  over_left = left_dropped k (inl refl) (λ disk is. left_after (over_taken disk is).taken (inl (ap (tree_on_disk t.disk) (sym k.there))))
 
 -- ---- a delta changes, and with it the sync bit
 
@@ -102,14 +63,17 @@ module _ (t : KeptThread) (index : ℕ) (can : CanClear t index) where
   pub h : HasSite t.pairs index
   h = site_of_number t.disk t.pairs index can.accepted can.behind can.below
 
-  place : IsAt t h.site.chain (h.site.before ++ h.site.left) h.pair (h.site.right ++ h.site.after) index
-  place = record { there = h.is; number = sym h.number ∙ length-append h.site.chain (h.site.before ++ h.site.left) }
+  place : index ≡ length h.site.chain + length (h.site.before ++ h.site.left)
+  place = sym h.number ∙ length-append h.site.chain (h.site.before ++ h.site.left)
+
+  pair_there : thread_pair_at_index t index ≡ h.pair
+  pair_there = pair_is t index h.site h.pair h.is place
 
   abbrev pub y : Pair
   y = record { at = h.pair.at; content = record { slots = h.pair.content.slots; tail = h.pair.content.tail; move = delta_reaching_gstate t index zero_gstate } }
 
   content_is : content_reaching_gstate t index zero_gstate ≡ record { slots = h.pair.content.slots; tail = h.pair.content.tail; move = delta_reaching_gstate t index zero_gstate }
-  content_is = ap (λ (z : Pair). record { slots = z.content.slots; tail = z.content.tail; move = delta_reaching_gstate t index zero_gstate }) (here_is t h.site.chain (h.site.before ++ h.site.left) h.pair (h.site.right ++ h.site.after) index place)
+  content_is = ap (λ (z : Pair). record { slots = z.content.slots; tail = z.content.tail; move = delta_reaching_gstate t index zero_gstate }) pair_there
 
   accepted : IsAcceptedImage t.disk (thread_at h.site (h.pair ∷ []))
   accepted = subst (IsAcceptedImage t.disk) h.is can.accepted
@@ -118,10 +82,15 @@ module _ (t : KeptThread) (index : ℕ) (can : CanClear t index) where
   fits = subst (IsWritableImage t.disk) h.is can.writable
 
   pub clear_state : gstate_of_pairs (thread_at h.site (y ∷ [])) ≡ zero_gstate
-  clear_state = set_state_is t h.site.chain (h.site.before ++ h.site.left) h.pair (h.site.right ++ h.site.after) index place zero_gstate y refl
+  clear_state =
+      let G = gstate_of_pairs t.pairs in
+      let d = gstate_xor zero_gstate G in
+      site_gstate_moved d h.site (h.pair ∷ []) (y ∷ [])
+      (gstate_cons y [] ∙ gstate_right y.content.move ∙ ap (λ (x : Pair). gstate_xor d x.content.move) pair_there ∙ ap (gstate_xor d) (sym (gstate_cons h.pair [] ∙ gstate_right h.pair.content.move)))
+      ∙ ap (λ z. gstate_xor d (gstate_of_pairs z)) (sym h.is) ∙ gstate_assoc zero_gstate G G ∙ ap (gstate_xor zero_gstate) (gstate_self G) ∙ gstate_right zero_gstate
 
   pub clear_pairs : thread_pairs_with_content_replaced_at_index t index (content_reaching_gstate t index zero_gstate) ≡ thread_at h.site (y ∷ [])
-  clear_pairs = ap (thread_pairs_with_content_replaced_at_index t index) content_is ∙ with_is t h.site.chain (h.site.before ++ h.site.left) h.pair (h.site.right ++ h.site.after) index place (record { slots = h.pair.content.slots; tail = h.pair.content.tail; move = delta_reaching_gstate t index zero_gstate })
+  clear_pairs = ap (thread_pairs_with_content_replaced_at_index t index) content_is ∙ one_now t index h.site h.pair h.is place (record { slots = h.pair.content.slots; tail = h.pair.content.tail; move = delta_reaching_gstate t index zero_gstate })
 
   pub clear_alike : ArePairsWithSameAddressesAndSlots t.pairs (thread_at h.site (y ∷ []))
   clear_alike = subst (λ z. ArePairsWithSameAddressesAndSlots z (thread_at h.site (y ∷ []))) (sym h.is)
@@ -130,8 +99,8 @@ module _ (t : KeptThread) (index : ℕ) (can : CanClear t index) where
       (refl, refl, alike_itself (h.site.right ++ h.site.after))))
 
   pub device_on : (disk : Disk) → IsPairWrittenOnDisk t index (content_reaching_gstate t index zero_gstate) disk → IsDevice t.disk disk (thread_at h.site (h.pair ∷ [])) (thread_at h.site (y ∷ []))
-  device_on disk is = placed_device t h.site.chain (h.site.before ++ h.site.left) h.pair (h.site.right ++ h.site.after) index place disk (record { slots = h.pair.content.slots; tail = h.pair.content.tail; move = delta_reaching_gstate t index zero_gstate }) refl accepted
-      (subst (λ c. IsPairWrittenOnDisk t index c disk) content_is is)
+  device_on disk is = device t.disk disk h.site h.pair y [] [] accepted accepted.owned_once
+      (placed_one t index h.site h.pair h.is place disk y.content (λ f. (f.kind, f.name)) (subst (λ c. IsPairWrittenOnDisk t index c disk) content_is is))
 
   step : (disk : Disk) → IsPairWrittenOnDisk t index (content_reaching_gstate t index zero_gstate) disk → IsStep t.disk disk h.site h.pair [] y [] [] [] h.pair.content.slots [] [] []
   step disk is = record {
@@ -164,9 +133,9 @@ module _ (t : KeptThread) (index : ℕ) (can : CanClear t index) where
       go : (is.content ≡ (thread_pair_at_index t index).content) ⊎ ((complete_content_after_changes t index (gstate_setting_changes t index zero_gstate) ≡ Some is.content) × IsContentFittingPair t.disk.block_size t.disk.page is.content)
           → IsLeftOf (disk_with_blocks left t.disk) (tree_on_disk t.disk old) (tree_on_disk t.disk old)
       go (inl e) =
-          let same : is.content ≡ h.pair.content = e ∙ ap (λ (z : Pair). z.content) (here_is t h.site.chain (h.site.before ++ h.site.left) h.pair (h.site.right ++ h.site.after) index place) in
-          let on = placed_device t h.site.chain (h.site.before ++ h.site.left) h.pair (h.site.right ++ h.site.after) index place (disk_with_blocks left t.disk) h.pair.content refl accepted
-          (subst (λ c. IsPairWrittenOnDisk t index c (disk_with_blocks left t.disk)) same is.written) in
+          let same : is.content ≡ h.pair.content = e ∙ ap (λ (z : Pair). z.content) pair_there in
+          let on = device t.disk (disk_with_blocks left t.disk) h.site h.pair h.pair [] [] accepted accepted.owned_once
+          (placed_one t index h.site h.pair h.is place (disk_with_blocks left t.disk) h.pair.content (λ f. (f.kind, f.name)) (subst (λ c. IsPairWrittenOnDisk t index c (disk_with_blocks left t.disk)) same is.written)) in
           left_still t.disk left old accepted fits on (inl refl)
       go (inr m) =
           let same : is.content ≡ content_reaching_gstate t index zero_gstate = same_Some is.content (content_reaching_gstate t index zero_gstate) (sym m.0 ∙ made) in

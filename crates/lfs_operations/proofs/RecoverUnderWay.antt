@@ -1,48 +1,20 @@
 -- How far a recovery is, from its beginning to its end.
 use Rattle.std.proofs.Common.{ℕ, suc, zero, ◌≡◌, ◌≢◌, ◌+◌, ◌-◌, ◌<◌, ◌≤◌, ◌⊎◌, inl, inr, true, false, cond, nat_eq, eq-eqb, List, [], ◌∷◌, ◌++◌, length, take, drop, Option, Some, None, refl, sym, ap, ap₂, subst, ◌∙◌, arith, append_assoc, length-append, slice_get}
 use Rattle.std.specs.Prelude.{is_some, slice_index_or}
-use Rattle.std.proofs.lemmas.Bool.{ne_eqb}
-use Rattle.std.proofs.lemmas.List.Elements.{recursion_from_All}
-use Rattle.lfs_model.specs.Blocks.{Blocks}
-use Rattle.lfs_model.specs.Disk.{Disk, block_count}
-use Rattle.lfs_model.specs.Layout.{directory_address_of_pair, directory_address_continued_by_hard_tail}
-use Rattle.lfs_model.specs.History.{IsTrueOfEachCallSince}
-use Rattle.lfs_model.specs.PowerLoss.{HasTreeBeforeOrAfterOperation as IsLeftOf, SurvivesPowerLossInCallsSince, disk_with_blocks}
-use Rattle.lfs_model.specs.Slots.{Gstate, Slot, zero_gstate, same_pair, IsContentFittingPair}
-use Rattle.lfs_model.specs.Thread.{Pair, blocks_of_pairs, pairs_from_root_directory_on, first_pair_address, gstate_of_pairs, pair_count_before_root, blocks_of_pair_address, IsThreadOfMetadataPairs}
-use Rattle.lfs_model.specs.View.{IsAcceptedImage}
-use Rattle.lfs_model.specs.Shown.{IsDirectoryAddressReachedBySomePath, all_slots_not_moved, tree_on_disk, used_blocks}
-use Rattle.lfs_model.specs.Profile.{IsWritableImage}
-use Rattle.lfs_model.proofs.AfterStops.{survives_then}
-use Rattle.lfs_model.proofs.Changes.{SameFiles}
-use Rattle.lfs_model.proofs.Counts.{occurrence_count_of_number, count_append, once_from_distinct}
-use Rattle.lfs_model.proofs.Files.{HasSameFileBlocksOfStructOnDisks}
-use Rattle.lfs_model.proofs.Found.{HasDirectory, chain_of_thread, led_directory}
-use Rattle.lfs_model.proofs.Global.{HasNoMove}
-use Rattle.lfs_model.proofs.Histories.{IsTrueOfEachCallSince-weaker, IsTrueAfterAnyPowerLossSince-weaker, goes_on_by}
-use Rattle.lfs_model.proofs.Layouts.{joined_singles, onward_all}
-use Rattle.lfs_model.proofs.Listings.{Ends}
-use Rattle.lfs_model.proofs.Pairs.{pair_back, pair_itself, pair_on}
+use Rattle.lfs_operations.proofs.Common.{ne_eqb, Blocks, Disk, directory_address_of_pair, directory_address_continued_by_hard_tail, IsTrueOfEachCallSince, HasTreeBeforeOrAfterOperation as IsLeftOf, SurvivesPowerLossInCallsSince, disk_with_blocks, Gstate, zero_gstate, same_pair, Pair, blocks_of_pairs, pairs_from_root_directory_on, first_pair_address, gstate_of_pairs, pair_count_before_root, blocks_of_pair_address, IsAcceptedImage, IsDirectoryAddressReachedBySomePath, tree_on_disk, used_blocks, IsWritableImage, survives_then, occurrence_count_of_number, count_append, once_from_distinct, HasDirectory, chain_of_thread, led_directory, HasNoMove, IsTrueAfterAnyPowerLossSince-weaker, joined_singles, onward_all, Ends, pair_back, pair_itself, pair_on, same_number, file_blocks_of_slots, slots_of_pairs_in_order, IsReady, IsUnthreaded, same_parts, PowerLossLeavesSuchBlocksAfterCleanErases, KeptThread, HasSameGeometry, ThreadChangesOnlyTheseBlocks, empty_pair_at_anchor, thread_pair_at_index}
+use Rattle.lfs_model.proofs.Histories.{IsTrueOfEachCallSince-weaker, goes_on_by}
 use Rattle.lfs_model.proofs.Recovering.{recovery_begins}
-use Rattle.lfs_model.proofs.Searches.{same_number}
-use Rattle.lfs_model.proofs.Splices.{file_blocks_of_slots, slots_of_pairs_in_order}
-use Rattle.lfs_model.proofs.Unthreaded.{IsReady, IsUnthreaded, same_parts}
-use Rattle.lfs_thread.specs.Device.{PowerLossLeavesSuchBlocksAfterCleanErases}
-use Rattle.lfs_thread.specs.Kept.{KeptThread}
-use Rattle.lfs_thread.specs.Steps.{HasSameGeometry, ThreadChangesOnlyTheseBlocks, empty_pair_at_anchor, thread_pair_at_index, block_map_with_freed_pair}
 use Rattle.lfs_operations.specs.Recovering.{AreUnreachedPairNumbers, AreUnreachedPairNumbersFrom, CanDropUnreachedPairs, list_blocks_of_numbered_pairs, gstate_zero_after_last_unreached_pair_drop}
 use Rattle.lfs_operations.specs.Dropping.{HasSameBlocksInFlight, CanDropPairAt, IsLeftByStoppedPairDrop, IsNextPairDropped, content_after_next_pair_drop}
 use Rattle.lfs_operations.proofs.RecoverLists.{lists_kept, lists_more, numbered}
 use Rattle.lfs_operations.proofs.RecoverLoop.{FirstsOnly, IsAtDrop, IsAtEnd, IsOnWay, all_but, drops, goes_to, ready, soft, stands, sync_set, unled}
-use Rattle.lfs_operations.proofs.RecoverMap.{HasMap, blocks_count, files_count, map_drops, map_flies}
-use Rattle.lfs_operations.proofs.RecoverPlaced.{IsAt}
-use Rattle.lfs_operations.proofs.RecoverDeltas.{each_at}
+use Rattle.lfs_operations.proofs.RecoverMap.{HasMap, map_drops}
+use Rattle.lfs_operations.proofs.Dropped.{IsToBeDropped, blocks_left, can_drop_pair, files_left, pairs_left}
+use Rattle.lfs_operations.proofs.RemovedWhole.{last_pair}
 use Rattle.lfs_operations.proofs.RecoverWrites.{two_fewer, writes_fewer, writes_none}
-use Rattle.lfs_operations.proofs.UnlinkedSteps.{writes_trans}
-use Rattle.lfs_operations.proofs.RecoverSteps.{IsUnled, over_left, over_on, state_now, were_is, number_is}
+use Rattle.lfs_operations.proofs.Putting.{writes_trans}
+use Rattle.lfs_operations.proofs.RecoverSteps.{IsUnled, over_left, over_on, site_of}
 use Rattle.lfs_operations.proofs.Threads.{get_behind}
-use Rattle.lfs_operations.proofs.DroppedTails.{gone_is, without_is}
-use Rattle.lfs_model.specs.Content.{content_of_pair_at}
 
 -- ---- the device
 
@@ -178,65 +150,24 @@ begins t numbers can =
 
 -- the pair at an index goes, which stands behind the one before it
 pub record IsNext (old now : KeptThread) (dropped number : ℕ) (rest : List ℕ) : Type 0 where
-  pub numbers : List ℕ
-  pub seen : List Pair
-  pub x : Pair
-  pub todo : List Pair
-  pub parts : List (List Pair)
-  pub kept : List Pair
-  pub way : IsOnWay old.disk old.pairs now dropped (take (pair_count_before_root old.pairs) old.pairs) seen (x ∷ todo) parts kept numbers
-  pub unreached : IsDirectoryAddressReachedBySomePath old.pairs (directory_address_of_pair (onward_all None seen) x) → ⊥
-  pub more : AreUnreachedPairNumbersFrom (IsDirectoryAddressReachedBySomePath old.pairs) (suc (length (take (pair_count_before_root old.pairs) old.pairs) + length kept + dropped)) (directory_address_continued_by_hard_tail (onward_all None seen) x) todo rest
+  pub goes : IsAtDrop old.disk old.pairs now dropped (take (pair_count_before_root old.pairs) old.pairs) (number ∷ rest)
   pub front : List Pair
   pub before : Pair
-  pub split : kept ≡ front ++ before ∷ []
+  pub split : goes.kept ≡ front ++ before ∷ []
   pub number_is : number ≡ length (take (pair_count_before_root old.pairs) old.pairs) + length front + 1 + dropped
-
-record HasLast (xs : List Pair) : Type 0 where
-  front : List Pair
-  last : Pair
-  is : xs ≡ front ++ last ∷ []
-
-has_last : (x : Pair) (xs : List Pair) → HasLast (x ∷ xs)
-has_last x [] = record { front = []; last = x; is = refl }
-has_last x (y ∷ xs) = let l = has_last y xs in record { front = x ∷ l.front; last = l.last; is = ap (λ z. x ∷ z) l.is }
 
 pub next_goes : (old now : KeptThread) (dropped number : ℕ) (rest : List ℕ) → IsUnderWay old now dropped (number ∷ rest) → IsNext old now dropped number rest
 next_goes old now dropped number rest u = go (goes_to old.disk old.pairs now dropped (take (pair_count_before_root old.pairs) old.pairs) u.seen u.todo u.parts u.kept (number ∷ rest) u.way)
   where
-    C : List Pair
-    C = take (pair_count_before_root old.pairs) old.pairs
-
     head : {a b : ℕ} {us vs : List ℕ} → a ∷ us ≡ b ∷ vs → a ≡ b
     head e = cc
-
-    tail : {a b : ℕ} {us vs : List ℕ} → a ∷ us ≡ b ∷ vs → vs ≡ us
-    tail e = cc
 
     go : IsAtEnd old.disk old.pairs now dropped (take (pair_count_before_root old.pairs) old.pairs) (number ∷ rest) ⊎ IsAtDrop old.disk old.pairs now dropped (take (pair_count_before_root old.pairs) old.pairs) (number ∷ rest)
         → IsNext old now dropped number rest
     go (inl d) = absurd (let l = ap length d.none in omega arith)
-    go (inr d) = by d.kept refl
-      where
-        by : (ks : List Pair) → d.kept ≡ ks → IsNext old now dropped number rest
-        by [] e = absurd (d.unreached (d.way.root e d.x d.todo refl))
-        by (k ∷ ks) e =
-            let l = has_last k ks in
-            record {
-              numbers = number ∷ rest;
-              seen = d.seen;
-              x = d.x;
-              todo = d.todo;
-              parts = d.parts;
-              kept = d.kept;
-              way = d.way;
-              unreached = d.unreached;
-              more = subst (λ z. AreUnreachedPairNumbersFrom (IsDirectoryAddressReachedBySomePath old.pairs) (suc (length C + length d.kept + dropped)) (directory_address_continued_by_hard_tail (onward_all None d.seen) d.x) d.todo z) (tail d.is) d.more;
-              front = l.front;
-              before = l.last;
-              split = e ∙ l.is;
-              number_is = let h = head d.is in let a = ap length (e ∙ l.is) in let b = length-append l.front (l.last ∷ []) in omega arith;
-            }
+    go (inr d) =
+        let l = last_pair d.kept (λ none. d.unreached (d.way.root none d.x d.todo refl)) in
+        record { goes = d; front = l.front; before = l.last; split = l.is; number_is = let h = head d.is in let a = ap length l.is in let b = length-append l.front (l.last ∷ []) in omega arith }
 
 -- the state that is wanted: none with the last one
 pub record IsWanted (now : KeptThread) (rest : List ℕ) (g : Gstate) : Type 0 where
@@ -250,12 +181,18 @@ module _ (old now : KeptThread) (dropped number : ℕ) (rest : List ℕ) (n : Is
   abbrev at : ℕ
   at = length C + length n.front
 
-  whole_is : now.pairs ≡ C ++ (n.front ++ n.before ∷ n.x ∷ n.todo)
-  whole_is = stands old.disk old.pairs now dropped C n.seen n.x n.todo n.parts n.kept n.numbers n.way n.unreached n.front n.before n.split
+  more : AreUnreachedPairNumbersFrom (IsDirectoryAddressReachedBySomePath old.pairs) (suc (length C + length n.goes.kept + dropped)) (directory_address_continued_by_hard_tail (onward_all None n.goes.seen) n.goes.x) n.goes.todo rest
+  more = subst (AreUnreachedPairNumbersFrom (IsDirectoryAddressReachedBySomePath old.pairs) (suc (length C + length n.goes.kept + dropped)) (directory_address_continued_by_hard_tail (onward_all None n.goes.seen) n.goes.x) n.goes.todo) (tail n.goes.is) n.goes.more
+    where
+      tail : {a b : ℕ} {us vs : List ℕ} → a ∷ us ≡ b ∷ vs → vs ≡ us
+      tail e = cc
 
-  is_ready : IsReady now.disk C (n.front ++ n.before ∷ n.x ∷ n.todo)
-  is_ready = subst (IsReady now.disk C) (ap (λ z. z ++ n.x ∷ n.todo) n.split ∙ append_assoc n.front (n.before ∷ []) (n.x ∷ n.todo))
-      (ready old.disk old.pairs now dropped C n.seen n.x n.todo n.parts n.kept n.numbers n.way n.unreached n.front n.before n.split)
+  whole_is : now.pairs ≡ C ++ (n.front ++ n.before ∷ n.goes.x ∷ n.goes.todo)
+  whole_is = stands n.goes.way n.goes.unreached n.front n.before n.split
+
+  is_ready : IsReady now.disk C (n.front ++ n.before ∷ n.goes.x ∷ n.goes.todo)
+  is_ready = subst (IsReady now.disk C) (ap (λ z. z ++ n.goes.x ∷ n.goes.todo) n.split ∙ append_assoc n.front (n.before ∷ []) (n.goes.x ∷ n.goes.todo))
+      (ready n.goes.way n.goes.unreached n.front n.before n.split)
 
   now_none : HasNoMove (gstate_of_pairs now.pairs)
   now_none = subst (λ z. HasNoMove (gstate_of_pairs z)) (sym whole_is) is_ready.no_move
@@ -267,49 +204,43 @@ module _ (old now : KeptThread) (dropped number : ℕ) (rest : List ℕ) (n : Is
       go [] e = (subst HasNoMove (sym (want.last e)) (record { kind = refl; id = refl; pair = refl }), λ off. e)
       go (r ∷ rs) e =
           let is = want.other (λ k. absurd (let l = ap length (sym e ∙ k) in omega arith)) in
-          (subst HasNoMove (sym is) now_none, λ off. absurd (sync_set old.disk old.pairs now dropped C n.seen n.x n.todo n.parts n.kept n.numbers n.way n.unreached n.front n.before n.split (ap (λ (z : Gstate). z.sync) (sym is) ∙ off)))
+          (subst HasNoMove (sym is) now_none, λ off. absurd (sync_set n.goes.way n.goes.unreached n.front n.before n.split (ap (λ (z : Gstate). z.sync) (sym is) ∙ off)))
 
-  is_unled : IsUnled now g n.before n.x
+  is_unled : IsUnled now g n.before n.goes.x
   is_unled = record {
     none = cases.0;
-    soft = soft old.disk old.pairs now dropped C n.seen n.x n.todo n.parts n.kept n.numbers n.way n.unreached n.front n.before n.split;
-    unled = unled old.disk old.pairs now dropped C n.seen n.x n.todo n.parts n.kept n.numbers n.way n.unreached n.front n.before n.split;
-    reached = λ off. all_but old.disk old.pairs now dropped C n.seen n.x n.todo n.parts n.kept n.numbers n.way n.unreached n.front n.before n.split
-        (subst (λ z. AreUnreachedPairNumbersFrom (IsDirectoryAddressReachedBySomePath old.pairs) (suc (length C + length n.kept + dropped)) (directory_address_continued_by_hard_tail (onward_all None n.seen) n.x) n.todo z) (cases.1 off) n.more);
-  }
-
-  -- the index of the pair in front
-  index_is : (behind : ℕ) → behind + dropped ≡ number → behind - 1 ≡ length C + length n.front
-  index_is behind e = let k = n.number_is in omega arith
-
-  pub can_take : (behind : ℕ) → behind + dropped ≡ number → CanDropPairAt now behind g
-  can_take behind e = record {
-    above = let k = n.number_is in omega arith;
-    below = let a = ap length whole_is in let b = length-append C (n.front ++ n.before ∷ n.x ∷ n.todo) in let c = length-append n.front (n.before ∷ n.x ∷ n.todo) in let k = n.number_is in omega arith;
-    thread = subst (IsThreadOfMetadataPairs (content_of_pair_at now.disk) (block_count now.disk)) (sym whole_is) is_ready.accepted.thread;
-    fits = each_at (λ x. IsContentFittingPair now.disk.block_size now.disk.page x.content) now.pairs (behind - 1)
-        (let a = ap length whole_is in let b = length-append C (n.front ++ n.before ∷ n.x ∷ n.todo) in let c = length-append n.front (n.before ∷ n.x ∷ n.todo) in let k = n.number_is in omega arith)
-        (recursion_from_All (λ (x : Pair). IsContentFittingPair now.disk.block_size now.disk.page x.content) now.pairs (subst (IsWritableImage now.disk) (sym whole_is) is_ready.writable).pairs);
-    storable = record {
-      kind = let e = cases.0.kind in omega arith;
-      id = let e = cases.0.id in omega arith;
-      pair = ((let e = ap (λ (z : ℕ × ℕ). z.0) cases.0.pair in omega arith), (let e = ap (λ (z : ℕ × ℕ). z.1) cases.0.pair in omega arith));
-    };
+    soft = soft n.goes.way n.goes.unreached n.front n.before n.split;
+    unled = unled n.goes.way n.goes.unreached n.front n.before n.split;
+    reached = λ off. all_but n.goes.way n.goes.unreached n.front n.before n.split
+        (subst (λ z. AreUnreachedPairNumbersFrom (IsDirectoryAddressReachedBySomePath old.pairs) (suc (length C + length n.goes.kept + dropped)) (directory_address_continued_by_hard_tail (onward_all None n.goes.seen) n.goes.x) n.goes.todo z) (cases.1 off) more);
   }
 
   module _ (behind : ℕ) (e : behind + dropped ≡ number) where
-    here : IsAt now C n.front n.before (n.x ∷ n.todo) (behind - 1)
-    here = record { there = whole_is; number = index_is behind e }
+    dropping : IsToBeDropped now behind g (site_of C n.front n.goes.todo) n.before n.goes.x
+    dropping = record {
+      accepted = subst (IsAcceptedImage now.disk) (sym whole_is) is_ready.accepted;
+      writable = subst (IsWritableImage now.disk) (sym whole_is) is_ready.writable;
+      storable = record {
+        kind = let e = cases.0.kind in omega arith;
+        id = let e = cases.0.id in omega arith;
+        pair = ((let e = ap (λ (z : ℕ × ℕ). z.0) cases.0.pair in omega arith), (let e = ap (λ (z : ℕ × ℕ). z.1) cases.0.pair in omega arith));
+      };
+      there = whole_is;
+      number = let k = n.number_is in let c = length-append C n.front in omega arith;
+    }
+
+    pub can_take : CanDropPairAt now behind g
+    can_take = can_drop_pair dropping
 
     shows : tree_on_disk now.disk now.pairs ≡ tree_on_disk old.disk old.pairs
-    shows = ap (tree_on_disk now.disk) (n.way.there ∙ ap (λ z. C ++ (n.kept ++ z)) (sym (joined_singles (n.x ∷ n.todo)))) ∙ n.way.is.taken.follows.shows
+    shows = ap (tree_on_disk now.disk) (n.goes.way.there ∙ ap (λ z. C ++ (n.goes.kept ++ z)) (sym (joined_singles (n.goes.x ∷ n.goes.todo)))) ∙ n.goes.way.is.taken.follows.shows
 
     disk_is : StaysOn old now → (left : Blocks) → disk_with_blocks left now.disk ≡ disk_with_blocks left old.disk
     disk_is d left = λ j. record { block_size = d.shape.block_size j; page = d.shape.page j; order = d.shape.order j; profile = d.shape.profile j; blocks = left }
 
-    number_there : slice_index_or old.pairs number empty_pair_at_anchor ≡ n.x
-    number_there = numbered old.pairs C n.seen n.x n.todo number n.way.is.are
-        (let k = n.number_is in let c = n.way.counted in let a = ap length n.split in let b = length-append n.front (n.before ∷ []) in omega arith)
+    number_there : slice_index_or old.pairs number empty_pair_at_anchor ≡ n.goes.x
+    number_there = numbered old.pairs C n.goes.seen n.goes.x n.goes.todo number n.goes.way.is.are
+        (let k = n.number_is in let c = n.goes.way.counted in let a = ap length n.split in let b = length-append n.front (n.before ∷ []) in omega arith)
 
     pub survives_on : (new : KeptThread) → IsUnderWay old now dropped (number ∷ rest)
         → StaysOn now new → PowerLossLeavesSuchBlocksAfterCleanErases now.history new.history (IsLeftByStoppedPairDrop now (behind - 1) g)
@@ -318,11 +249,11 @@ module _ (old now : KeptThread) (dropped number : ℕ) (rest : List ℕ) (n : Is
         survives_then old.disk old.history now.history new.history (tree_on_disk old.disk old.pairs) (tree_on_disk old.disk old.pairs) u.device.calls on.calls u.survives
         (λ clean. IsTrueAfterAnyPowerLossSince-weaker (λ left x. subst (λ z. IsLeftOf z (tree_on_disk old.disk old.pairs) (tree_on_disk old.disk old.pairs)) (disk_is u.device left)
         (subst (λ z. IsLeftOf (disk_with_blocks left now.disk) z z) shows
-        (over_left now C n.front n.before n.x n.todo (behind - 1) g here is_ready is_unled left x))) (stops clean))
+        (over_left now C n.front n.before n.goes.x n.goes.todo behind g dropping is_ready is_unled left x))) (stops clean))
 
     pub writes_on : (new : KeptThread) → IsUnderWay old now dropped (number ∷ rest) → ThreadChangesOnlyTheseBlocks (blocks_of_pair_address (thread_pair_at_index now (behind - 1)).at) now new → ThreadChangesOnlyTheseBlocks (blocks_of_pairs old.pairs) old new
     writes_on new u writes =
-        let can = can_take behind e in
+        let can = can_take in
         let low : behind - 1 < length now.pairs = let w = can.above in let z = can.below in omega arith in
         writes_trans u.writes (writes_fewer _ (blocks_of_pairs old.pairs) (λ b. let f = u.fewer b in let l = two_fewer now.pairs (behind - 1) low b in omega arith) writes)
 
@@ -332,39 +263,30 @@ module _ (old now : KeptThread) (dropped number : ℕ) (rest : List ℕ) (n : Is
     moves_on new u is writes stops =
         let on = stays_by _ now new writes in
         let q : Pair = record { at = n.before.at; content = content_after_next_pair_drop now (behind - 1) g } in
-        let apart = over_on now C n.front n.before n.x n.todo (behind - 1) g here is_ready is_unled new.disk is.written in
-        let pairs : new.pairs ≡ C ++ (n.front ++ q ∷ n.todo) = is.pairs ∙ without_is now (behind - 1) (C ++ n.front) n.before n.x n.todo (were_is now C n.front n.before n.x n.todo (behind - 1) g here is_ready is_unled)
-        (number_is now C n.front n.before n.x n.todo (behind - 1) g here is_ready is_unled) (content_after_next_pair_drop now (behind - 1) g) ∙ append_assoc C n.front (q ∷ n.todo) in
-        let were : now.pairs ≡ (C ++ n.front) ++ n.before ∷ n.x ∷ n.todo = whole_is ∙ sym (append_assoc C n.front (n.before ∷ n.x ∷ n.todo)) in
-        let are : new.pairs ≡ (C ++ n.front) ++ q ∷ n.todo = pairs ∙ sym (append_assoc C n.front (q ∷ n.todo)) in
-        let files : SameFiles now.disk new.disk (all_slots_not_moved now.pairs) = subst (λ z. SameFiles now.disk new.disk (all_slots_not_moved z)) (sym whole_is)
-        (recursion_from_All (λ (s : Slot). HasSameFileBlocksOfStructOnDisks now.disk new.disk s.struct) (all_slots_not_moved (C ++ (n.front ++ n.before ∷ n.x ∷ n.todo))) apart.device.files) in
-        let still : HasNoMove (gstate_of_pairs new.pairs) = subst (λ z. HasNoMove (gstate_of_pairs z)) (sym pairs) apart.no_move in
-        let map_is : new.map ≡ block_map_with_freed_pair now.map n.x.at = is.map ∙ ap (λ (z : Pair). block_map_with_freed_pair now.map z.at) (gone_is now (behind - 1) (C ++ n.front) n.before n.x n.todo (were_is now C n.front n.before n.x n.todo (behind - 1) g here is_ready is_unled) (number_is now C n.front n.before n.x n.todo (behind - 1) g here is_ready is_unled)) in
+        let apart = over_on now C n.front n.before n.goes.x n.goes.todo behind g dropping is_ready is_unled new.disk is.written in
+        let m = map_drops dropping new is now_none cases.0 u.gone u.map in
         record {
-          gone = u.gone ++ file_blocks_of_slots now.disk n.x.content.slots;
+          gone = u.gone ++ file_blocks_of_slots now.disk n.goes.x.content.slots;
           was = u.was;
           took = u.took ++ number ∷ [];
           reported = subst (AreUnreachedPairNumbers old.pairs) (sym (append_assoc u.took (number ∷ []) rest)) u.reported;
-          gone_are = ap₂ (λ a b. a ++ b) u.gone_are (lists_kept old now C n.seen n.x n.todo n.way.is.are u.was n.way.no_move u.writes) ∙ sym (lists_more old u.took number n.x number_there);
-          map = map_drops now new (C ++ n.front) n.before n.x q n.todo were are refl apart.slots now_none still apart.device.geometry files u.gone map_is on.shape.count u.map;
+          gone_are = ap₂ (λ a b. a ++ b) u.gone_are (lists_kept old now C n.goes.seen n.goes.x n.goes.todo n.goes.way.is.are u.was n.goes.way.no_move u.writes) ∙ sym (lists_more old u.took number n.goes.x number_there);
+          map = m.0;
           lost = λ b.
-              let f = files_count now new (C ++ n.front) n.before n.x q n.todo were are refl apart.slots now_none still apart.device.geometry files b in
-              let a = count_append b u.gone (file_blocks_of_slots now.disk n.x.content.slots) in
+              let f = files_left dropping new is now_none cases.0 b in
+              let a = count_append b u.gone (file_blocks_of_slots now.disk n.goes.x.content.slots) in
               let l = u.lost b in
               omega arith;
-          flying = λ b.
-              let f : HasSameBlocksInFlight now.map new.map = subst (HasSameBlocksInFlight now.map) (sym map_is) (map_flies now new (C ++ n.front) n.before n.x q n.todo were are refl apart.slots now_none still apart.device.geometry files u.gone u.map) in
-              ((λ flies. (u.flying b).0 ((f b).0 flies)), (λ flies. (f b).1 ((u.flying b).1 flies)));
-          fewer = λ b. let f = u.fewer b in let k = blocks_count now new (C ++ n.front) n.before n.x q n.todo were are refl apart.slots now_none still apart.device.geometry files b in omega arith;
+          flying = λ b. ((λ flies. (u.flying b).0 ((m.1 b).0 flies)), (λ flies. (m.1 b).1 ((u.flying b).1 flies)));
+          fewer = λ b. let f = u.fewer b in let k = blocks_left dropping new is b in omega arith;
           writes = writes_on new u writes;
-          seen = n.seen ++ n.x ∷ [];
-          todo = n.todo;
-          parts = n.parts ++ [] ∷ [];
+          seen = n.goes.seen ++ n.goes.x ∷ [];
+          todo = n.goes.todo;
+          parts = n.goes.parts ++ [] ∷ [];
           kept = n.front ++ q ∷ [];
-          way = drops old.disk old.pairs now dropped C n.seen n.x n.todo n.parts n.kept n.numbers n.way n.unreached n.front n.before n.split new q rest n.more
-              (subst (λ z. IsUnthreaded now.disk new.disk C n.front n.before n.x q z) (sym (joined_singles n.todo)) apart) pairs;
-          state = λ some none. ap gstate_of_pairs pairs ∙ state_now now C n.front n.before n.x n.todo (behind - 1) g here is_ready is_unled ∙ want.last none;
+          way = drops n.goes.way n.goes.unreached n.front n.before n.split new q rest more
+              (subst (λ z. IsUnthreaded now.disk new.disk C n.front n.before n.goes.x q z) (sym (joined_singles n.goes.todo)) apart) (pairs_left dropping new is);
+          state = λ some none. is.gstate ∙ want.last none;
           device = stays_then old now new u.device on;
           survives = survives_on new u on stops;
         }

@@ -1,14 +1,9 @@
 -- Which blocks are written, of those of pairs.
 use Rattle.std.proofs.Common.{ℕ, zero, suc, ◌≡◌, ◌≢◌, ◌<◌, ◌≤◌, ◌+◌, Bool, true, false, cond, nat_eq, eqb-true, eq-eqb, List, [], ◌∷◌, length, refl, sym, ◌∙◌, arith}
 use Rattle.std.specs.Prelude.{slice_index_or}
-use Rattle.std.proofs.lemmas.List.Elements.{All-from_recursion, recursion_from_All}
-use Rattle.lfs_model.specs.Thread.{Pair, blocks_of_pairs, blocks_of_pair_address}
-use Rattle.lfs_model.proofs.Counts.{Each, occurrence_count_of_number}
-use Rattle.lfs_model.proofs.Histories.{AreBytesStillUnprogrammed-refl}
+use Rattle.lfs_operations.proofs.Common.{All-from_recursion, recursion_from_All, Pair, blocks_of_pairs, blocks_of_pair_address, Each, occurrence_count_of_number, AreBytesStillUnprogrammed-refl, KeptThread, ThreadChangesOnlyTheseBlocks, empty_pair_at_anchor}
 use Rattle.lfs_model.proofs.Overwrites.{AreBlocksEqualExceptThese-refl}
-use Rattle.lfs_thread.specs.Kept.{KeptThread}
-use Rattle.lfs_thread.specs.Steps.{ThreadChangesOnlyTheseBlocks, empty_pair_at_anchor}
-use Rattle.lfs_operations.proofs.UnlinkedSteps.{writes_wider}
+use Rattle.lfs_operations.proofs.Putting.{writes_wider}
 
 none_counted : (b : ℕ) (xs : List ℕ) → Each (λ c. c ≢ b) xs → occurrence_count_of_number b xs ≡ 0
 none_counted b [] h = refl

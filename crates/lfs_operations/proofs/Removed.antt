@@ -1,43 +1,11 @@
 -- A file that goes while its pair stays, as a step of the thread.
 use Rattle.std.proofs.Common.{Err, Result, append_assoc, nat_eq, slice_get, ℕ, ◌≡◌, ◌≢◌, ◌⊎◌, inl, inr, ◌+◌, ◌<◌, ◌&&◌, not, Bool, true, false, eqb-true, List, [], ◌∷◌, ◌++◌, length, Some, refl, sym, ap, ap₂, subst, ◌∙◌, arith, append-nil, length-append, remove, sum_by}
-use Rattle.std.specs.Prelude.{IfErr, is_err}
+use Rattle.std.specs.Prelude.{is_err}
 use Rattle.lfs_device.specs.declared.error.Error.{Error}
-use Rattle.lfs_device.specs.declared.error.Error.TheVariants.{Io, NoMemory}
 use Rattle.std.specs.Option.{option_and_then}
-use Rattle.std.proofs.lemmas.Bool.{eqb-false}
-use Rattle.std.proofs.lemmas.Option.{same_Some}
-use Rattle.std.proofs.lemmas.List.Sums.{sum_by-append, sum_by-cons}
-use Rattle.lfs_model.specs.TreeEdits.{tree_after_removal}
-use Rattle.lfs_model.specs.BlockSets.BlockState.{Free, InFlight}
-use Rattle.lfs_model.specs.Changes.{Delete, raw_pair_content_after_changes}
-use Rattle.lfs_model.specs.Content.{RawPairContent, pair_content_if_slots_complete, raw_content_of_pair_at}
-use Rattle.lfs_model.specs.Disk.{Disk}
-use Rattle.lfs_model.specs.History.{DeviceCallEvent}
+use Rattle.lfs_operations.proofs.Common.{eqb-false, same_Some, sum_by-append, sum_by-cons, tree_after_removal, Free, InFlight, Delete, raw_pair_content_after_changes, RawPairContent, pair_content_if_slots_complete, raw_content_of_pair_at, Disk, DeviceCallEvent, SurvivesPowerLossInCallsSince, PairContent, IsContentFittingPair, Slot, same_pair, slot_size, Pair, blocks_of_pairs, first_pair_address, pair_address_named_by_tail, Tree, skip_list_blocks_of_struct, tree_on_disk, Name, IsImageAfterTreeChange, IsImageAfterCompletedOperation, commit_step, recovered_from, complete_length, complete_remove, completed_from, completed_parts, count_append, deletes, does_first, does_nothing, IsTrueAfterAnyPowerLossSince-weaker, Ends, file_goes, remove_here, same, same_number, site, pair_back, pair_on, IsPairAtAddress, IsDistinct, Site, thread_at, ends_in_hard_tail, PowerLossLeavesSuchBlocksAfterCleanErases, KeptThread, ThreadView, CanChangePair, IoMeantFaultNoMemoryWroteNothing, IsPairChanged, PowerLossLeavesPairOldOrChanged, IsCommitRefused, complete_content_after_changes, thread_pair_at_index}
 use Rattle.lfs_model.specs.Operations as ops
-use Rattle.lfs_model.specs.PowerLoss.{SurvivesPowerLossInCallsSince}
-use Rattle.lfs_model.specs.Slots.{PairContent, IsContentFittingPair, Slot, same_pair, slot_size}
-use Rattle.lfs_model.specs.Thread.{Pair, blocks_of_pairs, first_pair_address, pair_address_named_by_tail}
-use Rattle.lfs_model.specs.Tree.{Tree}
-use Rattle.lfs_model.specs.Shown.{IsPathToDirectory, skip_list_blocks_of_struct, tree_on_disk}
-use Rattle.lfs_model.specs.Names.{Name}
-use Rattle.lfs_model.proofs.Changes.{IsImageAfterTreeChange}
-use Rattle.lfs_model.proofs.Committed.{IsImageAfterCompletedOperation, commit_step, recovered_from}
-use Rattle.lfs_model.proofs.Completed.{complete_length, complete_remove, completed_from, completed_parts}
-use Rattle.lfs_model.proofs.Counts.{count_append}
-use Rattle.lfs_model.proofs.Effects.{deletes, does_first, does_nothing}
-use Rattle.lfs_model.proofs.Histories.{IsTrueAfterAnyPowerLossSince-weaker}
-use Rattle.lfs_model.proofs.Listings.{Ends}
-use Rattle.lfs_model.proofs.Moves.{file_goes, remove_here}
 use Rattle.lfs_model.proofs.OneCommit.{remove_completed}
-use Rattle.lfs_model.proofs.Searches.{is_site, number_is, same, same_number, site, thread_is}
-use Rattle.lfs_model.proofs.Pairs.{pair_back, pair_on}
-use Rattle.lfs_model.specs.InDirectory.{IsPairAtAddress}
-use Rattle.std.specs.List.{IsDistinct}
-use Rattle.lfs_model.proofs.Sites.{Site, begin_of, thread_at}
-use Rattle.lfs_model.proofs.Writable.{ends_in_hard_tail}
-use Rattle.lfs_thread.specs.Device.{PowerLossLeavesSuchBlocksAfterCleanErases}
-use Rattle.lfs_thread.specs.Kept.{KeptThread, ThreadView}
-use Rattle.lfs_thread.specs.Steps.{CanChangePair, IoMeantFaultNoMemoryWroteNothing, IsPairChanged, PowerLossLeavesPairOldOrChanged, IsCommitRefused, complete_content_after_changes, thread_pair_at_index}
 use Rattle.lfs_operations.specs.Editing.{CanEditEntryOfPair, slot_of_editable_entry}
 use Rattle.lfs_operations.specs.Dropping.{ShowsTreeAfterPairDrops}
 use Rattle.lfs_operations.specs.Ready.{ShowsTreeReadyOnceMapIsUpdated}
@@ -46,7 +14,8 @@ use Rattle.lfs_operations.proofs.Held.{CompletesTo, below, fits_there, here, raw
 use Rattle.lfs_operations.proofs.Splicing.{Commits, IsSplicing}
 use Rattle.lfs_operations.proofs.Stepped.{HasStep, becomes, put_step, survives}
 use Rattle.lfs_operations.proofs.Threads.{get_behind}
-use Rattle.lfs_operations.proofs.Putting.{same_err}
+use Rattle.lfs_operations.proofs.RenameReadOver.{reported_again}
+use Rattle.lfs_operations.proofs.PairAt.{HasPairAt, pair_at}
 
 -- no hard tail leads to the first pair of a directory
 pub flag_ends : (before : List Pair) → Ends before → ends_in_hard_tail false before ≡ false
@@ -110,6 +79,9 @@ module _ (t : KeptThread) (index id first : ℕ) (take : CanRemoveFileInPair t i
   abbrev w : Site
   w = site t.disk t.pairs can.path can.at can.ready.accepted can.leads can.first index p can.stands.rest can.stands.place can.begins
 
+  stand : HasPairAt t index can.path can.at w p
+  stand = pair_at t can.ready can.path can.at can.leads can.first index p can.stands.rest can.stands.place can.begins
+
   -- ---- what the change makes
 
   within : id < length p.content.slots
@@ -172,15 +144,12 @@ module _ (t : KeptThread) (index id first : ℕ) (take : CanRemoveFileInPair t i
 
   -- ---- in the image
 
-  there : t.pairs ≡ thread_at w (p ∷ [])
-  there = thread_is t.disk t.pairs can.path can.at can.ready.accepted can.leads can.first index p can.stands.rest can.stands.place can.begins
-
   spliced : IsSplicing t index (Delete id ∷ []) w p l (u ∷ []) [] r (skip_list_blocks_of_struct t.disk u.struct) []
   spliced = record {
     ready = can.ready;
-    there = there;
-    place = number_is t.disk t.pairs can.path can.at can.ready.accepted can.leads can.first index p can.stands.rest can.stands.place can.begins;
-    site = is_site t.disk t.pairs can.path can.at can.ready.accepted can.leads can.first index p can.stands.rest can.stands.place can.begins;
+    there = stand.there;
+    place = stand.number;
+    site = stand.site;
     content = now;
     made = made;
     tail = refl;
@@ -196,21 +165,15 @@ module _ (t : KeptThread) (index id first : ℕ) (take : CanRemoveFileInPair t i
     blocks = λ disk geometry files come b. let e = count_append b (skip_list_blocks_of_struct t.disk u.struct) [] in omega arith;
   }
 
-  led : IsPathToDirectory (thread_at w (p ∷ [])) can.path can.at
-  led = subst (λ z. IsPathToDirectory z can.path can.at) there can.leads
-
-  same_begin : same_pair (begin_of w (p ∷ [])) can.at ≡ true
-  same_begin = same t.disk t.pairs can.path can.at can.ready.accepted can.leads can.first index p can.stands.rest can.stands.place can.begins
-
   -- the pair stays filled where a hard tail leads to it
   filled : ends_in_hard_tail false (w.before ++ w.left) ≡ true → l ++ ([] ++ r) ≢ []
   filled hard none = go (stays_there t index id first can take.begins goes)
     where
       go : (index ≡ can.first) ⊎ (1 < length (thread_pair_at_index t index).content.slots) → ⊥
       go (inl e) =
-          let none_before = alone w.chain w.before w.left (w.right ++ w.after) p can.at can.first (subst (λ z. IsDistinct nat_eq (blocks_of_pairs z)) there can.ready.accepted.thread.distinct) same_begin
-          (subst (λ z. IsPairAtAddress z can.at can.first) there can.begins) (sym e ∙ number_is t.disk t.pairs can.path can.at can.ready.accepted can.leads can.first index p can.stands.rest can.stands.place can.begins) in
-          let ends = (is_site t.disk t.pairs can.path can.at can.ready.accepted can.leads can.first index p can.stands.rest can.stands.place can.begins).ends in
+          let none_before = alone w.chain w.before w.left (w.right ++ w.after) p can.at can.first (subst (λ z. IsDistinct nat_eq (blocks_of_pairs z)) stand.there can.ready.accepted.thread.distinct) stand.begin
+          (subst (λ z. IsPairAtAddress z can.at can.first) stand.there can.begins) (sym e ∙ stand.number) in
+          let ends = stand.site.ends in
           let soft = ap (λ z. ends_in_hard_tail false (w.before ++ z)) none_before ∙ ap (ends_in_hard_tail false) (append-nil w.before) ∙ flag_ends w.before ends in
           absurd (let z = sym hard ∙ soft in cc)
       go (inr many) =
@@ -226,7 +189,7 @@ module _ (t : KeptThread) (index id first : ℕ) (take : CanRemoveFileInPair t i
 
   follows : (disk : Disk) (q : Pair) (more : List Pair) → Commits t w p l (u ∷ []) [] r [] disk q more → IsImageAfterTreeChange t.disk (thread_at w (p ∷ [])) disk (thread_at w (q ∷ more)) turn (λ d. d)
   follows disk q more x = subst (λ (n : Name). IsImageAfterTreeChange t.disk (thread_at w (p ∷ [])) disk (thread_at w (q ∷ more)) (tree_after_removal (can.path ++ n ∷ [])) (λ d. d)) can.stands.stands.named
-      (file_goes t.disk disk w p [] q more (blocks_of_pairs more) [] l r u (commit_step t.disk disk w p q more [] l (u ∷ []) [] r x.commit) can.stands.stands.entry can.path can.at led same_begin take.file
+      (file_goes t.disk disk w p [] q more (blocks_of_pairs more) [] l r u (commit_step t.disk disk w p q more [] l (u ∷ []) [] r x.commit) can.stands.stands.entry can.path can.at stand.leads stand.begin take.file
       (λ e. (recovered_from t.disk (thread_at w (p ∷ [])) x.commit.accepted x.commit.settled).reached))
 
   pub gone : (new : KeptThread) → IsPairChanged t index (Delete id ∷ []) new → IsFileRemoved t new take.can.path take.can.name (slot_of_editable_entry take.can).struct
@@ -236,9 +199,9 @@ module _ (t : KeptThread) (index id first : ℕ) (take : CanRemoveFileInPair t i
       go x = record {
         now = shrunk_from t new (turn (tree_on_disk t.disk t.pairs)) (skip_list_blocks_of_struct t.disk u.struct)
             (becomes t index (Delete id ∷ []) w p l (u ∷ []) [] r (skip_list_blocks_of_struct t.disk u.struct) [] spliced turn (λ disk q more y. ((λ d. d), follows disk q more y)) filled new x);
-        completed = λ z given tree is_path. subst (λ y. IsImageAfterCompletedOperation t.disk y z (ops.Remove given) new.disk new.pairs) (sym there)
+        completed = λ z given tree is_path. subst (λ y. IsImageAfterCompletedOperation t.disk y z (ops.Remove given) new.disk new.pairs) (sym stand.there)
             (subst (λ y. IsImageAfterCompletedOperation t.disk (thread_at w (p ∷ [])) z (ops.Remove given) new.disk y) (sym x.pairs)
-            (remove_completed t.disk new.disk w p x.q x.more l r u x.commit.commit can.stands.stands.entry take.file can.path can.at led same_begin z given (tree ∙ ap (tree_on_disk t.disk) there)
+            (remove_completed t.disk new.disk w p x.q x.more l r u x.commit.commit can.stands.stands.entry take.file can.path can.at stand.leads stand.begin z given (tree ∙ ap (tree_on_disk t.disk) stand.there)
             (is_path ∙ ap (λ n. can.path ++ n ∷ []) (sym can.stands.stands.named)) filled));
         once = λ b. let e = x.used.same b in let o = x.once b in omega arith;
       }
@@ -253,10 +216,5 @@ module _ (t : KeptThread) (index id first : ℕ) (take : CanRemoveFileInPair t i
 pub reports_again : {X Y : Type 0} (old new : ThreadView) (e : Error) (result : Result X Error) (given : Result Y Error) → result ≡ Err e → given ≡ Err e → new.failed ≡ is_err result → IoMeantFaultNoMemoryWroteNothing old.kept new.kept result → ReportsErrorsOfCommitTakingNoBlock old new given
 reports_again old new e result given is same failed reported = record {
   failed = failed ∙ ap is_err is ∙ sym (ap is_err same);
-  reported = record {
-    errors = subst (λ r. IfErr r (λ x. (x ≡ Io) ⊎ (x ≡ NoMemory))) (sym same) (subst (λ r. IfErr r (λ x. (x ≡ Io) ⊎ (x ≡ NoMemory))) is reported.errors);
-    fault = λ io. reported.fault (is ∙ ap Err (same_err e Io given same io));
-    no_fault = λ other. reported.no_fault (λ io. other (same ∙ ap Err (same_err e Io result is io)));
-    unwritten = λ none. reported.unwritten (is ∙ ap Err (same_err e NoMemory given same none));
-  };
+  reported = reported_again old.kept new.kept e result given is same reported;
 }

@@ -1,48 +1,18 @@
 -- A file that goes with its pair, which held nothing else and isn't the first of its directory, as a step of the thread.
-use Rattle.std.proofs.Common.{◌<◌, ℕ, ◌≡◌, ◌≢◌, ◌⊎◌, inl, inr, ◌+◌, ◌-◌, ◌≤◌, ◌&&◌, not, Bool, true, false, nat_eq, eqb-true, slice_get, List, [], ◌∷◌, ◌++◌, length, Option, Some, None, refl, sym, ap, ap₂, subst, ◌∙◌, arith, append_assoc, length-append}
-use Rattle.std.specs.List.{IsDistinct}
-use Rattle.std.proofs.lemmas.Bool.{eqb-false}
-use Rattle.std.proofs.lemmas.List.Elements.{recursion_from_All}
-use Rattle.lfs_model.specs.TreeEdits.{tree_after_removal}
-use Rattle.lfs_model.specs.Blocks.{Blocks}
-use Rattle.lfs_model.specs.BlockSets.{AreExactlyTheUsedBlocks}
-use Rattle.lfs_model.specs.Disk.{Disk}
-use Rattle.lfs_model.specs.History.{DeviceCallEvent}
-use Rattle.lfs_model.specs.InDirectory.{IsPairAtAddress}
+use Rattle.std.proofs.Common.{◌<◌, ℕ, ◌≡◌, ◌≢◌, inl, inr, ◌+◌, ◌-◌, ◌≤◌, ◌&&◌, not, Bool, true, false, nat_eq, eqb-true, slice_get, List, [], ◌∷◌, ◌++◌, length, Option, Some, None, refl, sym, ap, subst, ◌∙◌, arith, append_assoc, length-append}
+use Rattle.lfs_operations.proofs.Common.{IsDistinct, eqb-false, tree_after_removal, Blocks, Disk, DeviceCallEvent, IsPairAtAddress, HasTreeBeforeOrAfterOperation as IsLeftOf, SurvivesPowerLossInCallsSince, disk_with_blocks, PairContent, Slot, Tail, zero_gstate, same_pair, Pair, blocks_of_pairs, first_pair_address, gstate_of_pairs, is_hard_tail, pair_count_before_root, Tree, branch_address_of_struct, IsAcceptedImage, IsWritableImage, IsPathToDirectory, skip_list_blocks_of_struct, tree_on_disk, used_blocks, IsImageAfterTreeChange, IsImageAfterCompletedOperation, no_move_from, recovered_from, occurrence_count_of_number, count_append, once_from_distinct, HasNoMove, IsTrueAfterAnyPowerLossSince-weaker, IsRun, file_goes, same_number, site, pair_back, pair_on, IsSite, Site, begin_of, dirs_at, thread_at, file_blocks_of_slots, IsChain, ends_in_hard_tail, PowerLossLeavesSuchBlocksAfterCleanErases, KeptThread, IsPairWrittenOnDisk, thread_pair_at_index}
 use Rattle.lfs_model.specs.Operations as ops
-use Rattle.lfs_model.specs.PowerLoss.{HasTreeBeforeOrAfterOperation as IsLeftOf, SurvivesPowerLossInCallsSince, disk_with_blocks}
-use Rattle.lfs_model.specs.Slots.{PairContent, IsContentFittingPair, Slot, Tail, zero_gstate, same_pair}
-use Rattle.lfs_model.specs.Thread.{Pair, blocks_of_pairs, first_pair_address, gstate_of_pairs, is_hard_tail, pair_count_before_root, blocks_of_pair_address}
-use Rattle.lfs_model.specs.Tree.{Tree, branch_address_of_struct}
-use Rattle.lfs_model.specs.View.{IsAcceptedImage}
-use Rattle.lfs_model.specs.Profile.{IsWritableImage}
-use Rattle.lfs_model.specs.Shown.{IsPathToDirectory, skip_list_blocks_of_struct, tree_on_disk, used_blocks}
-use Rattle.lfs_model.proofs.Changes.{IsImageAfterTreeChange}
-use Rattle.lfs_model.proofs.Committed.{IsImageAfterCompletedOperation, no_move_from, recovered_from}
-use Rattle.lfs_model.proofs.Counts.{Each, each_right, occurrence_count_of_number, count_append, once_from_distinct}
 use Rattle.lfs_model.proofs.Dropped.{IsDrop, drop_completed, drop_step, drop_writable}
-use Rattle.lfs_model.proofs.Global.{HasNoMove}
-use Rattle.lfs_model.proofs.Histories.{IsTrueAfterAnyPowerLossSince-weaker}
-use Rattle.lfs_model.proofs.Listings.{IsRun}
-use Rattle.lfs_model.proofs.Moves.{file_goes}
-use Rattle.lfs_model.proofs.Searches.{is_site, number_is, same, same_number, site, thread_is}
-use Rattle.lfs_model.proofs.Pairs.{pair_back, pair_on}
-use Rattle.lfs_model.proofs.Sites.{IsSite, Site, begin_of, dirs_at, thread_at}
-use Rattle.lfs_model.proofs.Splices.{IsDevice, file_blocks_of_slots}
-use Rattle.lfs_model.proofs.Superblocks.{IsChain}
-use Rattle.lfs_model.proofs.Writable.{ends_in_hard_tail}
-use Rattle.lfs_thread.specs.Device.{PowerLossLeavesSuchBlocksAfterCleanErases}
-use Rattle.lfs_thread.specs.Kept.{KeptThread}
-use Rattle.lfs_thread.specs.Steps.{IsPairWrittenOnDisk, thread_pair_at_index, block_map_with_freed_pair}
-use Rattle.lfs_operations.specs.Dropping.{CanDropPairAt, IsNextPairDropped, ShowsTreeAfterPairDrops, IsLeftByStoppedPairDrop, HasSameBlocksInFlight, tail_over_dropped_pair, content_after_next_pair_drop}
+use Rattle.lfs_operations.specs.Dropping.{CanDropPairAt, IsNextPairDropped, ShowsTreeAfterPairDrops, IsLeftByStoppedPairDrop, tail_over_dropped_pair, content_after_next_pair_drop}
 use Rattle.lfs_operations.specs.Editing.{CanEditEntryOfPair, slot_of_editable_entry}
 use Rattle.lfs_operations.specs.Removing.{IsFileRemoved, is_pair_dropped_with_slot, tree_without_named_entry}
-use Rattle.lfs_operations.proofs.Dropped.{device_dropped, device_kept, dropped_count, flying_same, length_fewer, used_fewer}
-use Rattle.lfs_operations.proofs.DroppedTails.{front_is, gone_is, gstate_is, no_move_state, without_is}
-use Rattle.lfs_operations.proofs.Held.{below, here}
-use Rattle.lfs_operations.proofs.Placing.{left_after, left_still}
+use Rattle.lfs_operations.proofs.Dropped.{HasMapWithout, IsToBeDropped, can_drop_pair, device_left, left_dropped, map_dropped, pairs_left, slots_left, state_left, tail_left, used_left}
+use Rattle.lfs_operations.proofs.DroppedTails.{no_move_state}
+use Rattle.lfs_operations.proofs.Held.{here}
+use Rattle.lfs_operations.proofs.Placing.{left_after}
 use Rattle.lfs_operations.proofs.RootStays.{root_stays}
 use Rattle.lfs_operations.proofs.Threads.{get_behind}
+use Rattle.lfs_operations.proofs.PairAt.{HasPairAt, pair_at}
 
 -- ---- the pair in front
 
@@ -150,17 +120,8 @@ module _ (t : KeptThread) (index id first : ℕ) (can : CanEditEntryOfPair t ind
   abbrev v : Site
   v = site t.disk t.pairs can.path can.at can.ready.accepted can.leads can.first index o can.stands.rest can.stands.place can.begins
 
-  there_before : t.pairs ≡ thread_at v (o ∷ [])
-  there_before = thread_is t.disk t.pairs can.path can.at can.ready.accepted can.leads can.first index o can.stands.rest can.stands.place can.begins
-
-  site_before : IsSite v (o ∷ [])
-  site_before = is_site t.disk t.pairs can.path can.at can.ready.accepted can.leads can.first index o can.stands.rest can.stands.place can.begins
-
-  number_before : index ≡ length v.chain + length (v.before ++ v.left)
-  number_before = number_is t.disk t.pairs can.path can.at can.ready.accepted can.leads can.first index o can.stands.rest can.stands.place can.begins
-
-  same_before : same_pair (begin_of v (o ∷ [])) can.at ≡ true
-  same_before = same t.disk t.pairs can.path can.at can.ready.accepted can.leads can.first index o can.stands.rest can.stands.place can.begins
+  stand : HasPairAt t index can.path can.at v o
+  stand = pair_at t can.ready can.path can.at can.leads can.first index o can.stands.rest can.stands.place can.begins
 
   -- ---- what is known by it
 
@@ -179,9 +140,9 @@ module _ (t : KeptThread) (index id first : ℕ) (can : CanEditEntryOfPair t ind
       can.stands.stands.held ∙ only_slot can.stands.stands.left can.stands.stands.right u (sym n ∙ sym e ∙ alone_there.1)
 
   behind : StandsBehind t.pairs v o index
-  behind = stands_behind t.pairs v o index there_before site_before number_before
-      (not_alone v.chain v.before v.left (v.right ++ v.after) o can.at can.first (subst (λ z. IsDistinct nat_eq (blocks_of_pairs z)) there_before can.ready.accepted.thread.distinct) same_before
-      (subst (λ z. IsPairAtAddress z can.at can.first) there_before can.begins) (λ e. alone_there.0 (number_before ∙ e)))
+  behind = stands_behind t.pairs v o index stand.there stand.site stand.number
+      (not_alone v.chain v.before v.left (v.right ++ v.after) o can.at can.first (subst (λ z. IsDistinct nat_eq (blocks_of_pairs z)) stand.there can.ready.accepted.thread.distinct) stand.begin
+      (subst (λ z. IsPairAtAddress z can.at can.first) stand.there can.begins) (λ e. alone_there.0 (stand.number ∙ e)))
 
   abbrev x : Pair
   x = behind.x
@@ -192,51 +153,21 @@ module _ (t : KeptThread) (index id first : ℕ) (can : CanEditEntryOfPair t ind
   there : t.pairs ≡ thread_at w (x ∷ o ∷ [])
   there = behind.there
 
-  abbrev ahead : List Pair
-  ahead = w.chain ++ (w.before ++ w.left)
-
-  abbrev back : List Pair
-  back = w.right ++ w.after
-
-  grouped : (ps : List Pair) → thread_at w ps ≡ ahead ++ (ps ++ back)
-  grouped ps = sym (append_assoc w.chain (w.before ++ w.left) (ps ++ (w.right ++ w.after)))
-
-  is : t.pairs ≡ ahead ++ x ∷ o ∷ back
-  is = there ∙ grouped (x ∷ o ∷ [])
-
-  number : length ahead ≡ index - 1
-  number = let e = behind.number in omega arith
-
   -- a hard tail leads to the pair
   pub flag_whole : ends_in_hard_tail false (v.before ++ v.left) ≡ true
   flag_whole = behind.led
 
   pub stands_whole : StandsWhole t index id can
-  stands_whole = record { w = w; x = x; there = there; site = behind.site; number = behind.number; hard = behind.hard; same = subst (λ z. same_pair z can.at ≡ true) behind.begin same_before; held = held }
+  stands_whole = record { w = w; x = x; there = there; site = behind.site; number = behind.number; hard = behind.hard; same = subst (λ z. same_pair z can.at ≡ true) behind.begin stand.begin; held = held }
 
-  front_there : thread_pair_at_index t (index - 1) ≡ x
-  front_there = front_is t (index - 1) ahead x o back is number
-
-  gone_there : thread_pair_at_index t (index - 1 + 1) ≡ o
-  gone_there = gone_is t (index - 1) ahead x o back is number
-
-  pub below_whole : index - 1 + 1 < length t.pairs
-  below_whole = let e = behind.number in let l = below t can.ready can.first index o can.stands.rest can.stands.place in omega arith
+  dropping : IsToBeDropped t index zero_gstate w x o
+  dropping = record { accepted = can.ready.accepted; writable = can.ready.writable; storable = no_move_state; there = there; number = behind.number }
 
   pub can_drop_file : CanDropPairAt t index zero_gstate
-  can_drop_file = record {
-    above = let e = behind.number in omega arith;
-    below = below t can.ready can.first index o can.stands.rest can.stands.place;
-    thread = can.ready.accepted.thread;
-    fits = subst (λ (z : Pair). IsContentFittingPair t.disk.block_size t.disk.page z.content) (sym front_there) x_fits;
-    storable = no_move_state;
-  }
-    where
-      x_fits : IsContentFittingPair t.disk.block_size t.disk.page x.content
-      x_fits =
-          let F = λ (z : Pair). IsContentFittingPair t.disk.block_size t.disk.page z.content in
-          (each_right (λ (z : Pair). IsContentFittingPair t.disk.block_size t.disk.page z.content) ahead (x ∷ o ∷ back)
-          (subst (Each (λ (z : Pair). IsContentFittingPair t.disk.block_size t.disk.page z.content)) is (recursion_from_All (λ (z : Pair). IsContentFittingPair t.disk.block_size t.disk.page z.content) t.pairs can.ready.writable.pairs))).0
+  can_drop_file = can_drop_pair dropping
+
+  pub below_whole : index - 1 + 1 < length t.pairs
+  below_whole = let e = behind.number in let l = (can_drop_pair dropping).below in omega arith
 
   -- ---- what it leaves
 
@@ -246,27 +177,17 @@ module _ (t : KeptThread) (index id first : ℕ) (can : CanEditEntryOfPair t ind
   abbrev q : Pair
   q = record { at = x.at; content = c }
 
-  slots_same : c.slots ≡ x.content.slots
-  slots_same = ap (λ (z : Pair). z.content.slots) front_there
-
-  still : gstate_of_pairs (thread_at w (q ∷ [])) ≡ zero_gstate
-  still = ap gstate_of_pairs (grouped (q ∷ [])) ∙ gstate_is t (index - 1) ahead x o back is number zero_gstate q refl
-
-  accepted : IsAcceptedImage t.disk (thread_at w (x ∷ o ∷ []))
-  accepted = subst (IsAcceptedImage t.disk) there can.ready.accepted
-
   drop_on : (disk : Disk) → IsPairWrittenOnDisk t (index - 1) c disk → IsDrop t.disk disk w x o q u
   drop_on disk written = record {
-    accepted = accepted;
+    accepted = subst (IsAcceptedImage t.disk) there can.ready.accepted;
     writable = subst (IsWritableImage t.disk) there can.ready.writable;
     settled = ap gstate_of_pairs (sym there) ∙ can.ready.settled;
-    still = still;
+    still = state_left dropping;
     site = behind.site;
-    device = subst (λ z. IsDevice t.disk disk z (thread_at w (q ∷ []))) (sym (grouped (x ∷ o ∷ []))) (subst (IsDevice t.disk disk (ahead ++ x ∷ o ∷ back)) (sym (grouped (q ∷ [])))
-        (device_dropped t (index - 1) ahead x o back is number (subst (IsAcceptedImage t.disk) is can.ready.accepted) disk c slots_same written));
+    device = device_left dropping disk written;
     at = refl;
-    tail = ap₂ (λ (y z : Pair). tail_over_dropped_pair y.content.tail z.content.tail) front_there gone_there ∙ over_hard x.content.tail o.content.tail behind.hard;
-    slots = slots_same;
+    tail = tail_left dropping ∙ over_hard x.content.tail o.content.tail behind.hard;
+    slots = slots_left dropping;
     held = held;
     other = can.stands.stands.entry;
   }
@@ -282,36 +203,27 @@ module _ (t : KeptThread) (index id first : ℕ) (can : CanEditEntryOfPair t ind
 
     follows : (disk : Disk) → IsPairWrittenOnDisk t (index - 1) c disk → IsImageAfterTreeChange t.disk (thread_at w (x ∷ o ∷ [])) disk (thread_at w (q ∷ [])) turn (λ d. d)
     follows disk written = subst (λ n. IsImageAfterTreeChange t.disk (thread_at w (x ∷ o ∷ [])) disk (thread_at w (q ∷ [])) (tree_after_removal (can.path ++ n ∷ [])) (λ d. d)) can.stands.stands.named
-        (file_goes t.disk disk w x (o ∷ []) q [] [] [] x.content.slots [] u (drop_step t.disk disk w x o q u (drop_on disk written)) can.stands.stands.entry can.path can.at leads_now (subst (λ z. same_pair z can.at ≡ true) behind.begin same_before) file
-        (λ e. (recovered_from t.disk (thread_at w (x ∷ o ∷ [])) accepted (ap gstate_of_pairs (sym there) ∙ can.ready.settled)).reached))
-
-    pairs_now : (new : KeptThread) → IsNextPairDropped t (index - 1) zero_gstate new → new.pairs ≡ thread_at w (q ∷ [])
-    pairs_now new h = h.pairs ∙ without_is t (index - 1) ahead x o back is number c ∙ sym (grouped (q ∷ []))
+        (file_goes t.disk disk w x (o ∷ []) q [] [] [] x.content.slots [] u (drop_step t.disk disk w x o q u (drop_on disk written)) can.stands.stands.entry can.path can.at leads_now (subst (λ z. same_pair z can.at ≡ true) behind.begin stand.begin) file
+        (λ e. (recovered_from t.disk (thread_at w (x ∷ o ∷ [])) (drop_on disk written).accepted (drop_on disk written).settled).reached))
 
     module _ (new : KeptThread) (h : IsNextPairDropped t (index - 1) zero_gstate new) where
-      now_used : (b : ℕ) → occurrence_count_of_number b (used_blocks new.disk new.pairs ++ skip_list_blocks_of_struct t.disk u.struct) + occurrence_count_of_number b (blocks_of_pair_address o.at) ≡ occurrence_count_of_number b (used_blocks t.disk t.pairs)
-      now_used b =
-          let d = drop_on new.disk h.written in
-          let e = dropped_count t.disk new.disk ahead x o q back (subst (λ z. HasNoMove (gstate_of_pairs z)) is (no_move_from t.pairs can.ready.settled)) (subst (λ z. HasNoMove (gstate_of_pairs z)) (grouped (q ∷ [])) (no_move_from (thread_at w (q ∷ [])) still))
-          (device_dropped t (index - 1) ahead x o back is number (subst (IsAcceptedImage t.disk) is can.ready.accepted) new.disk c slots_same h.written) refl slots_same b in
-          let f = ap (λ z. occurrence_count_of_number b (used_blocks new.disk z)) (pairs_now new h ∙ grouped (q ∷ [])) in
-          let g = ap (λ z. occurrence_count_of_number b (used_blocks t.disk z)) is in
+      owned_count : (b : ℕ) → occurrence_count_of_number b (used_blocks new.disk new.pairs ++ skip_list_blocks_of_struct t.disk u.struct) ≡ occurrence_count_of_number b (used_blocks new.disk new.pairs) + occurrence_count_of_number b (file_blocks_of_slots t.disk o.content.slots)
+      owned_count b =
           let k = count_append b (used_blocks new.disk new.pairs) (skip_list_blocks_of_struct t.disk u.struct) in
           let m = ap (λ z. occurrence_count_of_number b (file_blocks_of_slots t.disk z)) held in
           let n = count_append b (skip_list_blocks_of_struct t.disk u.struct) [] in
           omega arith
 
-      map_is : new.map ≡ block_map_with_freed_pair t.map o.at
-      map_is = h.map ∙ ap (λ (z : Pair). block_map_with_freed_pair t.map z.at) gone_there
+      none : HasNoMove (gstate_of_pairs t.pairs)
+      none = no_move_from t.pairs can.ready.settled
 
-      once : (b : ℕ) → occurrence_count_of_number b (used_blocks t.disk t.pairs) ≤ 1
-      once b = once_from_distinct (used_blocks t.disk t.pairs) can.ready.accepted.owned_once b
+      map_now : HasMapWithout t.map new.map (used_blocks new.disk new.pairs ++ skip_list_blocks_of_struct t.disk u.struct)
+      map_now = map_dropped dropping new h none (record { kind = refl; id = refl; pair = refl }) can.ready.used (used_blocks new.disk new.pairs ++ skip_list_blocks_of_struct t.disk u.struct) owned_count
 
       shrunk : ShowsTreeAfterPairDrops t new (tree_without_named_entry t can.path can.name) (skip_list_blocks_of_struct t.disk u.struct)
       shrunk =
           let f = follows new.disk h.written in
-          let p = pairs_now new h in
-          let gone = skip_list_blocks_of_struct t.disk u.struct in
+          let p = pairs_left dropping new h in
           record {
             ready = record {
               accepted = subst (IsAcceptedImage new.disk) (sym p) f.accepted;
@@ -319,47 +231,36 @@ module _ (t : KeptThread) (index id first : ℕ) (can : CanEditEntryOfPair t ind
               settled = h.gstate;
               used = record {
                 owned = used_blocks new.disk new.pairs ++ skip_list_blocks_of_struct t.disk u.struct;
-                are = subst (λ m. AreExactlyTheUsedBlocks m (used_blocks new.disk new.pairs ++ skip_list_blocks_of_struct t.disk u.struct)) (sym map_is)
-                    (used_fewer t.map o.at (used_blocks t.disk t.pairs) (used_blocks new.disk new.pairs ++ skip_list_blocks_of_struct t.disk u.struct) can.ready.used once now_used);
+                are = map_now.used;
                 same = λ b. let k = count_append b (used_blocks new.disk new.pairs) (skip_list_blocks_of_struct t.disk u.struct) in omega arith;
               };
-              size = ap length map_is ∙ length_fewer t.map o.at (used_blocks t.disk t.pairs) (used_blocks new.disk new.pairs ++ skip_list_blocks_of_struct t.disk u.struct) can.ready.used once now_used
-                  ∙ can.ready.size ∙ sym h.written.shape.count;
+              size = map_now.size ∙ can.ready.size ∙ sym h.written.shape.count;
               large = subst (λ n. 1024 ≤ n) (sym h.written.shape.block_size) can.ready.large;
             };
             shows = ap (tree_on_disk new.disk) p ∙ f.shows ∙ ap (λ z. turn (tree_on_disk t.disk z)) (sym there);
-            flying = subst (HasSameBlocksInFlight t.map) (sym map_is) (flying_same t.map o.at (used_blocks t.disk t.pairs) (used_blocks new.disk new.pairs ++ skip_list_blocks_of_struct t.disk u.struct) can.ready.used once now_used);
-            root = ap pair_count_before_root p ∙ root_stays t.disk new.disk w.chain (dirs_at w (x ∷ o ∷ [])) (dirs_at w (q ∷ [])) behind.site.chain accepted f.accepted f.root ∙ sym (ap pair_count_before_root there);
+            flying = map_now.flying;
+            root = ap pair_count_before_root p ∙ root_stays t.disk new.disk w.chain (dirs_at w (x ∷ o ∷ [])) (dirs_at w (q ∷ [])) behind.site.chain (drop_on new.disk h.written).accepted f.accepted f.root ∙ sym (ap pair_count_before_root there);
           }
 
       pub gone_whole : IsFileRemoved t new can.path can.name (slot_of_editable_entry can).struct
       gone_whole = record {
         now = shrunk;
         completed = λ z given tree is_path. subst (λ y. IsImageAfterCompletedOperation t.disk y z (ops.Remove given) new.disk new.pairs) (sym there)
-            (subst (λ y. IsImageAfterCompletedOperation t.disk (thread_at w (x ∷ o ∷ [])) z (ops.Remove given) new.disk y) (sym (pairs_now new h))
-            (drop_completed t.disk new.disk w x o q u (drop_on new.disk h.written) file can.path can.at leads_now (subst (λ z. same_pair z can.at ≡ true) behind.begin same_before) z given (tree ∙ ap (tree_on_disk t.disk) there)
+            (subst (λ y. IsImageAfterCompletedOperation t.disk (thread_at w (x ∷ o ∷ [])) z (ops.Remove given) new.disk y) (sym (pairs_left dropping new h))
+            (drop_completed t.disk new.disk w x o q u (drop_on new.disk h.written) file can.path can.at leads_now (subst (λ z. same_pair z can.at ≡ true) behind.begin stand.begin) z given (tree ∙ ap (tree_on_disk t.disk) there)
             (is_path ∙ ap (λ n. can.path ++ n ∷ []) (sym can.stands.stands.named))));
         once = λ b.
-            let e = count_append b (used_blocks new.disk new.pairs) (skip_list_blocks_of_struct t.disk u.struct) in
-            let n = now_used b in
-            let o = once b in
+            let e = owned_count b in
+            let k = count_append b (used_blocks new.disk new.pairs) (skip_list_blocks_of_struct t.disk u.struct) in
+            let n = used_left dropping new h none (record { kind = refl; id = refl; pair = refl }) b in
+            let o = once_from_distinct (used_blocks t.disk t.pairs) can.ready.accepted.owned_once b in
             omega arith;
       }
 
     -- ---- at a stop
 
     left_tree : (left : Blocks) → IsLeftByStoppedPairDrop t (index - 1) zero_gstate left → IsLeftOf (disk_with_blocks left t.disk) (tree_on_disk t.disk t.pairs) (turn (tree_on_disk t.disk t.pairs))
-    left_tree left h = go h.is
-      where
-        go : (h.content ≡ (thread_pair_at_index t (index - 1)).content) ⊎ (h.content ≡ content_after_next_pair_drop t (index - 1) zero_gstate) → IsLeftOf (disk_with_blocks left t.disk) (tree_on_disk t.disk t.pairs) (turn (tree_on_disk t.disk t.pairs))
-        go (inl e) =
-            let same = e ∙ ap (λ (z : Pair). z.content) front_there in
-            left_still t.disk left t.pairs can.ready.accepted can.ready.writable (subst (λ z. IsDevice t.disk (disk_with_blocks left t.disk) z z) (sym is)
-            (device_kept t (index - 1) ahead x o back is number (subst (IsAcceptedImage t.disk) is can.ready.accepted) (disk_with_blocks left t.disk) x.content refl (subst (λ y. IsPairWrittenOnDisk t (index - 1) y (disk_with_blocks left t.disk)) same h.written)))
-            (inl refl)
-        go (inr e) =
-            let written = subst (λ y. IsPairWrittenOnDisk t (index - 1) y (disk_with_blocks left t.disk)) e h.written in
-            left_after (record { follows = follows (disk_with_blocks left t.disk) written; writable = drop_writable t.disk (disk_with_blocks left t.disk) w x o q u (drop_on (disk_with_blocks left t.disk) written) }) (inr (ap (λ z. turn (tree_on_disk t.disk z)) (sym there)))
+    left_tree = left_dropped dropping (inl refl) (λ disk written. left_after (record { follows = follows disk written; writable = drop_writable t.disk disk w x o q u (drop_on disk written) }) (inr (ap (λ z. turn (tree_on_disk t.disk z)) (sym there))))
 
     pub whole_survives : (new : List DeviceCallEvent) → PowerLossLeavesSuchBlocksAfterCleanErases t.history new (IsLeftByStoppedPairDrop t (index - 1) zero_gstate)
         → SurvivesPowerLossInCallsSince t.disk t.history new (tree_on_disk t.disk t.pairs) (tree_without_named_entry t can.path can.name)

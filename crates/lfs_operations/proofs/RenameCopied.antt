@@ -3,11 +3,7 @@ use Rattle.std.proofs.Common.{ℕ, zero, suc, ◌≡◌, ◌<◌, List, [], ◌�
 use Rattle.std.proofs.lemmas.List.{length-map}
 use Rattle.std.specs.Prelude.{IsSome}
 use Rattle.std.specs.Option.{option_and_then, option_map}
-use Rattle.std.proofs.lemmas.Option.{same_Some}
-use Rattle.lfs_model.specs.Content.{RawPairContent, RawSlot, slot_if_name_and_struct_present, slots_if_names_and_structs_present, content_after_log_entries, empty_slot, kind_of_name_type, empty_raw_pair_content, slot_of_id, struct_of_type_and_bytes}
-use Rattle.lfs_model.specs.Log.{log_entries_of_block}
-use Rattle.lfs_model.specs.Slots.{PairContent, Slot}
-use Rattle.lfs_model.proofs.Completed.{complete_length, complete_parts, completed_parts}
+use Rattle.lfs_operations.proofs.Common.{same_Some, RawPairContent, RawSlot, slot_if_name_and_struct_present, slots_if_names_and_structs_present, content_after_log_entries, empty_slot, kind_of_name_type, empty_raw_pair_content, slot_of_id, struct_of_type_and_bytes, log_entries_of_block, PairContent, Slot, complete_length, complete_parts, completed_parts}
 use Rattle.lfs_tag.specs.ContentView.{attribute_view, content_view, name_or_struct_view, slot_view}
 use Rattle.lfs_tag.specs.declared.content.Content as code
 use Rattle.lfs_tag.specs.declared.content.NameOrStruct.{NameOrStruct}

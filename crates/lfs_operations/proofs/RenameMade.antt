@@ -2,25 +2,9 @@
 use Rattle.std.proofs.Common.{ℕ, ◌≡◌, ◌⊎◌, inl, inr, ◌<◌, ◌≤◌, zero, suc, true, List, [], ◌∷◌, ◌++◌, length, Option, Some, refl, sym, ap, ap₂, subst, ◌∙◌, arith, append_assoc, insert, remove, length-append, sum_by}
 use Rattle.std.specs.Prelude.{unwrap_or}
 use Rattle.std.specs.Option.{option_and_then}
-use Rattle.std.proofs.lemmas.List.Sums.{sum_by-append, sum_by-cons}
-use Rattle.lfs_model.specs.Changes.{PairContentChange, raw_pair_content_after_changes}
-use Rattle.lfs_model.specs.Content.{RawPairContent, RawSlot, slots_if_names_and_structs_present, pair_content_if_slots_complete, empty_raw_pair_content, raw_content_of_pair_at, slot_of_id}
-use Rattle.lfs_model.specs.Cut.{CanSplitSlotsIntoTwoPairs}
-use Rattle.lfs_model.specs.InDirectory.{IsPairOfDirectory, HasEntryOfNameAtId}
-use Rattle.lfs_model.specs.LoggedContent.{IsWellFormedRawSlot, AreWellFormedRawSlots}
-use Rattle.lfs_model.specs.Names.{Name, is_valid_name}
-use Rattle.lfs_model.specs.Slots.{PairContent, IsContentFittingPair, Slot, slot_size}
-use Rattle.lfs_model.specs.Thread.{Pair, pair_address_named_by_tail}
-use Rattle.lfs_model.specs.Profile.{IsEntryWithinWritableLimits}
-use Rattle.lfs_model.proofs.Completed.{complete_insert, complete_length, complete_remove, completed_from, completed_parts}
-use Rattle.lfs_model.proofs.Effects.{deletes, does_first}
-use Rattle.lfs_model.proofs.Halves.{content_cut, entry_small}
-use Rattle.lfs_model.proofs.Moves.{insert_here, remove_here}
-use Rattle.lfs_model.proofs.StoredChanges.{logged_changed}
+use Rattle.lfs_operations.proofs.Common.{sum_by-append, sum_by-cons, PairContentChange, raw_pair_content_after_changes, RawPairContent, RawSlot, slots_if_names_and_structs_present, pair_content_if_slots_complete, empty_raw_pair_content, raw_content_of_pair_at, slot_of_id, CanSplitSlotsIntoTwoPairs, IsPairOfDirectory, HasEntryOfNameAtId, IsWellFormedRawSlot, Name, is_valid_name, PairContent, IsContentFittingPair, Slot, slot_size, Pair, pair_address_named_by_tail, IsEntryWithinWritableLimits, complete_insert, complete_length, complete_remove, completed_from, completed_parts, deletes, does_first, content_cut, entry_small, insert_here, remove_here, logged_changed, pair_content_after_changes, KeptThread, complete_content_after_changes, thread_pair_at_index}
+use Rattle.lfs_model.specs.LoggedContent.{AreWellFormedRawSlots}
 use Rattle.lfs_model.specs.Changes as model
-use Rattle.lfs_pair.specs.Commit.{pair_content_after_changes}
-use Rattle.lfs_thread.specs.Kept.{KeptThread}
-use Rattle.lfs_thread.specs.Steps.{complete_content_after_changes, thread_pair_at_index}
 use Rattle.lfs_operations.specs.Changing.{CanChangeOrSplitPair}
 use Rattle.lfs_operations.specs.Ready.{IsRawPairContentWellFormed, IsImageReadyForChange}
 use Rattle.lfs_operations.specs.RenamingSlots.{NamelessSlot, nameless_slot_at, nameless_slot_of, slot_creation_changes}

@@ -1,20 +1,9 @@
 -- The tree after a rename within one pair onto a file, which stands behind the old slot or in front of it.
 use Rattle.std.proofs.Common.{ℕ, ◌≡◌, true, false, not, List, [], ◌∷◌, ◌++◌, length, Some, None, sym, ap, ◌∙◌, append_assoc, slice_get, remove, set}
-use Rattle.std.proofs.lemmas.List.Elements.{filter-append}
+use Rattle.lfs_operations.proofs.Common.{filter-append, Disk, Slot, is_superblock, same_pair, Pair, gstate_of_pairs, Path, branch_address_of_struct, IsPathToDirectory, entries_by_directory_in_thread, tree_after_rename, IsImageAfterTreeChange, Site, thread_at, begin_of, AllReached, IsStep, place_at, shown_before, shown_behind, entry_only, get_here, remove_here, directory_addresses_after_rename, site_shows, sibling_apart}
 use Rattle.std.proofs.Math.Seq.{set-append_seam}
-use Rattle.lfs_model.specs.Disk.{Disk}
-use Rattle.lfs_model.specs.Slots.{Slot, is_superblock, same_pair}
-use Rattle.lfs_model.specs.Thread.{Pair, gstate_of_pairs}
-use Rattle.lfs_model.specs.Tree.{Path, branch_address_of_struct}
-use Rattle.lfs_model.specs.Shown.{IsPathToDirectory, entries_by_directory_in_thread}
-use Rattle.lfs_model.specs.TreeEdits.{tree_after_rename}
 use Rattle.lfs_model.specs.InDirectory.{slots_without_superblock}
-use Rattle.lfs_model.proofs.Changes.{IsImageAfterTreeChange}
-use Rattle.lfs_model.proofs.Sites.{Site, thread_at, begin_of}
-use Rattle.lfs_model.proofs.Moves.{AllReached, IsStep, place_at, shown_before, shown_behind, entry_only, get_here, remove_here}
-use Rattle.lfs_model.proofs.Renames.{entry_moves_onto, directory_addresses_after_rename}
-use Rattle.lfs_model.proofs.Indexes.{site_shows}
-use Rattle.lfs_model.proofs.RenameSteps.{sibling_apart}
+use Rattle.lfs_model.proofs.Renames.{entry_moves_onto}
 
 both_entries : (xs ys : List Slot) → slots_without_superblock (xs ++ ys) ≡ slots_without_superblock xs ++ slots_without_superblock ys
 both_entries xs ys = filter-append (λ (s : Slot). not (is_superblock s)) xs ys

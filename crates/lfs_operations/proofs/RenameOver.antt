@@ -1,50 +1,13 @@
 -- An entry that takes the place of a directory while the sync bit turns, as a step of the thread.
-use Rattle.std.proofs.Common.{ℕ, ◌≡◌, ◌⊎◌, inl, inr, ◌+◌, ◌≤◌, true, false, List, [], ◌∷◌, ◌++◌, length, Some, refl, sym, ap, ap₂, subst, ◌∙◌, arith, append_assoc, append-nil, length-append, sum_by, insert}
+use Rattle.std.proofs.Common.{subst₂, ℕ, ◌≡◌, ◌⊎◌, inl, inr, ◌+◌, ◌≤◌, true, List, [], ◌∷◌, ◌++◌, length, Some, refl, sym, ap, ap₂, subst, ◌∙◌, arith, append_assoc, length-append, sum_by, insert}
 use Rattle.std.specs.Option.{option_and_then}
-use Rattle.std.proofs.lemmas.List.Elements.{recursion_from_All}
-use Rattle.std.proofs.lemmas.List.Sums.{sum_by-append, sum_by-cons}
-use Rattle.std.proofs.lemmas.Option.{same_Some}
-use Rattle.lfs_model.specs.TreeEdits.{tree_after_rename}
-use Rattle.lfs_model.specs.Blocks.{Blocks}
-use Rattle.lfs_model.specs.Changes.{PairContentChange, Delete, PutMove, raw_pair_content_after_changes}
-use Rattle.lfs_model.specs.Content.{RawPairContent, RawSlot, slots_if_names_and_structs_present, pair_content_if_slots_complete, raw_content_of_pair_at}
-use Rattle.lfs_model.specs.Disk.{Disk}
-use Rattle.lfs_model.specs.History.{DeviceCallEvent}
-use Rattle.lfs_model.specs.InDirectory.{HasEntryOfNameAtId}
-use Rattle.lfs_model.specs.LoggedContent.{AreMoveStateFieldsWithinBitWidths}
-use Rattle.lfs_model.specs.Names.{Name, is_valid_name}
-use Rattle.lfs_model.specs.PowerLoss.{HasTreeBeforeOrAfterOperation as IsLeftOf, SurvivesPowerLossInCallsSince, disk_with_blocks}
-use Rattle.lfs_model.specs.SlotEdits.{pair_with_slots}
-use Rattle.lfs_model.specs.Slots.{PairContent, IsContentFittingPair, Gstate, Slot, gstate_xor, zero_gstate, same_pair, slot_size, struct_len}
-use Rattle.lfs_model.specs.Thread.{Pair, gstate_of_pairs, pair_address_named_by_tail, starts_with_superblock}
-use Rattle.lfs_model.specs.View.{IsAcceptedImage, IsFileOrDirectoryEntry}
-use Rattle.lfs_model.specs.Profile.{IsWritableImage}
-use Rattle.lfs_model.specs.Shown.{IsPathToDirectory, all_slots_not_moved, tree_on_disk}
-use Rattle.lfs_model.proofs.Became.{fits_same}
-use Rattle.lfs_model.proofs.Changes.{IsImageAfterTreeChange, SameFiles}
-use Rattle.lfs_model.proofs.Committed.{no_move_from}
-use Rattle.lfs_model.proofs.Completed.{complete_insert, complete_length, completed_from, completed_parts}
-use Rattle.lfs_model.proofs.Effects.{does_first, puts_move}
-use Rattle.lfs_model.proofs.Files.{HasSameFileBlocksOfStructOnDisks}
-use Rattle.lfs_model.proofs.Global.{HasNoMove, gstate_comm, sync_bit_delta, turned_is}
-use Rattle.lfs_model.proofs.Histories.{IsTrueAfterAnyPowerLossSince-weaker}
-use Rattle.lfs_model.proofs.Moves.{IsStep, insert_here}
-use Rattle.lfs_model.proofs.OneCommit.{some_filled}
-use Rattle.lfs_model.proofs.Renames.{directory_addresses_after_rename}
-use Rattle.lfs_model.proofs.Searches.{is_site, number_is, site}
-use Rattle.lfs_model.proofs.Sites.{Site, begin_of, thread_at}
-use Rattle.lfs_model.proofs.Splices.{IsDevice, stays_shape}
-use Rattle.lfs_model.proofs.StepsTaken.{IsWritableImageAfterTreeChange, commit_taken}
-use Rattle.lfs_model.proofs.Unchanged.{HasFirst}
-use Rattle.lfs_thread.specs.Device.{PowerLossLeavesSuchBlocksAfterCleanErases}
-use Rattle.lfs_thread.specs.Kept.{KeptThread}
-use Rattle.lfs_thread.specs.Steps.{CanChangePair, IsPairChanged, PowerLossLeavesPairOldOrChanged, IsCommitRefused, IsPairWrittenOnDisk, SlotsBeginWithSuperblock, complete_content_after_changes, thread_pair_at_index, thread_pairs_with_content_replaced_at_index}
+use Rattle.lfs_operations.proofs.Common.{sum_by-append, sum_by-cons, same_Some, tree_after_rename, PairContentChange, Delete, PutMove, raw_pair_content_after_changes, RawPairContent, RawSlot, slots_if_names_and_structs_present, pair_content_if_slots_complete, raw_content_of_pair_at, Disk, DeviceCallEvent, HasEntryOfNameAtId, AreMoveStateFieldsWithinBitWidths, Name, is_valid_name, SurvivesPowerLossInCallsSince, PairContent, IsContentFittingPair, Gstate, Slot, gstate_xor, slot_size, Pair, gstate_of_pairs, pair_address_named_by_tail, IsFileOrDirectoryEntry, tree_on_disk, IsImageAfterTreeChange, complete_insert, complete_length, completed_from, completed_parts, does_first, puts_move, gstate_comm, sync_bit_delta, turned_is, IsTrueAfterAnyPowerLossSince-weaker, IsStep, insert_here, some_filled, directory_addresses_after_rename, site, Site, thread_at, IsWritableImageAfterTreeChange, PowerLossLeavesSuchBlocksAfterCleanErases, KeptThread, CanChangePair, IsPairChanged, PowerLossLeavesPairOldOrChanged, IsCommitRefused, IsPairWrittenOnDisk, complete_content_after_changes, thread_pair_at_index}
+use Rattle.lfs_model.specs.Slots.{struct_len}
 use Rattle.lfs_operations.specs.Editing.{CanEditEntryOfPair}
 use Rattle.lfs_operations.specs.Renaming.{id_after_slot_removal, tree_with_renamed_entry}
 use Rattle.lfs_operations.specs.RenamingOver.{CanReplaceDirectoryInPair, IsDirectoryReplacedInPair, replace_directory_in_pair_changes}
 use Rattle.lfs_operations.specs.RenamingSlots.{HasSlotOfId, NamelessSlot, nameless_slot_of, slot_creation_changes}
 use Rattle.lfs_operations.proofs.Held.{CompletesTo, below, here, raw_there}
-use Rattle.lfs_operations.proofs.Placing.{device, left_after, left_still}
 use Rattle.lfs_operations.proofs.RenameMade as made
 use Rattle.lfs_operations.proofs.RenameMade.{ComesAhead, ComesBehind, Leaves, behind_or_ahead}
 use Rattle.lfs_operations.proofs.RenameOnto.{onto_ahead_follows, onto_behind_follows}
@@ -52,7 +15,9 @@ use Rattle.lfs_operations.proofs.RenamePlaced.{IsPlaced, blocks_now, carries_ahe
 use Rattle.lfs_operations.proofs.RenameSlots.{IsOf, name_length, slot_comes, slot_of_parts, with_slot}
 use Rattle.lfs_operations.proofs.RenameTarget as both
 use Rattle.lfs_operations.proofs.RenameTarget.{follower}
-use Rattle.lfs_operations.proofs.Threads.{one_now, placed_one, sync_turned}
+use Rattle.lfs_operations.proofs.MovTurned.{ChangedOne, changed_one, content_with}
+use Rattle.lfs_operations.proofs.TurnedSync.{IsSyncTurn, left_turned, pair_turned, state_turned, taken_turned, turn_of}
+use Rattle.lfs_operations.proofs.PairAt.{HasPairAt, pair_at}
 
 -- ---- a delta that turns the sync bit
 
@@ -107,14 +72,8 @@ module _ (t : KeptThread) (index id place : ℕ) (name : Name) (rename : CanRepl
   abbrev w : Site
   w = site t.disk t.pairs can.path can.at can.ready.accepted can.leads can.first index p can.stands.rest can.stands.place can.begins
 
-  there : t.pairs ≡ thread_at w (p ∷ [])
-  there = both.there t index id place name can rename.target rename.differs
-
-  leads_there : IsPathToDirectory (thread_at w (p ∷ [])) can.path can.at
-  leads_there = both.leads_there t index id place name can rename.target rename.differs
-
-  same_there : same_pair (begin_of w (p ∷ [])) can.at ≡ true
-  same_there = both.same_there t index id place name can rename.target rename.differs
+  stand : HasPairAt t index can.path can.at w p
+  stand = pair_at t can.ready can.path can.at can.leads can.first index p can.stands.rest can.stands.place can.begins
 
   fits_here : IsContentFittingPair t.disk.block_size t.disk.page p.content
   fits_here = both.fits_here t index id place name can rename.target rename.differs
@@ -148,7 +107,7 @@ module _ (t : KeptThread) (index id place : ℕ) (name : Name) (rename : CanRepl
   IsLeftOver = both.IsLeftOver t index id place name can rename.target rename.differs
 
   abbrev pub over_content : List Slot → List Slot → PairContent
-  over_content x y = record { slots = x ++ with_name u name ∷ y; tail = p.content.tail; move = delta }
+  over_content x y = content_with p (x ++ with_name u name ∷ y) (gstate_xor p.content.move sync_bit_delta)
 
   module _ (x y : List Slot) (over : IsLeftOver x y) where
     fits_two : IsContentFittingPair t.disk.block_size t.disk.page (record p.content { slots = x ++ y })
@@ -179,7 +138,7 @@ module _ (t : KeptThread) (index id place : ℕ) (name : Name) (rename : CanRepl
         ap (λ o. option_and_then pair_content_if_slots_complete (option_and_then (λ (z : RawPairContent). raw_pair_content_after_changes z (replace_directory_in_pair_changes t index id place name)) o)) c.is
         ∙ ap (λ o. option_and_then pair_content_if_slots_complete o) changed_now
         ∙ completed_from raw_now (x ++ with_name u name ∷ y) (are_again turned_raw (Delete id ∷ Delete (id_after_slot_removal id place) ∷ []) x y left_two (id_after_slot_removal id place) over.1 fits_two.count name named raw_here u is_raw_slot)
-        ∙ ap₂ (λ a m. Some (record { slots = x ++ with_name u name ∷ y; tail = a; move = m })) (left_two.tail ∙ sym parts.tail) left_two.move
+        ∙ ap₂ (λ a m. Some (record { slots = x ++ with_name u name ∷ y; tail = a; move = m })) (left_two.tail ∙ sym parts.tail) (left_two.move ∙ ap (λ (z : Pair). gstate_xor z.content.move sync_bit_delta) (here t can.ready can.first index p can.stands.rest can.stands.place))
 
     pub over_fits : IsContentFittingPair t.disk.block_size t.disk.page (over_content x y)
     over_fits =
@@ -241,9 +200,9 @@ module _ (t : KeptThread) (index id place : ℕ) (name : Name) (rename : CanRepl
       r = r2;
       placed = record {
         ready = can.ready;
-        there = there;
-        place = number_is t.disk t.pairs can.path can.at can.ready.accepted can.leads can.first index p can.stands.rest can.stands.place can.begins;
-        site = is_site t.disk t.pairs can.path can.at can.ready.accepted can.leads can.first index p can.stands.rest can.stands.place can.begins;
+        there = stand.there;
+        place = stand.number;
+        site = stand.site;
         content = over_content (s.left ++ d.passed) r2;
         made = over_made (s.left ++ d.passed) r2 over_behind;
         tail = refl;
@@ -259,7 +218,7 @@ module _ (t : KeptThread) (index id place : ℕ) (name : Name) (rename : CanRepl
       is_content = refl;
       follows = λ disk q k sync. other_names disk q (onto_behind_follows t.disk disk w p q [] [] s.left u d.passed target r2
           (subst (λ (n : Name). IsStep t.disk disk w p [] q [] [] [] s.left (u ∷ (d.passed ++ target ∷ [])) (d.passed ++ with_name u n ∷ []) r2) (sym rename.target.stands.named) k)
-          (s.held ∙ ap (λ z. s.left ++ u ∷ z) (d.back ∙ sym (append_assoc d.passed (target ∷ []) r2))) s.entry rename.target.stands.entry (λ e. absurd (let z = sym sync ∙ e in cc)) differs can.path can.at leads_there same_there);
+          (s.held ∙ ap (λ z. s.left ++ u ∷ z) (d.back ∙ sym (append_assoc d.passed (target ∷ []) r2))) s.entry rename.target.stands.entry (λ e. absurd (let z = sym sync ∙ e in cc)) differs can.path can.at stand.leads stand.begin);
     }
 
   module _ (passed : List Slot) (front : s.left ≡ l2 ++ target ∷ passed) (back : r2 ≡ passed ++ u ∷ s.right) where
@@ -277,9 +236,9 @@ module _ (t : KeptThread) (index id place : ℕ) (name : Name) (rename : CanRepl
       r = s.right;
       placed = record {
         ready = can.ready;
-        there = there;
-        place = number_is t.disk t.pairs can.path can.at can.ready.accepted can.leads can.first index p can.stands.rest can.stands.place can.begins;
-        site = is_site t.disk t.pairs can.path can.at can.ready.accepted can.leads can.first index p can.stands.rest can.stands.place can.begins;
+        there = stand.there;
+        place = stand.number;
+        site = stand.site;
         content = over_content l2 (passed ++ s.right);
         made = over_made l2 (passed ++ s.right) over_ahead;
         tail = refl;
@@ -295,7 +254,7 @@ module _ (t : KeptThread) (index id place : ℕ) (name : Name) (rename : CanRepl
       is_content = refl;
       follows = λ disk q k sync. other_names disk q (onto_ahead_follows t.disk disk w p q [] [] l2 u passed target s.right
           (subst (λ (n : Name). IsStep t.disk disk w p [] q [] [] [] l2 (target ∷ (passed ++ u ∷ [])) (with_name u n ∷ passed) s.right) (sym rename.target.stands.named) k)
-          (target_held ∙ ap (λ z. l2 ++ target ∷ z) (back ∙ sym (append_assoc passed (u ∷ []) s.right))) s.entry rename.target.stands.entry (λ e. absurd (let z = sym sync ∙ e in cc)) differs can.path can.at leads_there same_there);
+          (target_held ∙ ap (λ z. l2 ++ target ∷ z) (back ∙ sym (append_assoc passed (u ∷ []) s.right))) s.entry rename.target.stands.entry (λ e. absurd (let z = sym sync ∙ e in cc)) differs can.path can.at stand.leads stand.begin);
     }
 
   pub has_over : HasOver
@@ -313,79 +272,36 @@ module _ (t : KeptThread) (index id place : ℕ) (name : Name) (rename : CanRepl
     abbrev k : IsPlaced t index (replace_directory_in_pair_changes t index id place name) w p h.l h.olds h.news h.r (target ∷ []) u (with_name u name)
     k = h.placed
 
-    abbrev q : Pair
-    q = record { at = p.at; content = over_content h.x h.y }
+    pub turning : IsSyncTurn t index (replace_directory_in_pair_changes t index id place name) w p (h.x ++ with_name u name ∷ h.y) h.l h.olds h.news h.r
+    turning = record {
+      ready = can.ready;
+      there = stand.there;
+      place = k.place;
+      site = k.site;
+      made = over_made h.x h.y h.over;
+      fits = over_fits h.x h.y h.over;
+      was = k.was;
+      now = kept;
+      front = λ e. k.front;
+      fit = fit_now t index (replace_directory_in_pair_changes t index id place name) w p h.l h.olds h.news h.r (target ∷ []) u (with_name u name) k;
+      filled = λ e none. some_filled h.x h.y (with_name u name) (kept ∙ none);
+      splice = λ disk geometry files. record {
+        front = λ e. k.front;
+        entries = entries_now t index (replace_directory_in_pair_changes t index id place name) w p h.l h.olds h.news h.r (target ∷ []) u (with_name u name) k;
+        lists = lists_now t index (replace_directory_in_pair_changes t index id place name) w p h.l h.olds h.news h.r (target ∷ []) u (with_name u name) k disk geometry files;
+        blocks = λ b. let e = blocks_now t index (replace_directory_in_pair_changes t index id place name) w p h.l h.olds h.news h.r (target ∷ []) u (with_name u name) k disk geometry files b in omega arith;
+      };
+    }
+      where
+        kept : h.x ++ with_name u name ∷ h.y ≡ h.l ++ (h.news ++ h.r)
+        kept = ap (λ (z : PairContent). z.slots) (sym h.is_content) ∙ k.now
 
-    kept : q.content.slots ≡ h.l ++ (h.news ++ h.r)
-    kept = ap (λ (z : PairContent). z.slots) (sym h.is_content) ∙ k.now
+    pub over_follows : (disk : Disk) → IsStep t.disk disk w p [] (pair_turned turning) [] [] [] h.l h.olds h.news h.r
+        → IsImageAfterTreeChange t.disk (thread_at w (p ∷ [])) disk (thread_at w (pair_turned turning ∷ [])) (tree_after_rename (can.path ++ can.name ∷ []) (can.path ++ name ∷ [])) (directory_addresses_after_rename (can.path ++ can.name ∷ []) (can.path ++ name ∷ []))
+    over_follows disk step = h.follows disk (pair_turned turning) step (ap (λ (g : Gstate). g.sync) (state_turned turning))
 
-    accepted : IsAcceptedImage t.disk (thread_at w (p ∷ []))
-    accepted = subst (IsAcceptedImage t.disk) there can.ready.accepted
-
-    settled : gstate_of_pairs (thread_at w (p ∷ [])) ≡ zero_gstate
-    settled = ap gstate_of_pairs (sym there) ∙ can.ready.settled
-
-    pair_there : thread_pair_at_index t index ≡ p
-    pair_there = here t can.ready can.first index p can.stands.rest can.stands.place
-
-    pub gstate_now : gstate_of_pairs (thread_at w (q ∷ [])) ≡ sync_bit_delta
-    gstate_now = sync_turned w p q (ap (λ (z : Pair). gstate_xor z.content.move sync_bit_delta) pair_there) settled
-
-    no_move_now : HasNoMove (gstate_of_pairs (thread_at w (q ∷ [])))
-    no_move_now = subst HasNoMove (sym gstate_now) (record { kind = refl; id = refl; pair = refl })
-
-    still_first : (olds news r l : List Slot) → starts_with_superblock (olds ++ r) ≡ false → SlotsBeginWithSuperblock (l ++ (olds ++ r)) → SlotsBeginWithSuperblock (l ++ (news ++ r))
-    still_first olds news r [] f e = absurd (let z = sym f ∙ e.0 in cc)
-    still_first olds news r (z ∷ l) f e = e
-
-    still_starts : (olds news r l : List Slot) → starts_with_superblock (olds ++ r) ≡ false → starts_with_superblock (l ++ (olds ++ r)) ≡ true → starts_with_superblock (l ++ (news ++ r)) ≡ true
-    still_starts olds news r [] f e = absurd (let z = sym f ∙ e in cc)
-    still_starts olds news r (z ∷ l) f e = e
-
-    still_has : HasFirst p.content.slots → SlotsBeginWithSuperblock q.content.slots
-    still_has first = subst SlotsBeginWithSuperblock (sym kept) (still_first h.olds h.news h.r h.l k.front (subst SlotsBeginWithSuperblock k.was (first.kind, first.name)))
-
-    device_of : (disk : Disk) → IsPairWrittenOnDisk t index (over_content h.x h.y) disk → IsDevice t.disk disk (thread_at w (p ∷ [])) (thread_at w (q ∷ []))
-    device_of disk is = device t.disk disk w p q [] [] accepted accepted.owned_once (placed_one t index w p there k.place disk (over_content h.x h.y) still_has is)
-
-    pub step : (disk : Disk) → IsPairWrittenOnDisk t index (over_content h.x h.y) disk → IsStep t.disk disk w p [] q [] [] [] h.l h.olds h.news h.r
-    step disk is =
-        let on = device_of disk is in
-        let files = subst (λ z. SameFiles t.disk disk (all_slots_not_moved z)) (sym there) (recursion_from_All (λ (x : Slot). HasSameFileBlocksOfStructOnDisks t.disk disk x.struct) (all_slots_not_moved (thread_at w (p ∷ []))) on.files) in
-        record {
-          accepted = accepted;
-          site = k.site;
-          no_move = no_move_from (thread_at w (p ∷ [])) settled;
-          still_none = no_move_now;
-          device = on;
-          free = record { distinct = accepted.owned_once; in_range = λ j d e. absurd (omega arith) };
-          shape = stays_shape p q refl refl (λ e. ap starts_with_superblock kept ∙ still_starts h.olds h.news h.r h.l k.front (sym (ap starts_with_superblock k.was) ∙ e));
-          was = append-nil p.content.slots ∙ k.was;
-          is = append-nil q.content.slots ∙ kept;
-          splice = record {
-            front = λ e. k.front;
-            entries = entries_now t index (replace_directory_in_pair_changes t index id place name) w p h.l h.olds h.news h.r (target ∷ []) u (with_name u name) k;
-            lists = lists_now t index (replace_directory_in_pair_changes t index id place name) w p h.l h.olds h.news h.r (target ∷ []) u (with_name u name) k disk on.geometry files;
-            blocks = λ b. let e = blocks_now t index (replace_directory_in_pair_changes t index id place name) w p h.l h.olds h.news h.r (target ∷ []) u (with_name u name) k disk on.geometry files b in omega arith;
-          };
-        }
-
-    pub taken : (disk : Disk) → IsPairWrittenOnDisk t index (over_content h.x h.y) disk
-        → IsWritableImageAfterTreeChange t.disk (thread_at w (p ∷ [])) disk (thread_at w (q ∷ [])) (tree_after_rename (can.path ++ can.name ∷ []) (can.path ++ name ∷ [])) (directory_addresses_after_rename (can.path ++ can.name ∷ []) (can.path ++ name ∷ []))
-    taken disk is = commit_taken t.disk w p q [] h.l h.olds h.news h.r
-        (record {
-          writable = subst (IsWritableImage t.disk) there can.ready.writable;
-          was = k.was;
-          is = append-nil q.content.slots ∙ kept;
-          became = (refl, fits_same t.disk q (pair_with_slots (h.l ++ (h.news ++ h.r)) p) (sym kept) (over_fits h.x h.y h.over));
-          fit = fit_now t index (replace_directory_in_pair_changes t index id place name) w p h.l h.olds h.news h.r (target ∷ []) u (with_name u name) k;
-          filled = λ e none. some_filled h.x h.y (with_name u name) (kept ∙ none);
-        })
-        disk [] [] (tree_after_rename (can.path ++ can.name ∷ []) (can.path ++ name ∷ [])) (directory_addresses_after_rename (can.path ++ can.name ∷ []) (can.path ++ name ∷ [])) (step disk is)
-        (h.follows disk q (step disk is) (ap (λ (g : Gstate). g.sync) gstate_now))
-
-    pub pair_now : thread_pairs_with_content_replaced_at_index t index (over_content h.x h.y) ≡ thread_at w (q ∷ [])
-    pair_now = one_now t index w p there k.place (over_content h.x h.y)
+    pub over_changed : (new : KeptThread) → IsPairChanged t index (replace_directory_in_pair_changes t index id place name) new → ChangedOne t index w p (h.x ++ with_name u name ∷ h.y) (gstate_xor p.content.move sync_bit_delta) new
+    over_changed new is = changed_one t index (replace_directory_in_pair_changes t index id place name) w p (h.x ++ with_name u name ∷ h.y) (gstate_xor p.content.move sync_bit_delta) (turn_of turning) new is
 
   pub can_over : CanChangePair t index (replace_directory_in_pair_changes t index id place name)
   can_over = record {
@@ -403,39 +319,22 @@ module _ (t : KeptThread) (index id place : ℕ) (name : Name) (rename : CanRepl
 
   pub renamed_over : (new : KeptThread) → IsPairChanged t index (replace_directory_in_pair_changes t index id place name) new → IsDirectoryReplacedInPair t new index id place rename.can.path rename.can.name name
   renamed_over new is =
-      let e = same_made is.content is.made in
-      let written = subst (λ z. IsPairWrittenOnDisk t index z new.disk) e is.written in
-      let pairs = is.pairs ∙ ap (thread_pairs_with_content_replaced_at_index t index) e in
-      let now = pairs ∙ pair_now has_over in
-      let done = taken has_over new.disk written in
+      let x = over_changed has_over new is in
       record {
         changed = is;
         content = over_content has_over.x has_over.y;
-        written = written;
-        pairs = pairs;
+        written = subst (λ z. IsPairWrittenOnDisk t index z new.disk) (same_made is.content is.made) is.written;
+        pairs = x.is;
         thread = is.thread;
         map = is.map;
-        gstate = ap gstate_of_pairs now ∙ gstate_now has_over;
-        taken = subst (λ z. IsWritableImageAfterTreeChange t.disk t.pairs new.disk z (tree_after_rename (can.path ++ can.name ∷ []) (can.path ++ name ∷ [])) (directory_addresses_after_rename (can.path ++ can.name ∷ []) (can.path ++ name ∷ []))) (sym now)
-            (subst (λ z. IsWritableImageAfterTreeChange t.disk z new.disk (thread_at w (q has_over ∷ [])) (tree_after_rename (can.path ++ can.name ∷ []) (can.path ++ name ∷ [])) (directory_addresses_after_rename (can.path ++ can.name ∷ []) (can.path ++ name ∷ []))) (sym there) done);
+        gstate = ap gstate_of_pairs x.pairs ∙ state_turned (turning has_over);
+        taken = subst₂ (λ y z. IsWritableImageAfterTreeChange t.disk y new.disk z (tree_after_rename (can.path ++ can.name ∷ []) (can.path ++ name ∷ [])) (directory_addresses_after_rename (can.path ++ can.name ∷ []) (can.path ++ name ∷ []))) (sym stand.there) (sym x.pairs)
+            (taken_turned (turning has_over) (tree_after_rename (can.path ++ can.name ∷ []) (can.path ++ name ∷ [])) (directory_addresses_after_rename (can.path ++ can.name ∷ []) (can.path ++ name ∷ [])) (over_follows has_over) new.disk x.turned);
       }
 
   -- ---- at a stop
 
-  left_over : (left : Blocks) → PowerLossLeavesPairOldOrChanged t index (replace_directory_in_pair_changes t index id place name) left → IsLeftOf (disk_with_blocks left t.disk) (tree_on_disk t.disk t.pairs) (tree_with_renamed_entry t can.path can.name name)
-  left_over left is = go is.is
-    where
-      go : (is.content ≡ (thread_pair_at_index t index).content) ⊎ ((complete_content_after_changes t index (replace_directory_in_pair_changes t index id place name) ≡ Some is.content) × IsContentFittingPair t.disk.block_size t.disk.page is.content)
-          → IsLeftOf (disk_with_blocks left t.disk) (tree_on_disk t.disk t.pairs) (tree_with_renamed_entry t can.path can.name name)
-      go (inl e) =
-          let same = e ∙ ap (λ (z : Pair). z.content) (here t can.ready can.first index p can.stands.rest can.stands.place) in
-          let ok = subst (IsAcceptedImage t.disk) there can.ready.accepted in
-          left_still t.disk left (thread_at w (p ∷ [])) ok (subst (IsWritableImage t.disk) there can.ready.writable)
-          (device t.disk (disk_with_blocks left t.disk) w p p [] [] ok ok.owned_once (placed_one t index w p there has_over.placed.place (disk_with_blocks left t.disk) p.content (λ z. (z.kind, z.name)) (subst (λ z. IsPairWrittenOnDisk t index z (disk_with_blocks left t.disk)) same is.written)))
-          (inl (ap (tree_on_disk t.disk) (sym there)))
-      go (inr m) = left_after (taken has_over (disk_with_blocks left t.disk) (subst (λ z. IsPairWrittenOnDisk t index z (disk_with_blocks left t.disk)) (same_made is.content m.0) is.written))
-          (inr (ap (λ z. tree_after_rename (can.path ++ can.name ∷ []) (can.path ++ name ∷ []) (tree_on_disk t.disk z)) (sym there)))
-
   pub over_survives : (new : List DeviceCallEvent) → PowerLossLeavesSuchBlocksAfterCleanErases t.history new (PowerLossLeavesPairOldOrChanged t index (replace_directory_in_pair_changes t index id place name))
       → SurvivesPowerLossInCallsSince t.disk t.history new (tree_on_disk t.disk t.pairs) (tree_with_renamed_entry t rename.can.path rename.can.name name)
-  over_survives new stops clean = IsTrueAfterAnyPowerLossSince-weaker left_over (stops clean)
+  over_survives new stops clean = IsTrueAfterAnyPowerLossSince-weaker
+      (left_turned (turning has_over) (tree_after_rename (can.path ++ can.name ∷ []) (can.path ++ name ∷ [])) (directory_addresses_after_rename (can.path ++ can.name ∷ []) (can.path ++ name ∷ [])) (over_follows has_over)) (stops clean)

@@ -1,24 +1,9 @@
 -- Slots that are replaced by the same ones, of which one has another name, or for fewer.
 use Rattle.std.proofs.Common.{ℕ, ◌≡◌, ◌+◌, false, List, [], ◌∷◌, ◌++◌, length, Some, sym, ap, subst, ◌∙◌, arith, take, drop}
 use Rattle.std.specs.Prelude.{All}
-use Rattle.std.proofs.lemmas.List.{take-append-drop}
-use Rattle.std.proofs.lemmas.List.Elements.{recursion_from_All}
+use Rattle.lfs_operations.proofs.Common.{take-append-drop, recursion_from_All, PairContentChange, Disk, SameGeometry, PairContent, Slot, is_superblock, Pair, gstate_of_pairs, starts_with_superblock, pair_count_before_root, IsEntryWithinWritableLimits, IsSlotWithinWritableLimits, HasSuperblockIfAnySlot, IsAcceptedImage, IsFileOrDirectoryEntry, IsSkipListIfCtzStruct, all_slots_not_moved, skip_list_blocks_of_struct, SameFiles, slots_files, no_move_from, Each, occurrence_count_of_number, count_append, each_append, each_left, each_pieces, each_right, each_weaker, HasSameFileBlocksOfStructOnDisks, is_list_same, Site, IsSite, dirs_at, thread_at, count_files, file_blocks_of_slots, unmoved_in, KeptThread, complete_content_after_changes}
 use Rattle.lfs_model.specs.declared.limits.AcceptedVersions.{AcceptedVersions}
-use Rattle.lfs_model.specs.Changes.{PairContentChange}
-use Rattle.lfs_model.specs.Disk.{Disk, SameGeometry}
-use Rattle.lfs_model.specs.Slots.{PairContent, Slot, is_superblock}
-use Rattle.lfs_model.specs.Thread.{Pair, gstate_of_pairs, starts_with_superblock, pair_count_before_root}
-use Rattle.lfs_model.specs.Profile.{IsEntryWithinWritableLimits, IsSlotWithinWritableLimits}
-use Rattle.lfs_model.specs.View.{HasSuperblockIfAnySlot, IsAcceptedImage, IsFileOrDirectoryEntry, IsSkipListIfCtzStruct}
-use Rattle.lfs_model.specs.Shown.{all_slots_not_moved, skip_list_blocks_of_struct}
-use Rattle.lfs_model.proofs.Changes.{SameFiles, slots_files}
-use Rattle.lfs_model.proofs.Committed.{no_move_from}
-use Rattle.lfs_model.proofs.Counts.{Each, occurrence_count_of_number, count_append, each_append, each_both, each_left, each_pieces, each_right, each_weaker}
-use Rattle.lfs_model.proofs.Files.{HasSameFileBlocksOfStructOnDisks, is_list_same}
-use Rattle.lfs_model.proofs.Sites.{Site, IsSite, dirs_at, thread_at}
-use Rattle.lfs_model.proofs.Splices.{count_files, file_blocks_of_slots, unmoved_in}
-use Rattle.lfs_thread.specs.Kept.{KeptThread}
-use Rattle.lfs_thread.specs.Steps.{complete_content_after_changes}
+use Rattle.lfs_model.proofs.Counts.{each_both}
 use Rattle.lfs_operations.specs.Ready.{IsImageReadyForChange}
 use Rattle.lfs_operations.proofs.Splicing.{IsSplicing}
 

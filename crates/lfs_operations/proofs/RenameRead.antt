@@ -3,20 +3,7 @@ use Rattle.std.proofs.Common.{ℕ, ◌≡◌, ◌⊎◌, inl, inr, false, List, 
 use Rattle.std.specs.Prelude.{IfErr}
 use Rattle.lfs_device.specs.declared.error.Error.{Error}
 use Rattle.lfs_device.specs.declared.error.Error.TheVariants.{Io, NoMemory, NoSpace}
-use Rattle.lfs_model.specs.Blocks.{Blocks}
-use Rattle.lfs_model.specs.Changes.{PairContentChange}
-use Rattle.lfs_model.specs.Disk.{Disk}
-use Rattle.lfs_model.specs.History.{DeviceCallEvent, AreCallsSinceOnlyReads, fault_count_of_history}
-use Rattle.lfs_model.specs.InDirectory.{IsPairOfDirectory}
-use Rattle.lfs_model.specs.PowerLoss.{SurvivesPowerLossInCallsSince, disk_with_blocks}
-use Rattle.lfs_model.specs.Slots.{PairContent}
-use Rattle.lfs_model.specs.Thread.{Pair}
-use Rattle.lfs_model.specs.Tree.{Tree}
-use Rattle.lfs_model.specs.Shown.{tree_on_disk}
-use Rattle.lfs_model.proofs.Histories.{IsTrueAfterAnyPowerLossSince-weaker, IsTrueAfterAnyPowerLossSince-trans, IsTrueAfterAnyPowerLossSince-read_count_of_history, IsTrueOfEachCallSince-behind, AreBlocksLeftByPowerLossInCall-read}
-use Rattle.lfs_thread.specs.Device.{PowerLossLeavesSuchBlocksAfterCleanErases}
-use Rattle.lfs_thread.specs.Kept.{KeptThread, ThreadView}
-use Rattle.lfs_thread.specs.Steps.{IoMeantFaultNoMemoryWroteNothing, IsPairChanged, IsThreadOnlyRead, IsPairWrittenOnDisk, thread_pair_at_index}
+use Rattle.lfs_operations.proofs.Common.{Blocks, PairContentChange, Disk, DeviceCallEvent, AreCallsSinceOnlyReads, fault_count_of_history, IsPairOfDirectory, SurvivesPowerLossInCallsSince, disk_with_blocks, PairContent, Pair, Tree, tree_on_disk, IsTrueAfterAnyPowerLossSince-weaker, IsTrueAfterAnyPowerLossSince-trans, IsTrueAfterAnyPowerLossSince-read_count_of_history, IsTrueOfEachCallSince-behind, AreBlocksLeftByPowerLossInCall-read, PowerLossLeavesSuchBlocksAfterCleanErases, KeptThread, ThreadView, IoMeantFaultNoMemoryWroteNothing, IsPairChanged, IsThreadOnlyRead, IsPairWrittenOnDisk, thread_pair_at_index}
 use Rattle.lfs_operations.specs.Changing.{CanChangeOrSplitPair, IsLeftByStoppedChangeOrSplit, IsPairChangedOrSplit, IsChangedContentTooLarge, ReportsErrorsOfChangeOrSplit, ReportsFaultsChangingNothingAtNoSpace, WritesPairAndTwoFreeBlocks}
 use Rattle.lfs_operations.specs.Ready.{IsImageReadyForChange}
 use Rattle.lfs_operations.specs.Renaming.{ReportsErrorsOfReadThenChangeOrSplit}

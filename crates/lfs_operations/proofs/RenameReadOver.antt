@@ -3,16 +3,7 @@ use Rattle.std.proofs.Common.{ℕ, ◌≡◌, ◌⊎◌, inl, inr, false, Some, 
 use Rattle.std.specs.Prelude.{IfErr, is_err}
 use Rattle.lfs_device.specs.declared.error.Error.{Error}
 use Rattle.lfs_device.specs.declared.error.Error.TheVariants.{Io, NoMemory}
-use Rattle.lfs_model.specs.Blocks.{Blocks}
-use Rattle.lfs_model.specs.Changes.{PairContentChange}
-use Rattle.lfs_model.specs.History.{DeviceCallEvent, AreCallsSinceOnlyReads, fault_count_of_history}
-use Rattle.lfs_model.specs.InDirectory.{IsPairOfDirectory}
-use Rattle.lfs_model.specs.PowerLoss.{disk_with_blocks}
-use Rattle.lfs_model.specs.Thread.{Pair}
-use Rattle.lfs_model.proofs.Histories.{ArePossibleBlocksAfterPowerLossInCall-read, IsTrueOfEachCallSince-behind, IsTrueAfterAnyPowerLossSince-read_count_of_history, IsTrueAfterAnyPowerLossSince-trans, IsTrueAfterAnyPowerLossSince-weaker, AreCallsSinceOnlyReads-trans, AreBytesStillUnprogrammed-read_count_of_history, AreBytesStillUnprogrammed-trans, AreBlocksLeftByPowerLossInCall-read}
-use Rattle.lfs_thread.specs.Device.{PowerLossLeavesSuchBlocksAfterCleanErases}
-use Rattle.lfs_thread.specs.Kept.{KeptThread, ThreadView}
-use Rattle.lfs_thread.specs.Steps.{CanChangePair, IoMeantFaultNoMemoryWroteNothing, IsPairChanged, PowerLossLeavesPairOldOrChanged, IsThreadOnlyRead, IsCommitRefused, ThreadChangesOnlyTheseBlocks, thread_pair_at_index}
+use Rattle.lfs_operations.proofs.Common.{Blocks, PairContentChange, DeviceCallEvent, AreCallsSinceOnlyReads, fault_count_of_history, IsPairOfDirectory, disk_with_blocks, Pair, ArePossibleBlocksAfterPowerLossInCall-read, IsTrueOfEachCallSince-behind, IsTrueAfterAnyPowerLossSince-read_count_of_history, IsTrueAfterAnyPowerLossSince-trans, IsTrueAfterAnyPowerLossSince-weaker, AreCallsSinceOnlyReads-trans, AreBytesStillUnprogrammed-read_count_of_history, AreBytesStillUnprogrammed-trans, AreBlocksLeftByPowerLossInCall-read, PowerLossLeavesSuchBlocksAfterCleanErases, KeptThread, ThreadView, CanChangePair, IoMeantFaultNoMemoryWroteNothing, IsPairChanged, PowerLossLeavesPairOldOrChanged, IsThreadOnlyRead, IsCommitRefused, ThreadChangesOnlyTheseBlocks, thread_pair_at_index}
 use Rattle.lfs_operations.specs.Ready.{IsImageReadyForChange}
 use Rattle.lfs_operations.specs.RenamingOver.{ReportsErrorsOfReadThenCommit}
 use Rattle.lfs_operations.proofs.Held.{here, holds}
@@ -75,7 +66,7 @@ change_stops_after_read t mid new index changes bs only ready first p rest place
 -- ---- what it tells
 
 -- an error passed on
-reported_again : {X Y : Type 0} (t new : KeptThread) (e : Error) (result : Result X Error) (given : Result Y Error) → result ≡ Err e → given ≡ Err e → IoMeantFaultNoMemoryWroteNothing t new result → IoMeantFaultNoMemoryWroteNothing t new given
+pub reported_again : {X Y : Type 0} (t new : KeptThread) (e : Error) (result : Result X Error) (given : Result Y Error) → result ≡ Err e → given ≡ Err e → IoMeantFaultNoMemoryWroteNothing t new result → IoMeantFaultNoMemoryWroteNothing t new given
 reported_again t new e result given is same reported = record {
   errors = subst (λ r. IfErr r (λ x. (x ≡ Io) ⊎ (x ≡ NoMemory))) (sym same) (subst (λ r. IfErr r (λ x. (x ≡ Io) ⊎ (x ≡ NoMemory))) is reported.errors);
   fault = λ io. reported.fault (is ∙ ap Err (same_err e Io given same io));

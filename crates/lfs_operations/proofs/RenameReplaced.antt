@@ -1,28 +1,7 @@
 -- A rename within one pair onto a file.
 use Rattle.std.proofs.Common.{ℕ, ◌≡◌, ◌≤◌, ◌+◌, ◌⊎◌, inl, inr, true, List, [], ◌∷◌, ◌++◌, refl, sym, ap, subst, ◌∙◌, append_assoc, append-nil}
-use Rattle.lfs_model.specs.TreeEdits.{tree_after_rename}
-use Rattle.lfs_model.specs.Changes.{Delete}
-use Rattle.lfs_model.specs.Content.{raw_content_of_pair_at}
-use Rattle.lfs_model.specs.Disk.{Disk}
-use Rattle.lfs_model.specs.History.{DeviceCallEvent}
-use Rattle.lfs_model.specs.InDirectory.{HasEntryOfNameAtId}
-use Rattle.lfs_model.specs.Names.{Name, is_valid_name}
-use Rattle.lfs_model.specs.PowerLoss.{SurvivesPowerLossInCallsSince}
-use Rattle.lfs_model.specs.Slots.{IsContentFittingPair, Slot, same_pair}
-use Rattle.lfs_model.specs.Thread.{Pair, blocks_of_pairs}
-use Rattle.lfs_model.specs.View.{IsFileOrDirectoryEntry}
-use Rattle.lfs_model.specs.Shown.{IsPathToDirectory, skip_list_blocks_of_struct, tree_on_disk, used_blocks}
-use Rattle.lfs_model.proofs.Changes.{IsImageAfterTreeChange}
-use Rattle.lfs_model.proofs.Committed.{IsCommit, commit_step, recovered_from}
-use Rattle.lfs_model.proofs.Counts.{occurrence_count_of_number}
-use Rattle.lfs_model.proofs.OneCommit.{some_filled}
+use Rattle.lfs_operations.proofs.Common.{tree_after_rename, Delete, raw_content_of_pair_at, Disk, DeviceCallEvent, HasEntryOfNameAtId, Name, is_valid_name, SurvivesPowerLossInCallsSince, IsContentFittingPair, Slot, Pair, blocks_of_pairs, IsFileOrDirectoryEntry, skip_list_blocks_of_struct, tree_on_disk, used_blocks, IsImageAfterTreeChange, IsCommit, commit_step, recovered_from, occurrence_count_of_number, some_filled, directory_addresses_after_rename, site, Site, thread_at, PowerLossLeavesSuchBlocksAfterCleanErases, KeptThread, thread_pair_at_index}
 use Rattle.lfs_model.proofs.RenameOntoFile.{onto_file_ahead_completed, onto_file_behind_completed}
-use Rattle.lfs_model.proofs.Renames.{directory_addresses_after_rename}
-use Rattle.lfs_model.proofs.Searches.{is_site, number_is, site}
-use Rattle.lfs_model.proofs.Sites.{Site, begin_of, thread_at}
-use Rattle.lfs_thread.specs.Device.{PowerLossLeavesSuchBlocksAfterCleanErases}
-use Rattle.lfs_thread.specs.Kept.{KeptThread}
-use Rattle.lfs_thread.specs.Steps.{thread_pair_at_index}
 use Rattle.lfs_operations.specs.Changing.{CanChangeOrSplitPair, IsLeftByStoppedChangeOrSplit, IsPairChangedOrSplit}
 use Rattle.lfs_operations.specs.Editing.{CanEditEntryOfPair}
 use Rattle.lfs_operations.specs.Ready.{ShowsTreeReadyOnceMapIsUpdated}
@@ -36,6 +15,7 @@ use Rattle.lfs_operations.proofs.RenamePlaced.{carries_ahead, carries_behind, wi
 use Rattle.lfs_operations.proofs.RenameStepped.{IsMoving, moved_becomes, moved_completed, moved_once, moved_survives}
 use Rattle.lfs_operations.proofs.RenameTarget as both
 use Rattle.lfs_operations.proofs.RenameTarget.{Follower, follower}
+use Rattle.lfs_operations.proofs.PairAt.{HasPairAt, pair_at}
 
 module _ (t : KeptThread) (index id place : ℕ) (name : Name) (rename : CanRenameOntoFileInPair t index id place name) where
   abbrev can : CanEditEntryOfPair t index id
@@ -68,14 +48,8 @@ module _ (t : KeptThread) (index id place : ℕ) (name : Name) (rename : CanRena
   abbrev w : Site
   w = site t.disk t.pairs can.path can.at can.ready.accepted can.leads can.first index p can.stands.rest can.stands.place can.begins
 
-  there : t.pairs ≡ thread_at w (p ∷ [])
-  there = both.there t index id place name can rename.target rename.differs
-
-  leads_there : IsPathToDirectory (thread_at w (p ∷ [])) can.path can.at
-  leads_there = both.leads_there t index id place name can rename.target rename.differs
-
-  same_there : same_pair (begin_of w (p ∷ [])) can.at ≡ true
-  same_there = both.same_there t index id place name can rename.target rename.differs
+  stand : HasPairAt t index can.path can.at w p
+  stand = pair_at t can.ready can.path can.at can.leads can.first index p can.stands.rest can.stands.place can.begins
 
   abbrev c : CompletesTo (raw_content_of_pair_at t.disk (thread_pair_at_index t index).at) p.content
   c = raw_there t can.ready can.first index p can.stands.rest can.stands.place
@@ -131,9 +105,9 @@ module _ (t : KeptThread) (index id place : ℕ) (name : Name) (rename : CanRena
       moved = with_name u name;
       placed = record {
         ready = can.ready;
-        there = there;
-        place = number_is t.disk t.pairs can.path can.at can.ready.accepted can.leads can.first index p can.stands.rest can.stands.place can.begins;
-        site = is_site t.disk t.pairs can.path can.at can.ready.accepted can.leads can.first index p can.stands.rest can.stands.place can.begins;
+        there = stand.there;
+        place = stand.number;
+        site = stand.site;
         content = record { slots = (s.left ++ d.passed) ++ with_name u name ∷ r2; tail = p.content.tail; move = p.content.move };
         made = made.made t index id can.ready can.first p can.stands.rest can.stands.place can.logged can.name s (Delete id ∷ Delete (id_after_slot_removal id place) ∷ []) (s.left ++ d.passed) r2
             (left_over (s.left ++ d.passed) r2 over_behind) (fits_over (s.left ++ d.passed) r2 over_behind) (id_after_slot_removal id place) over_behind.1 name named rename.fits;
@@ -154,9 +128,9 @@ module _ (t : KeptThread) (index id place : ℕ) (name : Name) (rename : CanRena
           (subst (λ (n : Name). IsImageAfterTreeChange t.disk (thread_at w (p ∷ [])) disk (thread_at w (q ∷ more)) (tree_after_rename (can.path ++ u.name ∷ []) (can.path ++ n ∷ [])) (directory_addresses_after_rename (can.path ++ u.name ∷ []) (can.path ++ n ∷ []))) rename.target.stands.named
           (onto_behind_follows t.disk disk w p q more (blocks_of_pairs more) s.left u d.passed target r2
           (commit_step t.disk disk w p q more [] s.left (u ∷ (d.passed ++ target ∷ [])) (d.passed ++ with_name u target.name ∷ []) r2 (under_its_name disk q more k)) k.was s.entry rename.target.stands.entry
-          (λ e. (rename.file, (recovered_from t.disk (thread_at w (p ∷ [])) k.accepted k.settled).reached)) differs can.path can.at leads_there same_there));
+          (λ e. (rename.file, (recovered_from t.disk (thread_at w (p ∷ [])) k.accepted k.settled).reached)) differs can.path can.at stand.leads stand.begin));
       completed = λ disk q more k z given to_given tree given_is to_is.
-          onto_file_behind_completed t.disk disk w p q more s.left u d.passed target r2 (under_its_name disk q more k) s.entry rename.target.stands.entry rename.file differs can.path can.at leads_there same_there z given to_given tree
+          onto_file_behind_completed t.disk disk w p q more s.left u d.passed target r2 (under_its_name disk q more k) s.entry rename.target.stands.entry rename.file differs can.path can.at stand.leads stand.begin z given to_given tree
           (given_is ∙ ap (λ n. can.path ++ n ∷ []) (sym s.named)) (to_is ∙ ap (λ n. can.path ++ n ∷ []) (sym rename.target.stands.named));
     }
 
@@ -182,9 +156,9 @@ module _ (t : KeptThread) (index id place : ℕ) (name : Name) (rename : CanRena
       moved = with_name u name;
       placed = record {
         ready = can.ready;
-        there = there;
-        place = number_is t.disk t.pairs can.path can.at can.ready.accepted can.leads can.first index p can.stands.rest can.stands.place can.begins;
-        site = is_site t.disk t.pairs can.path can.at can.ready.accepted can.leads can.first index p can.stands.rest can.stands.place can.begins;
+        there = stand.there;
+        place = stand.number;
+        site = stand.site;
         content = record { slots = l2 ++ with_name u name ∷ (passed ++ s.right); tail = p.content.tail; move = p.content.move };
         made = made.made t index id can.ready can.first p can.stands.rest can.stands.place can.logged can.name s (Delete id ∷ Delete (id_after_slot_removal id place) ∷ []) l2 (passed ++ s.right)
             (left_over l2 (passed ++ s.right) over_ahead) (fits_over l2 (passed ++ s.right) over_ahead) (id_after_slot_removal id place) over_ahead.1 name named rename.fits;
@@ -205,9 +179,9 @@ module _ (t : KeptThread) (index id place : ℕ) (name : Name) (rename : CanRena
           (subst (λ (n : Name). IsImageAfterTreeChange t.disk (thread_at w (p ∷ [])) disk (thread_at w (q ∷ more)) (tree_after_rename (can.path ++ u.name ∷ []) (can.path ++ n ∷ [])) (directory_addresses_after_rename (can.path ++ u.name ∷ []) (can.path ++ n ∷ []))) rename.target.stands.named
           (onto_ahead_follows t.disk disk w p q more (blocks_of_pairs more) l2 u passed target s.right
           (commit_step t.disk disk w p q more [] l2 (target ∷ (passed ++ u ∷ [])) (with_name u target.name ∷ passed) s.right (under_that_name disk q more k)) k.was s.entry rename.target.stands.entry
-          (λ e. (rename.file, (recovered_from t.disk (thread_at w (p ∷ [])) k.accepted k.settled).reached)) differs can.path can.at leads_there same_there));
+          (λ e. (rename.file, (recovered_from t.disk (thread_at w (p ∷ [])) k.accepted k.settled).reached)) differs can.path can.at stand.leads stand.begin));
       completed = λ disk q more k z given to_given tree given_is to_is.
-          onto_file_ahead_completed t.disk disk w p q more l2 u passed target s.right (under_that_name disk q more k) s.entry rename.target.stands.entry rename.file differs can.path can.at leads_there same_there z given to_given tree
+          onto_file_ahead_completed t.disk disk w p q more l2 u passed target s.right (under_that_name disk q more k) s.entry rename.target.stands.entry rename.file differs can.path can.at stand.leads stand.begin z given to_given tree
           (given_is ∙ ap (λ n. can.path ++ n ∷ []) (sym s.named)) (to_is ∙ ap (λ n. can.path ++ n ∷ []) (sym rename.target.stands.named));
     }
 

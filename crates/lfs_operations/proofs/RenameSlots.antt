@@ -2,19 +2,14 @@
 use Rattle.std.proofs.Common.{ℕ, ◌≡◌, ◌⊎◌, inl, inr, ◌+◌, ◌<◌, ◌≤◌, ◌==◌, Bool, true, false, cond, take, drop, List, [], ◌∷◌, ◌++◌, length, Option, Some, None, refl, sym, ap, ap₂, subst, ◌∙◌, arith, append_assoc, append-nil, eqb-true}
 use Rattle.std.specs.Prelude.{nat_lt, nat_le, ◌&&◌, is_some}
 use Rattle.std.specs.List.{insert}
-use Rattle.std.proofs.lemmas.Bool.{le-ltb, ne_eqb, leb-true}
+use Rattle.lfs_operations.proofs.Common.{le-ltb, ne_eqb, same_Some, PutAttribute, raw_pair_content_after_changes, RawSlot, RawPairContent, slot_if_name_and_struct_present, raw_slots_with_function_applied_at_id, empty_slot, kind_of_name_type, attributes_with_attribute, slot_of_id, struct_of_type_and_bytes, file_name_type, directory_name_type, IsWellFormedRawSlot, IsNameOrStructTheFormatAllows, Name, is_valid_name, Attributes, Slot, File, Directory, Superblock, is_superblock, Each, each_append, each_weaker, creates_with_struct, does_first, puts_attribute, type_of_tag-tag_of_type_id_and_length, length_of_tag-tag_of_type_id_and_length}
+use Rattle.std.proofs.lemmas.Bool.{leb-true}
 use Rattle.std.proofs.lemmas.List.{length-take-le}
-use Rattle.std.proofs.lemmas.Option.{same_Some}
 use Rattle.std.proofs.Math.Seq.{get_or-append_seam}
-use Rattle.lfs_model.specs.Changes.{PutAttribute, raw_pair_content_after_changes}
-use Rattle.lfs_model.specs.Content.{RawSlot, RawPairContent, slot_if_name_and_struct_present, raw_slots_with_function_applied_at_id, empty_slot, kind_of_name_type, attributes_with_attribute, slot_of_id, struct_of_type_and_bytes}
-use Rattle.lfs_model.specs.EntryTypes.{file_name_type, directory_name_type}
-use Rattle.lfs_model.specs.LoggedContent.{AreAttributesInTypeOrder, IsWellFormedRawSlot, IsNameOrStructTheFormatAllows, IsNameOrStructTheFormatAllowsIfSome}
-use Rattle.lfs_model.specs.Names.{Name, is_valid_name, is_path_component}
-use Rattle.lfs_model.specs.Slots.{Attributes, Slot, File, Directory, Superblock, is_superblock, is_superblock_kind}
-use Rattle.lfs_model.proofs.Counts.{Each, each_append, each_weaker}
-use Rattle.lfs_model.proofs.Effects.{changed_inserted, creates_with_struct, does_first, puts_attribute, with_attribute_put}
-use Rattle.lfs_model.proofs.WrittenAnew.{type_of_tag-tag_of_type_id_and_length, length_of_tag-tag_of_type_id_and_length}
+use Rattle.lfs_model.specs.LoggedContent.{AreAttributesInTypeOrder, IsNameOrStructTheFormatAllowsIfSome}
+use Rattle.lfs_model.specs.Names.{is_path_component}
+use Rattle.lfs_model.specs.Slots.{is_superblock_kind}
+use Rattle.lfs_model.proofs.Effects.{changed_inserted, with_attribute_put}
 use Rattle.lfs_operations.specs.RenamingSlots.{NamelessSlot, put_attribute_changes, nameless_slot_of, slot_creation_changes}
 
 -- ---- attributes, one after another

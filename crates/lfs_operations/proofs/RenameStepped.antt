@@ -1,28 +1,9 @@
 -- A rename within one pair as a step of the thread, whatever is replaced by whatever.
 use Rattle.std.proofs.Common.{ℕ, ◌≡◌, ◌≢◌, ◌≤◌, ◌+◌, List, [], ◌∷◌, ◌++◌, sym, ap, subst, ◌∙◌, arith}
-use Rattle.lfs_model.specs.TreeEdits.{tree_after_rename}
-use Rattle.lfs_model.specs.Changes.{PairContentChange}
-use Rattle.lfs_model.specs.Disk.{Disk}
-use Rattle.lfs_model.specs.History.{DeviceCallEvent}
-use Rattle.lfs_model.specs.Names.{Name}
+use Rattle.lfs_operations.proofs.Common.{tree_after_rename, PairContentChange, Disk, DeviceCallEvent, Name, SurvivesPowerLossInCallsSince, Session, Slot, path_of_bytes_or_root, Pair, Path, tree_on_disk, used_blocks, IsImageAfterTreeChange, IsCommit, IsImageAfterCompletedOperation, directory_addresses_after_rename, Site, thread_at, file_blocks_of_slots, PowerLossLeavesSuchBlocksAfterCleanErases, KeptThread, occurrence_count_of_number}
 use Rattle.lfs_model.specs.Operations as ops
-use Rattle.lfs_model.specs.PowerLoss.{SurvivesPowerLossInCallsSince}
-use Rattle.lfs_model.specs.Session.{Session}
-use Rattle.lfs_model.specs.Slots.{Slot}
-use Rattle.lfs_model.specs.Refusals.{path_of_bytes_or_root}
-use Rattle.lfs_model.specs.Thread.{Pair}
-use Rattle.lfs_model.specs.Tree.{Path}
-use Rattle.lfs_model.specs.Shown.{tree_on_disk, used_blocks}
-use Rattle.lfs_model.proofs.Changes.{IsImageAfterTreeChange}
-use Rattle.lfs_model.proofs.Committed.{IsCommit, IsImageAfterCompletedOperation}
-use Rattle.lfs_model.proofs.Renames.{directory_addresses_after_rename}
-use Rattle.lfs_model.proofs.Sites.{Site, thread_at}
-use Rattle.lfs_model.proofs.Splices.{file_blocks_of_slots}
-use Rattle.lfs_thread.specs.Device.{PowerLossLeavesSuchBlocksAfterCleanErases}
-use Rattle.lfs_thread.specs.Kept.{KeptThread}
 use Rattle.lfs_operations.specs.Changing.{IsLeftByStoppedChangeOrSplit, IsPairChangedOrSplit}
 use Rattle.lfs_operations.specs.Ready.{ShowsTreeReadyOnceMapIsUpdated}
-use Rattle.lfs_model.proofs.Counts.{occurrence_count_of_number}
 use Rattle.lfs_operations.specs.Renaming.{CompletesRenameInDirectory, tree_with_renamed_entry}
 use Rattle.lfs_operations.proofs.RenamePlaced.{IsPlaced, splicing}
 use Rattle.lfs_operations.proofs.Splicing.{IsSplicing}

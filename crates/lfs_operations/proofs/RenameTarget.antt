@@ -1,18 +1,7 @@
 -- An entry that takes the name of another one of its pair and directory: where both stand, and the slots that are left without them.
 use Rattle.std.proofs.Common.{ℕ, ◌≡◌, true, List, [], ◌∷◌, ◌++◌, length, Some, sym, ap, subst, ◌∙◌, arith, append_assoc, length-append, refl}
 use Rattle.std.specs.Prelude.{◌≢◌}
-use Rattle.lfs_model.specs.Changes.{Delete}
-use Rattle.lfs_model.specs.Content.{RawPairContent, slots_if_names_and_structs_present}
-use Rattle.lfs_model.specs.InDirectory.{IsPlaceOfNameInDirectory, HasEntryOfNameAtId}
-use Rattle.lfs_model.specs.Names.{Name, is_valid_name}
-use Rattle.lfs_model.specs.Slots.{IsContentFittingPair, Slot, same_pair}
-use Rattle.lfs_model.specs.Thread.{Pair}
-use Rattle.lfs_model.specs.View.{IsFileOrDirectoryEntry}
-use Rattle.lfs_model.specs.Shown.{IsPathToDirectory}
-use Rattle.lfs_model.proofs.Counts.{Each, each_right}
-use Rattle.lfs_model.proofs.Searches.{same, site, thread_is}
-use Rattle.lfs_model.proofs.Sites.{Site, begin_of, thread_at}
-use Rattle.lfs_thread.specs.Kept.{KeptThread}
+use Rattle.lfs_operations.proofs.Common.{Delete, RawPairContent, slots_if_names_and_structs_present, IsPlaceOfNameInDirectory, HasEntryOfNameAtId, Name, is_valid_name, IsContentFittingPair, Slot, Pair, IsFileOrDirectoryEntry, Each, each_right, KeptThread}
 use Rattle.lfs_operations.specs.Editing.{CanEditEntryOfPair}
 use Rattle.lfs_operations.specs.Renaming.{id_after_slot_removal}
 use Rattle.lfs_operations.specs.RenamingSlots.{HasSlotOfId}
@@ -48,9 +37,6 @@ module _ (t : KeptThread) (index id place : ℕ) (name : Name) (can : CanEditEnt
   abbrev target : Slot
   target = to.stands.slot
 
-  abbrev w : Site
-  w = site t.disk t.pairs can.path can.at can.ready.accepted can.leads can.first index p can.stands.rest can.stands.place can.begins
-
   pub has_slot : HasSlotOfId t index id
   has_slot =
       let e = ap (λ (z : Pair). length z.content.slots) (here t can.ready can.first index p can.stands.rest can.stands.place) in
@@ -65,15 +51,6 @@ module _ (t : KeptThread) (index id place : ℕ) (name : Name) (can : CanEditEnt
 
   pub target_held : can.stands.pair.content.slots ≡ to.stands.left ++ to.stands.slot ∷ to.stands.right
   target_held = ap (λ (z : Pair). z.content.slots) pair_same ∙ to.stands.held
-
-  pub there : t.pairs ≡ thread_at w (p ∷ [])
-  there = thread_is t.disk t.pairs can.path can.at can.ready.accepted can.leads can.first index p can.stands.rest can.stands.place can.begins
-
-  pub leads_there : IsPathToDirectory (thread_at w (p ∷ [])) can.path can.at
-  leads_there = subst (λ z. IsPathToDirectory z can.path can.at) there can.leads
-
-  pub same_there : same_pair (begin_of w (p ∷ [])) can.at ≡ true
-  same_there = same t.disk t.pairs can.path can.at can.ready.accepted can.leads can.first index p can.stands.rest can.stands.place can.begins
 
   pub fits_here : IsContentFittingPair t.disk.block_size t.disk.page can.stands.pair.content
   fits_here = fits_there t can.ready can.first index p can.stands.rest can.stands.place

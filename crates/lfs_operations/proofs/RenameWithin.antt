@@ -1,29 +1,7 @@
 -- A rename within one pair to a name that is new.
-use Rattle.std.proofs.Common.{ℕ, ◌≡◌, ◌⊎◌, inl, inr, ◌-◌, ◌<◌, ◌≤◌, true, cond, List, [], ◌∷◌, ◌++◌, length, Some, refl, sym, ap, subst, ◌∙◌, arith, append_assoc, append-nil, length-append}
-use Rattle.std.proofs.lemmas.Bool.{le-ltb, lt-ltb}
-use Rattle.lfs_model.specs.TreeEdits.{tree_after_rename}
-use Rattle.lfs_model.specs.Changes.{Delete}
-use Rattle.lfs_model.specs.Content.{raw_content_of_pair_at}
-use Rattle.lfs_model.specs.History.{DeviceCallEvent}
-use Rattle.lfs_model.specs.InDirectory.{IsPlaceWhereNameBelongs, HasEntryOfNameAtId}
-use Rattle.lfs_model.specs.Names.{Name}
-use Rattle.lfs_model.specs.PowerLoss.{SurvivesPowerLossInCallsSince}
-use Rattle.lfs_model.specs.Slots.{IsContentFittingPair, Slot, same_pair}
-use Rattle.lfs_model.specs.Thread.{Pair, starts_with_superblock}
-use Rattle.lfs_model.specs.View.{IsFileOrDirectoryEntry}
-use Rattle.lfs_model.specs.Shown.{IsPathToDirectory, entries_by_directory_in_thread, tree_on_disk}
-use Rattle.lfs_model.proofs.Changes.{IsImageAfterTreeChange}
-use Rattle.lfs_model.proofs.Committed.{no_move_from}
-use Rattle.lfs_model.proofs.Moves.{place_at}
-use Rattle.lfs_model.proofs.Names.{IsPlace}
-use Rattle.lfs_model.proofs.OneCommit.{some_filled}
+use Rattle.std.proofs.Common.{ℕ, ◌≡◌, ◌⊎◌, inl, inr, ◌-◌, ◌<◌, ◌≤◌, cond, List, [], ◌∷◌, ◌++◌, length, Some, refl, sym, ap, subst, ◌∙◌, arith, append_assoc, append-nil, length-append}
+use Rattle.lfs_operations.proofs.Common.{le-ltb, lt-ltb, tree_after_rename, Delete, raw_content_of_pair_at, DeviceCallEvent, IsPlaceWhereNameBelongs, HasEntryOfNameAtId, Name, SurvivesPowerLossInCallsSince, IsContentFittingPair, Slot, Pair, starts_with_superblock, IsFileOrDirectoryEntry, entries_by_directory_in_thread, tree_on_disk, IsImageAfterTreeChange, no_move_from, place_at, IsPlace, some_filled, directory_addresses_after_rename, place_of_belongs, site, Site, thread_at, PowerLossLeavesSuchBlocksAfterCleanErases, KeptThread, thread_pair_at_index}
 use Rattle.lfs_model.proofs.RenameSteps.{ahead_follows, behind_follows, renamed_ahead_completed, renamed_behind_completed}
-use Rattle.lfs_model.proofs.Renames.{directory_addresses_after_rename}
-use Rattle.lfs_model.proofs.Searches.{is_site, number_is, place_of_belongs, same, site, thread_is}
-use Rattle.lfs_model.proofs.Sites.{Site, begin_of, thread_at}
-use Rattle.lfs_thread.specs.Device.{PowerLossLeavesSuchBlocksAfterCleanErases}
-use Rattle.lfs_thread.specs.Kept.{KeptThread}
-use Rattle.lfs_thread.specs.Steps.{thread_pair_at_index}
 use Rattle.lfs_operations.specs.Changing.{CanChangeOrSplitPair, IsLeftByStoppedChangeOrSplit, IsPairChangedOrSplit}
 use Rattle.lfs_operations.specs.Editing.{CanEditEntryOfPair}
 use Rattle.lfs_operations.specs.Renaming.{CanRenameWithinPair, IsEntryRenamedInPair, id_after_slot_removal, rename_within_pair_changes, tree_with_renamed_entry}
@@ -34,6 +12,7 @@ use Rattle.lfs_operations.proofs.RenameMade.{ComesAhead, ComesBehind, Leaves, be
 use Rattle.lfs_operations.proofs.RenamePlaced.{MovesSlots, carries_ahead, carries_behind, with_name}
 use Rattle.lfs_operations.proofs.RenameStepped.{IsMoving, moved_becomes, moved_completed, moved_survives}
 use Rattle.lfs_operations.proofs.Stepped.{ready_again}
+use Rattle.lfs_operations.proofs.PairAt.{HasPairAt, pair_at}
 
 pub place_behind_is : (id place : ℕ) → id < place → id_after_slot_removal id place ≡ place - 1
 place_behind_is id place less = ap (λ b. cond b (place - 1) place) (lt-ltb id place less)
@@ -80,17 +59,11 @@ module _ (t : KeptThread) (index id place : ℕ) (name : Name) (rename : CanRena
   abbrev w : Site
   w = site t.disk t.pairs can.path can.at can.ready.accepted can.leads can.first index p (b.later ++ b.rest) b.place can.begins
 
-  there : t.pairs ≡ thread_at w (p ∷ [])
-  there = thread_is t.disk t.pairs can.path can.at can.ready.accepted can.leads can.first index p (b.later ++ b.rest) b.place can.begins
-
-  leads_there : IsPathToDirectory (thread_at w (p ∷ [])) can.path can.at
-  leads_there = subst (λ z. IsPathToDirectory z can.path can.at) there can.leads
-
-  same_there : same_pair (begin_of w (p ∷ [])) can.at ≡ true
-  same_there = same t.disk t.pairs can.path can.at can.ready.accepted can.leads can.first index p (b.later ++ b.rest) b.place can.begins
+  stand : HasPairAt t index can.path can.at w p
+  stand = pair_at t can.ready can.path can.at can.leads can.first index p (b.later ++ b.rest) b.place can.begins
 
   place_there : IsPlace t.disk.order (entries_by_directory_in_thread (thread_at w (p ∷ [])) can.at) (place_at w b.left) name
-  place_there = subst (λ z. IsPlace t.disk.order (entries_by_directory_in_thread z can.at) (place_at w b.left) name) there
+  place_there = subst (λ z. IsPlace t.disk.order (entries_by_directory_in_thread z can.at) (place_at w b.left) name) stand.there
       (place_of_belongs t.disk t.pairs can.path can.at can.ready.accepted can.leads can.first index place name (no_move_from t.pairs can.ready.settled) b can.begins)
 
   fits_here : IsContentFittingPair t.disk.block_size t.disk.page p.content
@@ -149,9 +122,9 @@ module _ (t : KeptThread) (index id place : ℕ) (name : Name) (rename : CanRena
       moved = with_name u name;
       placed = record {
         ready = can.ready;
-        there = there;
-        place = number_is t.disk t.pairs can.path can.at can.ready.accepted can.leads can.first index p (b.later ++ b.rest) b.place can.begins;
-        site = is_site t.disk t.pairs can.path can.at can.ready.accepted can.leads can.first index p (b.later ++ b.rest) b.place can.begins;
+        there = stand.there;
+        place = stand.number;
+        site = stand.site;
         content = record { slots = (s.left ++ d.passed) ++ with_name u name ∷ b.right; tail = p.content.tail; move = p.content.move };
         made = made.made t index id can.ready can.first p (b.later ++ b.rest) b.place can.logged can.name s (Delete id ∷ []) x b.right (left_over x b.right over_behind) (fits_over x b.right over_behind)
             (id_after_slot_removal id place) over_behind.1 name rename.is_name rename.fits;
@@ -169,9 +142,9 @@ module _ (t : KeptThread) (index id place : ℕ) (name : Name) (rename : CanRena
       filled = λ e. some_filled (s.left ++ d.passed) b.right (with_name u name)
           (append_assoc s.left d.passed (with_name u name ∷ b.right) ∙ ap (λ z. s.left ++ z) (sym (append_assoc d.passed (with_name u name ∷ []) b.right)) ∙ e);
       follows = λ disk q more k. subst (λ (n : Name). IsImageAfterTreeChange t.disk (thread_at w (p ∷ [])) disk (thread_at w (q ∷ more)) (tree_after_rename (can.path ++ n ∷ []) (can.path ++ name ∷ [])) (directory_addresses_after_rename (can.path ++ n ∷ []) (can.path ++ name ∷ []))) s.named
-          (behind_follows t.disk disk w p q more s.left u d.passed b.right name k s.entry can.path can.at leads_there same_there place_now);
+          (behind_follows t.disk disk w p q more s.left u d.passed b.right name k s.entry can.path can.at stand.leads stand.begin place_now);
       completed = λ disk q more k z given to_given tree given_is to_is.
-          renamed_behind_completed t.disk disk w p q more s.left u d.passed b.right name k s.entry can.path can.at leads_there same_there place_now z given to_given tree
+          renamed_behind_completed t.disk disk w p q more s.left u d.passed b.right name k s.entry can.path can.at stand.leads stand.begin place_now z given to_given tree
           (given_is ∙ ap (λ n. can.path ++ n ∷ []) (sym s.named)) to_is;
     }
       where
@@ -204,9 +177,9 @@ module _ (t : KeptThread) (index id place : ℕ) (name : Name) (rename : CanRena
       moved = with_name u name;
       placed = record {
         ready = can.ready;
-        there = there;
-        place = number_is t.disk t.pairs can.path can.at can.ready.accepted can.leads can.first index p (b.later ++ b.rest) b.place can.begins;
-        site = is_site t.disk t.pairs can.path can.at can.ready.accepted can.leads can.first index p (b.later ++ b.rest) b.place can.begins;
+        there = stand.there;
+        place = stand.number;
+        site = stand.site;
         content = record { slots = b.left ++ with_name u name ∷ (d.passed ++ s.right); tail = p.content.tail; move = p.content.move };
         made = made.made t index id can.ready can.first p (b.later ++ b.rest) b.place can.logged can.name s (Delete id ∷ []) b.left (d.passed ++ s.right) (left_over b.left (d.passed ++ s.right) over_ahead)
             (fits_over b.left (d.passed ++ s.right) over_ahead) (id_after_slot_removal id place) over_ahead.1 name rename.is_name rename.fits;
@@ -223,9 +196,9 @@ module _ (t : KeptThread) (index id place : ℕ) (name : Name) (rename : CanRena
       move = refl;
       filled = some_filled b.left (d.passed ++ s.right) (with_name u name);
       follows = λ disk q more k. subst (λ (n : Name). IsImageAfterTreeChange t.disk (thread_at w (p ∷ [])) disk (thread_at w (q ∷ more)) (tree_after_rename (can.path ++ n ∷ []) (can.path ++ name ∷ [])) (directory_addresses_after_rename (can.path ++ n ∷ []) (can.path ++ name ∷ []))) s.named
-          (ahead_follows t.disk disk w p q more b.left u d.passed s.right name k s.entry can.path can.at leads_there same_there place_there);
+          (ahead_follows t.disk disk w p q more b.left u d.passed s.right name k s.entry can.path can.at stand.leads stand.begin place_there);
       completed = λ disk q more k z given to_given tree given_is to_is.
-          renamed_ahead_completed t.disk disk w p q more b.left u d.passed s.right name k s.entry can.path can.at leads_there same_there place_there z given to_given tree
+          renamed_ahead_completed t.disk disk w p q more b.left u d.passed s.right name k s.entry can.path can.at stand.leads stand.begin place_there z given to_given tree
           (given_is ∙ ap (λ n. can.path ++ n ∷ []) (sym s.named)) to_is;
     }
 

@@ -2,35 +2,12 @@
 use Rattle.std.proofs.Common.{nat_eq, ℕ, ◌≡◌, ◌+◌, ◌<◌, ◌≤◌, true, false, List, [], ◌∷◌, ◌++◌, length, Some, refl, sym, ap, ap₂, subst, ◌∙◌, arith, length-append, set, sum_by}
 use Rattle.std.specs.Prelude.{is_some}
 use Rattle.std.specs.Option.{option_and_then}
-use Rattle.std.proofs.lemmas.Option.{same_Some}
-use Rattle.std.proofs.lemmas.List.Sums.{sum_by-append, sum_by-cons}
-use Rattle.lfs_model.specs.Changes.{PairContentChange, raw_pair_content_after_changes}
-use Rattle.lfs_model.specs.Content.{RawPairContent, RawSlot, raw_content_of_pair_at, slot_if_name_and_struct_present, pair_content_if_slots_complete, raw_slots_with_function_applied_at_id, slot_of_id}
-use Rattle.lfs_model.specs.Cut.{CanSplitSlotsIntoTwoPairs}
-use Rattle.lfs_model.specs.Disk.{Disk, SameGeometry, block_bytes_on_disk}
-use Rattle.lfs_model.specs.InDirectory.{IsPlaceOfNameInDirectory}
-use Rattle.lfs_model.specs.Slots.{Slot, PairContent, IsContentFittingPair, is_superblock, same_pair, slot_size}
-use Rattle.lfs_model.specs.Thread.{Pair, gstate_of_pairs, pair_address_named_by_tail}
-use Rattle.lfs_model.specs.View.{IsFileOrDirectoryEntry, IsSkipListIfCtzStruct}
-use Rattle.lfs_model.specs.Profile.{IsEntryWithinWritableLimits}
-use Rattle.lfs_model.specs.Shown.{IsPathToDirectory, all_slots_not_moved, skip_list_blocks_of_struct, used_blocks}
-use Rattle.lfs_model.proofs.Committed.{no_move_from}
-use Rattle.lfs_model.proofs.Completed.{complete_set, completed_parts, completed_from}
-use Rattle.lfs_model.proofs.Counts.{Each, each_pieces, each_right, occurrence_count_of_number, count_append}
-use Rattle.lfs_model.proofs.Effects.{Does, IsNamed, does_first, does_nothing}
-use Rattle.lfs_model.proofs.Files.{HasSameFileBlocksOfStructOnDisks}
-use Rattle.lfs_model.proofs.Halves.{entry_small, set_cut}
+use Rattle.lfs_operations.proofs.Common.{same_Some, sum_by-append, sum_by-cons, PairContentChange, raw_pair_content_after_changes, RawPairContent, RawSlot, raw_content_of_pair_at, slot_if_name_and_struct_present, pair_content_if_slots_complete, raw_slots_with_function_applied_at_id, slot_of_id, CanSplitSlotsIntoTwoPairs, Disk, SameGeometry, block_bytes_on_disk, IsPlaceOfNameInDirectory, Slot, PairContent, IsContentFittingPair, is_superblock, same_pair, slot_size, Pair, gstate_of_pairs, pair_address_named_by_tail, IsFileOrDirectoryEntry, IsSkipListIfCtzStruct, IsEntryWithinWritableLimits, IsPathToDirectory, all_slots_not_moved, skip_list_blocks_of_struct, used_blocks, no_move_from, completed_parts, completed_from, Each, each_pieces, each_right, occurrence_count_of_number, count_append, Does, does_first, does_nothing, HasSameFileBlocksOfStructOnDisks, entry_small, site, thread_is, is_site, same, number_is, IsDistinct, IsBlockInFlight, Site, dirs_at, thread_at, begin_of, unmoved_in, logged_changed, pair_content_after_changes, KeptThread, IsCommitRefused, thread_pair_at_index, complete_content_after_changes}
+use Rattle.lfs_model.proofs.Completed.{complete_set}
+use Rattle.lfs_model.proofs.Effects.{IsNamed}
+use Rattle.lfs_model.proofs.Halves.{set_cut}
 use Rattle.lfs_model.proofs.Moves.{set_here}
-use Rattle.lfs_model.proofs.Searches.{site, thread_is, is_site, same, number_is}
 use Rattle.lfs_model.proofs.Superblocks.{entry_is_other}
-use Rattle.std.specs.List.{IsDistinct}
-use Rattle.lfs_model.specs.BlockSets.{IsBlockInFlight}
-use Rattle.lfs_model.proofs.Sites.{Site, dirs_at, thread_at, begin_of}
-use Rattle.lfs_model.proofs.Splices.{unmoved_in}
-use Rattle.lfs_model.proofs.StoredChanges.{logged_changed}
-use Rattle.lfs_pair.specs.Commit.{pair_content_after_changes}
-use Rattle.lfs_thread.specs.Kept.{KeptThread}
-use Rattle.lfs_thread.specs.Steps.{IsCommitRefused, thread_pair_at_index, complete_content_after_changes}
 use Rattle.lfs_operations.specs.Changing.{CanChangeOrSplitPair}
 use Rattle.lfs_operations.specs.Editing.{CanEditEntryOfPair, slot_of_editable_entry}
 use Rattle.lfs_operations.proofs.Held.{CompletesTo, IsEntryIfOther, below, each_pair, fits_there, here, other_entries, raw_there}

@@ -1,38 +1,12 @@
 -- The entry of an empty directory goes, and then its pair: what each of the two steps comes to, in an accepted image.
 use Rattle.std.proofs.Common.{ℕ, ◌≡◌, ◌≢◌, ◌&&◌, true, false, List, [], ◌∷◌, ◌++◌, length, Option, Some, None, refl, sym, ap, subst, ◌∙◌, arith}
 use Rattle.std.specs.Prelude.{is_some}
-use Rattle.std.proofs.lemmas.List.Elements.{recursion_from_All}
-use Rattle.lfs_model.specs.TreeEdits.{tree_after_subtree_replacement, tree_after_removal}
-use Rattle.lfs_model.specs.Disk.{Disk}
+use Rattle.lfs_operations.proofs.Common.{recursion_from_All, tree_after_subtree_replacement, tree_after_removal, Disk, Session, slot_of_path, Branch, Slot, Tail, is_superblock, zero_gstate, same_pair, path_of_bytes_or_root, Pair, gstate_of_pairs, is_hard_tail, pair_count_before_root, Path, IsAcceptedImage, IsWritableImage, IsPathToDirectory, all_slots_not_moved, entries_by_directory_in_thread, tree_on_disk, used_blocks, alike_itself, ArePairsWithSameAddressesAndSlots, alike_append, IsImageAfterTreeChange, SameFiles, slots_files, IsImageAfterCompletedOperation, occurrence_count_of_number, each_left, each_right, softened, HasSameFileBlocksOfStructOnDisks, HasNoMove, onward_all, IsStep, IsRmdir, rmdir_completed, IsGone, rmdir_named, rmdir_taken, Site, begin_of, dirs_at, thread_at, IsDevice, count_files, file_blocks_of_slots, slots_of_pairs_in_order, unmoved_in, IsWritableImageAfterTreeChange, some_filled}
 use Rattle.lfs_model.specs.Operations as ops
-use Rattle.lfs_model.specs.Session.{Session}
-use Rattle.lfs_model.specs.SlotEdits.{slot_of_path}
-use Rattle.lfs_model.specs.Slots.{Branch, Slot, Tail, is_superblock, zero_gstate, same_pair}
-use Rattle.lfs_model.specs.Refusals.{path_of_bytes_or_root}
-use Rattle.lfs_model.specs.Thread.{Pair, gstate_of_pairs, is_hard_tail, pair_count_before_root}
-use Rattle.lfs_model.specs.Tree.{Path}
-use Rattle.lfs_model.specs.View.{IsAcceptedImage}
-use Rattle.lfs_model.specs.Profile.{IsWritableImage}
-use Rattle.lfs_model.specs.Shown.{IsPathToDirectory, all_slots_not_moved, entries_by_directory_in_thread, tree_on_disk, used_blocks}
-use Rattle.lfs_model.proofs.Alike.{alike_itself, ArePairsWithSameAddressesAndSlots, alike_append}
-use Rattle.lfs_model.proofs.Changes.{IsImageAfterTreeChange, SameFiles, slots_files}
-use Rattle.lfs_model.proofs.Committed.{IsImageAfterCompletedOperation}
-use Rattle.lfs_model.proofs.Counts.{occurrence_count_of_number, each_left, each_right}
-use Rattle.lfs_model.proofs.Drops.{softened}
-use Rattle.lfs_model.proofs.Files.{HasSameFileBlocksOfStructOnDisks}
-use Rattle.lfs_model.proofs.Global.{HasNoMove}
-use Rattle.lfs_model.proofs.Layouts.{onward_all}
-use Rattle.lfs_model.proofs.Moves.{IsStep}
-use Rattle.lfs_model.proofs.RemovedDirectory.{IsRmdir, rmdir_completed}
-use Rattle.lfs_model.proofs.RmdirSteps.{IsGone, rmdir_named, rmdir_taken}
-use Rattle.lfs_model.proofs.Sites.{Site, begin_of, dirs_at, thread_at}
-use Rattle.lfs_model.proofs.Splices.{IsDevice, count_files, file_blocks_of_slots, slots_of_pairs_in_order, unmoved_in}
-use Rattle.lfs_model.proofs.StepsTaken.{IsWritableImageAfterTreeChange}
 use Rattle.lfs_operations.specs.Dropping.{tail_over_dropped_pair}
 use Rattle.lfs_operations.proofs.Owning.{count_used, slots_append}
 use Rattle.lfs_operations.proofs.Placing.{blocks_append}
 use Rattle.lfs_operations.proofs.RmdirPlaces.{HasPlaceOver, place_over}
-use Rattle.lfs_model.proofs.OneCommit.{some_filled}
 
 -- ---- the first step
 

@@ -2,34 +2,10 @@
 use Rattle.std.proofs.Common.{ℕ, zero, suc, ◌≡◌, ◌+◌, ◌<◌, true, false, cond, slice_get, get_or, List, [], ◌∷◌, ◌++◌, length, Option, Some, None, refl, sym, ap, subst, ◌∙◌, arith, append_assoc, append-nil, length-append, Bool, nat_eq}
 use Rattle.std.specs.Option.{option_and_then}
 use Rattle.std.specs.Prelude.{is_some}
-use Rattle.std.proofs.lemmas.Option.{same_Some}
-use Rattle.lfs_model.specs.Disk.{Disk}
-use Rattle.lfs_model.specs.Layout.{directory_address_of_pair, directory_address_continued_by_hard_tail}
-use Rattle.lfs_model.specs.Slots.{Branch, Slot, same_pair}
-use Rattle.lfs_model.specs.Thread.{Pair, pairs_from_root_directory_on, first_pair_address, gstate_of_pairs, is_hard_tail, root_directory_address_of_pairs, blocks_of_pairs}
-use Rattle.lfs_model.specs.Tree.{Path, branch_address_of_struct, directory_address_at_path, directory_address_at_path_from_slot, root_slot}
-use Rattle.lfs_model.specs.View.{IsAcceptedImage}
-use Rattle.lfs_model.specs.Shown.{IsPathToDirectory, entries_by_directory_in_thread}
-use Rattle.lfs_model.proofs.Found.{HasDirectory, led_directory}
-use Rattle.lfs_model.proofs.Global.{HasNoMove}
-use Rattle.lfs_model.proofs.Indexes.{site_shows}
-use Rattle.lfs_model.proofs.Layouts.{onward_all, onward_some}
-use Rattle.lfs_model.proofs.Listings.{Ends, IsRun}
-use Rattle.lfs_model.proofs.Names.{found_at}
-use Rattle.lfs_model.proofs.Pairs.{pair_back, pair_on}
-use Rattle.lfs_model.proofs.Paths.{append_step}
-use Rattle.lfs_model.proofs.Searches.{same_number, avoids_behind, avoids_front}
-use Rattle.lfs_model.proofs.Sites.{Site, dirs_at, thread_at}
-use Rattle.lfs_model.proofs.Superblocks.{IsChain, pairs_behind}
-use Rattle.lfs_model.proofs.Uses.{accepted_sound}
-use Rattle.lfs_model.proofs.Walks.{leads_below}
-use Rattle.lfs_model.proofs.Writable.{ends_in_hard_tail}
+use Rattle.lfs_operations.proofs.Common.{same_Some, Disk, directory_address_of_pair, directory_address_continued_by_hard_tail, IsPairAtAddress, IsPlaceOfNameInDirectory, Name, Branch, Slot, same_pair, Pair, pairs_from_root_directory_on, first_pair_address, gstate_of_pairs, is_hard_tail, root_directory_address_of_pairs, blocks_of_pairs, Path, branch_address_of_struct, IsAcceptedImage, IsPathToDirectory, entries_by_directory_in_thread, no_move_from, HasDirectory, led_directory, HasNoMove, site_shows, onward_all, onward_some, Ends, IsRun, pair_back, pair_on, same_number, avoids_behind, avoids_front, slot_of_stands, Site, dirs_at, thread_at, IsChain, pairs_behind, ends_in_hard_tail, KeptThread, empty_pair_at_anchor, thread_pair_at_index, IsDistinct, Each, each_append, each_left, each_right, onward_append, before_gone, from_kept, two}
+use Rattle.lfs_operations.specs.Ready.{IsImageReadyForChange}
 use Rattle.lfs_operations.proofs.RemovedWhole.{last_pair}
 use Rattle.lfs_operations.proofs.Threads.{get_behind}
-use Rattle.std.specs.List.{IsDistinct}
-use Rattle.lfs_model.proofs.Counts.{Each, each_append, each_left, each_right}
-use Rattle.lfs_model.proofs.RemovedDirectory.{onward_append, before_gone, from_kept}
-use Rattle.lfs_model.proofs.TwoPlaces.{two}
 
 -- ---- lists
 
@@ -85,15 +61,6 @@ alone_run p (q ∷ run) h e = absurd (let k = sym h.0 ∙ e in cc)
 
 -- ---- the directory that an entry names
 
-pub directory_led : (disk : Disk) (ps : List Pair) (P : Path) (a : ℕ × ℕ) (k : ℕ) (u : Slot) (d : ℕ × ℕ) → IsAcceptedImage disk ps → IsPathToDirectory ps P a → slice_get (entries_by_directory_in_thread ps a) k ≡ Some u → u.struct ≡ Branch d
-    → IsPathToDirectory ps (P ++ u.name ∷ []) d
-directory_led disk ps P a k u d ok leads there branch =
-    let E = entries_by_directory_in_thread ps in
-    ap (directory_address_at_path (entries_by_directory_in_thread ps) (root_directory_address_of_pairs ps)) (sym (append-nil (P ++ u.name ∷ [])) ∙ append_step P u.name [])
-    ∙ leads_below (entries_by_directory_in_thread ps) (root_slot (root_directory_address_of_pairs ps)) P a leads u.name []
-    ∙ ap (option_and_then (λ z. directory_address_at_path_from_slot (entries_by_directory_in_thread ps) z [])) (found_at disk.order (entries_by_directory_in_thread ps a) k u ((accepted_sound disk ps ok).tree.order P a leads) there)
-    ∙ ap branch_address_of_struct branch
-
 path_some : (P : Path) (n : List ℕ) → [] ≡ P ++ n ∷ [] → ⊥
 path_some [] n e = absurd (cc)
 path_some (x ∷ P) n e = absurd (cc)
@@ -137,14 +104,14 @@ front_of dirs d h not_root = by h.before refl
 pub not_the_root : (disk : Disk) (ps : List Pair) (P : Path) (n : List ℕ) (d : ℕ × ℕ) → IsAcceptedImage disk ps → IsPathToDirectory ps (P ++ n ∷ []) d → same_pair (root_directory_address_of_pairs ps) d ≡ true → ⊥
 not_the_root disk ps P n d ok led e = path_some P n (ok.once [] (P ++ n ∷ []) (root_directory_address_of_pairs ps) d refl led e)
 
-pub has_front : (disk : Disk) (chain dirs : List Pair) (P : Path) (n : List ℕ) (d : ℕ × ℕ) → IsAcceptedImage disk (chain ++ dirs) → IsChain chain dirs → IsPathToDirectory (chain ++ dirs) (P ++ n ∷ []) d → HasFront dirs d
+has_front : (disk : Disk) (chain dirs : List Pair) (P : Path) (n : List ℕ) (d : ℕ × ℕ) → IsAcceptedImage disk (chain ++ dirs) → IsChain chain dirs → IsPathToDirectory (chain ++ dirs) (P ++ n ∷ []) d → HasFront dirs d
 has_front disk chain dirs P n d ok is_chain led =
     let h = led_directory disk (chain ++ dirs) (P ++ n ∷ []) d ok led in
     subst (λ z. HasFront z d) (pairs_behind chain dirs is_chain) (front_of (pairs_from_root_directory_on (chain ++ dirs)) d h
     (λ e. not_the_root disk (chain ++ dirs) P n d ok led (subst (λ z. same_pair z d ≡ true) (sym (ap first_pair_address (h.is ∙ ap (λ z. z ++ (h.first ∷ h.run ++ h.after)) e))) h.at)))
 
 -- with no slots it shows nothing
-pub shows_nothing : (disk : Disk) (chain dirs : List Pair) (d : ℕ × ℕ) → IsAcceptedImage disk (chain ++ dirs) → IsChain chain dirs → HasNoMove (gstate_of_pairs (chain ++ dirs)) → (h : HasFront dirs d) → is_hard_tail h.first.content.tail ≡ false
+shows_nothing : (disk : Disk) (chain dirs : List Pair) (d : ℕ × ℕ) → IsAcceptedImage disk (chain ++ dirs) → IsChain chain dirs → HasNoMove (gstate_of_pairs (chain ++ dirs)) → (h : HasFront dirs d) → is_hard_tail h.first.content.tail ≡ false
     → h.first.content.slots ≡ [] → entries_by_directory_in_thread (chain ++ dirs) d ≡ []
 shows_nothing disk chain dirs d ok is_chain none h soft empty =
     let v : Site = record { chain = chain; before = h.front ++ h.before ∷ []; left = []; right = []; after = h.after } in
@@ -170,6 +137,42 @@ number_of_first disk chain dirs d ok h n o there at =
     let b = length-append h.front (h.before ∷ []) in
     let c = length-append chain h.front in
     (omega arith, same_Some h.first o (sym first_there ∙ ap (slice_get (chain ++ dirs)) (sym e) ∙ there))
+
+-- ---- the own pair of an entry that names a directory
+
+-- a path leads to the directory
+pub led_to : (t : KeptThread) (ready : IsImageReadyForChange t) (P : Path) (a : ℕ × ℕ) (leads : IsPathToDirectory t.pairs P a) (first index id : ℕ) (name : Name) (stands : IsPlaceOfNameInDirectory t.pairs first name index id) → IsPairAtAddress t.pairs a first
+    → (to : ℕ × ℕ) → stands.stands.slot.struct ≡ Branch to → IsPathToDirectory t.pairs (P ++ name ∷ []) to
+led_to t ready P a leads first index id name stands begins to branch =
+    ap (option_and_then (λ (f : Slot). branch_address_of_struct f.struct)) (slot_of_stands t.disk t.pairs P a ready.accepted leads first index id name (no_move_from t.pairs ready.settled) stands begins) ∙ ap branch_address_of_struct branch
+
+-- The directory's only pair has no slots, and stands there among the pairs of the directories.
+pub record HasOwnPair (t : KeptThread) (chain dirs : List Pair) (gone : ℕ) (to : ℕ × ℕ) : Type 0 where
+  pub front : HasFront dirs to
+  pub number : gone ≡ length (chain ++ front.front) + 1
+  pub first : front.first ≡ thread_pair_at_index t gone
+  pub dirs_are : dirs ≡ front.front ++ front.before ∷ thread_pair_at_index t gone ∷ (front.run ++ front.after)
+  pub empty : entries_by_directory_in_thread (chain ++ dirs) to ≡ []
+
+pub own_pair : (t : KeptThread) (ready : IsImageReadyForChange t) (chain dirs : List Pair) → t.pairs ≡ chain ++ dirs → IsChain chain dirs → (P : Path) (n : Name) (to : ℕ × ℕ) (gone : ℕ) → IsPathToDirectory t.pairs (P ++ n ∷ []) to → gone < length t.pairs
+    → same_pair (thread_pair_at_index t gone).at to ≡ true → (thread_pair_at_index t gone).content.slots ≡ [] → is_hard_tail (thread_pair_at_index t gone).content.tail ≡ false → HasOwnPair t chain dirs gone to
+own_pair t ready chain dirs there is_chain P n to gone led below at empty alone = record {
+  front = front;
+  number = first_is.0;
+  first = first_is.1;
+  dirs_are = front.is ∙ ap (λ z. front.front ++ front.before ∷ z ∷ (front.run ++ front.after)) first_is.1;
+  empty = shows_nothing t.disk chain dirs to accepted is_chain (no_move_from (chain ++ dirs) (ap gstate_of_pairs (sym there) ∙ ready.settled)) front (ap (λ (z : Pair). is_hard_tail z.content.tail) first_is.1 ∙ alone)
+      (ap (λ (z : Pair). z.content.slots) first_is.1 ∙ empty);
+}
+  where
+    accepted : IsAcceptedImage t.disk (chain ++ dirs)
+    accepted = subst (IsAcceptedImage t.disk) there ready.accepted
+
+    front : HasFront dirs to
+    front = has_front t.disk chain dirs P n to accepted is_chain (subst (λ z. IsPathToDirectory z (P ++ n ∷ []) to) there led)
+
+    first_is : (gone ≡ length (chain ++ front.front) + 1) × (front.first ≡ thread_pair_at_index t gone)
+    first_is = number_of_first t.disk chain dirs to accepted front gone (thread_pair_at_index t gone) (subst (λ z. slice_get z gone ≡ Some (thread_pair_at_index t gone)) there (get_some t.pairs gone empty_pair_at_anchor below)) at
 
 -- ---- the pair that goes, once the one of its entry is changed
 

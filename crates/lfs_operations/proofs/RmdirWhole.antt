@@ -1,33 +1,9 @@
 -- The entry of an empty directory goes with its pair, which held nothing else, and then the directory's own pair goes.
 use Rattle.std.proofs.Common.{ℕ, ◌≡◌, ◌⊎◌, inl, inr, ◌+◌, ◌<◌, Bool, true, false, cond, nat_eq, List, [], ◌∷◌, ◌++◌, length, Option, Some, None, refl, sym, ap, subst, ◌∙◌, arith, append_assoc, length-append}
 use Rattle.std.specs.Prelude.{is_some}
-use Rattle.std.specs.List.{IsDistinct}
-use Rattle.lfs_model.specs.TreeEdits.{tree_after_subtree_replacement, tree_after_removal}
-use Rattle.lfs_model.specs.Disk.{Disk}
-use Rattle.lfs_model.specs.Layout.{directory_address_of_pair, directory_address_continued_by_hard_tail}
+use Rattle.lfs_operations.proofs.Common.{IsDistinct, tree_after_subtree_replacement, tree_after_removal, Disk, directory_address_of_pair, directory_address_continued_by_hard_tail, Session, slot_of_path, Branch, Slot, is_superblock, zero_gstate, same_pair, path_of_bytes_or_root, Pair, blocks_of_pairs, gstate_of_pairs, is_hard_tail, pair_count_before_root, Path, IsAcceptedImage, IsWritableImage, IsPathToDirectory, entries_by_directory_in_thread, tree_on_disk, ArePairsWithSameAddressesAndSlots, alike_append, alike_itself, IsImageAfterTreeChange, IsImageAfterCompletedOperation, Each, each_append, each_left, each_right, onward_all, IsStep, IsRmdir, before_gone, from_kept, rmdir_completed, IsGone, rmdir_named, rmdir_taken, avoids_behind, avoids_front, Site, begin_of, dirs_at, thread_at, IsWritableImageAfterTreeChange, two, same_parts}
 use Rattle.lfs_model.specs.Operations as ops
-use Rattle.lfs_model.specs.Session.{Session}
-use Rattle.lfs_model.specs.SlotEdits.{slot_of_path}
-use Rattle.lfs_model.specs.Slots.{Branch, Slot, is_superblock, zero_gstate, same_pair}
-use Rattle.lfs_model.specs.Refusals.{path_of_bytes_or_root}
-use Rattle.lfs_model.specs.Thread.{Pair, blocks_of_pairs, gstate_of_pairs, is_hard_tail, pair_count_before_root}
-use Rattle.lfs_model.specs.Tree.{Path}
-use Rattle.lfs_model.specs.View.{IsAcceptedImage}
-use Rattle.lfs_model.specs.Profile.{IsWritableImage}
-use Rattle.lfs_model.specs.Shown.{IsPathToDirectory, entries_by_directory_in_thread, tree_on_disk}
-use Rattle.lfs_model.proofs.Alike.{ArePairsWithSameAddressesAndSlots, alike_append, alike_itself}
-use Rattle.lfs_model.proofs.Changes.{IsImageAfterTreeChange}
-use Rattle.lfs_model.proofs.Committed.{IsImageAfterCompletedOperation}
-use Rattle.lfs_model.proofs.Counts.{Each, each_append, each_left, each_right}
-use Rattle.lfs_model.proofs.Layouts.{onward_all}
-use Rattle.lfs_model.proofs.Moves.{IsStep}
-use Rattle.lfs_model.proofs.RemovedDirectory.{IsRmdir, before_gone, from_kept, rmdir_completed}
-use Rattle.lfs_model.proofs.RmdirSteps.{IsGone, rmdir_named, rmdir_taken}
-use Rattle.lfs_model.proofs.Searches.{avoids_behind, avoids_front}
-use Rattle.lfs_model.proofs.Sites.{Site, begin_of, dirs_at, thread_at}
-use Rattle.lfs_model.proofs.StepsTaken.{IsWritableImageAfterTreeChange}
-use Rattle.lfs_model.proofs.TwoPlaces.{two}
-use Rattle.lfs_model.proofs.Unthreaded.{SameParts, same_parts}
+use Rattle.lfs_model.proofs.Unthreaded.{SameParts}
 use Rattle.lfs_operations.proofs.RemovedWhole.{last_pair}
 use Rattle.lfs_operations.proofs.RmdirPlaces.{Ahead, Behind, Itself, Next, WhereIs, soft_end, where_is}
 

@@ -1,14 +1,7 @@
 -- The root directory stays where it is: as many pairs stand in front of it as before.
 use Rattle.std.proofs.Common.{ℕ, zero, suc, ◌≡◌, true, List, [], ◌∷◌, ◌++◌, length, drop, Option, Some, refl, sym, ap, subst, ◌∙◌, slice_get}
-use Rattle.std.proofs.lemmas.Option.{same_Some}
-use Rattle.lfs_model.specs.Disk.{Disk}
-use Rattle.lfs_model.specs.Slots.{same_pair}
+use Rattle.lfs_operations.proofs.Common.{same_Some, Disk, same_pair, AreLinkedByTails, Pair, anchor_pair_address, pairs_from_root_directory_on, first_pair_address, pair_address_named_by_tail, root_directory_address_of_pairs, starts_with_superblock, pair_count_before_root, IsAcceptedImage, first_pair_slots, pair_itself, same_number, IsChain, pairs_behind}
 use Rattle.lfs_model.specs.Steps.{ArePairsWithSameAddressesAndSlots}
-use Rattle.lfs_model.specs.Thread.{AreLinkedByTails, Pair, anchor_pair_address, pairs_from_root_directory_on, first_pair_address, pair_address_named_by_tail, root_directory_address_of_pairs, starts_with_superblock, pair_count_before_root}
-use Rattle.lfs_model.specs.View.{IsAcceptedImage, first_pair_slots}
-use Rattle.lfs_model.proofs.Pairs.{pair_itself}
-use Rattle.lfs_model.proofs.Searches.{same_number}
-use Rattle.lfs_model.proofs.Superblocks.{IsChain, pairs_behind}
 use Rattle.lfs_operations.proofs.Threads.{get_behind}
 
 -- the pair of that number has that address

@@ -1,31 +1,11 @@
 -- A pair of an accepted image in which some slots are replaced by others, as a commit of the laws.
 use Rattle.std.proofs.Common.{ℕ, zero, suc, ◌≡◌, ◌+◌, ◌<◌, ◌≤◌, false, nat_eq, List, [], ◌∷◌, ◌++◌, length, Some, refl, sym, ap, subst, ◌∙◌, arith, ◌⊎◌, inl, inr}
-use Rattle.std.specs.List.{IsDistinct, flat_map}
-use Rattle.std.proofs.lemmas.List.Elements.{recursion_from_All}
-use Rattle.lfs_model.specs.BlockSets.{BlockStateList, IsBlockFree, IsBlockInFlight}
-use Rattle.lfs_model.specs.BlockSets.BlockState.{Free, InFlight}
-use Rattle.lfs_model.specs.Changes.{PairContentChange}
-use Rattle.lfs_model.specs.Disk.{Disk, block_bytes_on_disk, SameGeometry}
-use Rattle.lfs_model.specs.Slots.{Slot, PairContent, gstate_xor}
-use Rattle.lfs_model.specs.Thread.{Pair, blocks_of_pairs, gstate_of_pairs, starts_with_superblock}
-use Rattle.lfs_model.specs.Shown.{skip_list_blocks_of_struct, all_slots_not_moved, used_blocks}
-use Rattle.lfs_model.specs.View.{IsAcceptedImage, IsFileOrDirectoryEntry, IsSkipListIfCtzStruct}
-use Rattle.lfs_model.specs.Profile.{IsWritableImage, IsSlotWithinWritableLimits}
-use Rattle.lfs_model.proofs.Changes.{SameFiles}
-use Rattle.lfs_model.proofs.Committed.{IsCommit}
-use Rattle.lfs_model.proofs.Counts.{Each, each_counted, each_from_counted, occurrence_count_of_number, count_append, once_from_distinct, distinct_from_once}
-use Rattle.lfs_model.proofs.Files.{HasSameFileBlocksOfStructOnDisks}
-use Rattle.lfs_model.proofs.Global.{gstate_append, gstate_cons, gstate_kept, gstate_right}
-use Rattle.lfs_model.proofs.Sites.{Site, thread_at, IsSite}
-use Rattle.lfs_model.proofs.Splices.{file_blocks_of_slots}
-use Rattle.lfs_thread.specs.Kept.{KeptThread}
-use Rattle.lfs_thread.specs.Steps.{complete_content_after_changes, SlotsBeginWithSuperblock}
+use Rattle.lfs_operations.proofs.Common.{IsDistinct, flat_map, recursion_from_All, BlockStateList, IsBlockFree, IsBlockInFlight, Free, InFlight, PairContentChange, Disk, block_bytes_on_disk, SameGeometry, Slot, PairContent, gstate_xor, Pair, blocks_of_pairs, gstate_of_pairs, starts_with_superblock, skip_list_blocks_of_struct, all_slots_not_moved, used_blocks, IsAcceptedImage, IsFileOrDirectoryEntry, IsSkipListIfCtzStruct, IsWritableImage, IsSlotWithinWritableLimits, SameFiles, IsCommit, Each, each_counted, each_from_counted, occurrence_count_of_number, count_append, once_from_distinct, distinct_from_once, HasSameFileBlocksOfStructOnDisks, gstate_append, gstate_cons, gstate_kept, gstate_right, Site, thread_at, IsSite, file_blocks_of_slots, KeptThread, complete_content_after_changes, SlotsBeginWithSuperblock, cases_lt}
 use Rattle.lfs_operations.specs.Ready.{IsImageReadyForChange}
 use Rattle.lfs_operations.proofs.MovTurned.{IsTurn}
 use Rattle.lfs_operations.proofs.MovSet.{HasTurned}
 use Rattle.lfs_operations.proofs.Owning.{count_pairs}
 pub use Rattle.lfs_operations.proofs.Owning.{not_used}
-use Rattle.std.proofs.lemmas.Bool.{cases_lt}
 
 -- ---- places in the thread
 

@@ -1,32 +1,9 @@
 -- What a change or a split comes to, and what a stop in it leaves, as a commit of the laws.
 use Rattle.std.proofs.Common.{ℕ, ◌≡◌, ◌≢◌, true, false, ◌⊎◌, inl, inr, ⊎_elim, ◌+◌, ◌<◌, ◌≤◌, List, [], ◌∷◌, ◌++◌, length, sym, ap, subst, ◌∙◌, arith, append-nil, nat_eq}
 use Rattle.std.specs.Prelude.{Contains}
-use Rattle.std.proofs.lemmas.Bool.{cases_lt}
-use Rattle.std.proofs.lemmas.List.Elements.{recursion_from_All}
-use Rattle.lfs_model.specs.Blocks.{Blocks}
-use Rattle.lfs_model.specs.BlockSets.{AreExactlyTheUsedBlocks, IsBlockFree}
-use Rattle.lfs_model.specs.Changes.{PairContentChange}
-use Rattle.lfs_model.specs.Disk.{Disk, block_count}
-use Rattle.lfs_model.specs.PowerLoss.{HasTreeBeforeOrAfterOperation as IsLeftOf, SurvivesPowerLossInCallsSince, disk_with_blocks}
-use Rattle.lfs_model.specs.Slots.{Slot}
-use Rattle.lfs_model.specs.Thread.{Pair, blocks_of_pairs, gstate_of_pairs, pair_count_before_root}
-use Rattle.lfs_model.specs.Tree.{Tree}
-use Rattle.lfs_model.specs.View.{IsAcceptedImage}
-use Rattle.lfs_model.specs.Profile.{IsWritableImage}
-use Rattle.lfs_model.specs.Shown.{all_slots_not_moved, tree_on_disk, used_blocks}
-use Rattle.lfs_model.proofs.BlockSets.{Contains-occurrence_count_of_number, occurrence_count_of_number-Contains}
-use Rattle.lfs_model.proofs.Changes.{IsImageAfterTreeChange, SameFiles}
-use Rattle.lfs_model.proofs.Files.{HasSameFileBlocksOfStructOnDisks}
-use Rattle.lfs_model.proofs.Writable.{ends_in_hard_tail}
-use Rattle.lfs_model.proofs.Committed.{IsCommit, commit_writable}
-use Rattle.lfs_model.proofs.Counts.{occurrence_count_of_number, once_from_distinct, count_append}
-use Rattle.lfs_model.proofs.Histories.{IsTrueAfterAnyPowerLossSince-weaker}
+use Rattle.lfs_operations.proofs.Common.{cases_lt, recursion_from_All, Blocks, AreExactlyTheUsedBlocks, IsBlockFree, PairContentChange, Disk, block_count, HasTreeBeforeOrAfterOperation as IsLeftOf, SurvivesPowerLossInCallsSince, disk_with_blocks, Slot, Pair, blocks_of_pairs, gstate_of_pairs, pair_count_before_root, Tree, IsAcceptedImage, IsWritableImage, all_slots_not_moved, tree_on_disk, used_blocks, Contains-occurrence_count_of_number, occurrence_count_of_number-Contains, IsImageAfterTreeChange, SameFiles, HasSameFileBlocksOfStructOnDisks, ends_in_hard_tail, IsCommit, occurrence_count_of_number, once_from_distinct, count_append, IsTrueAfterAnyPowerLossSince-weaker, Site, dirs_at, thread_at, IsDevice, DeviceCallEvent, PowerLossLeavesSuchBlocksAfterCleanErases, KeptThread, IsDistinct}
+use Rattle.lfs_model.proofs.Committed.{commit_writable}
 use Rattle.lfs_model.proofs.Laws.{DirectoryAddressByPath}
-use Rattle.lfs_model.proofs.Sites.{Site, dirs_at, thread_at}
-use Rattle.lfs_model.proofs.Splices.{IsDevice}
-use Rattle.lfs_model.specs.History.{DeviceCallEvent}
-use Rattle.lfs_thread.specs.Device.{PowerLossLeavesSuchBlocksAfterCleanErases}
-use Rattle.lfs_thread.specs.Kept.{KeptThread}
 use Rattle.lfs_operations.specs.Changing.{IsLeftByStoppedChangeOrSplit, IsPairChangedOrSplit}
 use Rattle.lfs_operations.specs.Ready.{AreUsedBlocksBeforeMapIsUpdated, ShowsTreeReadyForChange, ShowsTreeReadyOnceMapIsUpdated, HasNoNewBlockInFlight, KeepsStatesOfTakenBlocks}
 use Rattle.lfs_operations.proofs.Owning.{count_pairs, used_count_now, used_same}
@@ -34,7 +11,6 @@ use Rattle.lfs_operations.proofs.Placing.{left_after, left_still}
 use Rattle.lfs_operations.proofs.RootStays.{root_stays}
 use Rattle.lfs_operations.proofs.Splicing.{Commits, IsSplicing, accepted, commits, turn}
 use Rattle.lfs_operations.proofs.MovTurned.{IsMapped, TurnedOn, TurnedTo, left_put, put_turned}
-use Rattle.std.specs.List.{IsDistinct}
 
 -- the pair became that on the disk, or that and a new one behind it
 pub record HasCommit (t : KeptThread) (w : Site) (p : Pair) (l olds news r : List Slot) (come : List ℕ) (disk : Disk) : Type 0 where

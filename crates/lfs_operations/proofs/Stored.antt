@@ -1,40 +1,20 @@
 -- A file that gets other contents, as a step of the thread.
 use Rattle.std.proofs.Common.{nat_eq, ℕ, ◌≡◌, ◌⊎◌, inl, inr, ◌<◌, ◌≤◌, true, false, List, [], ◌∷◌, ◌++◌, length, Some, None, refl, sym, ap, ap₂, subst, ◌∙◌, arith}
 use Rattle.std.specs.Prelude.{All}
-use Rattle.std.specs.List.{IsDistinct}
-use Rattle.std.proofs.lemmas.Bool.{cases_lt}
-use Rattle.std.proofs.lemmas.List.Elements.{recursion_from_All}
-use Rattle.lfs_model.specs.TreeEdits.{tree_after_change_of_node}
-use Rattle.lfs_model.specs.Names.{Name}
-use Rattle.lfs_model.specs.BlockSets.{IsBlockInFlight}
-use Rattle.lfs_model.specs.BlockSets.BlockState.{InFlight, Used}
-use Rattle.lfs_model.specs.Changes.{PairContentChange, PutStruct}
-use Rattle.lfs_model.specs.Content.{struct_of_type_and_bytes}
-use Rattle.lfs_model.specs.Disk.{Disk, SameGeometry, block_bytes_on_disk, inline_limit}
-use Rattle.lfs_model.specs.History.{DeviceCallEvent}
+use Rattle.lfs_operations.proofs.Common.{IsDistinct, cases_lt, recursion_from_All, tree_after_change_of_node, Name, IsBlockInFlight, InFlight, Used, PairContentChange, PutStruct, struct_of_type_and_bytes, Disk, SameGeometry, block_bytes_on_disk, DeviceCallEvent, Operation, SurvivesPowerLossInCallsSince, Session, Slot, Struct, Inline, Ctz, Branch, File, Directory, Superblock, Attributes, is_superblock, same_pair, Pair, blocks_of_pairs, EntriesByDirectory, FileNode, Tree, branch_address_of_struct, IsEntryWithinWritableLimits, IsSlotWithinWritableLimits, IsFileOrDirectoryEntry, IsPathToDirectory, all_slots_not_moved, entries_by_directory_in_thread, skip_list_blocks_of_struct, tree_on_disk, used_blocks, Contains-occurrence_count_of_number, IsImageAfterTreeChange, IsImageAfterCompletedOperation, commit_step, recovered_from, Each, occurrence_count_of_number, count_append, distinct_from_once, each_counted, each_from_counted, each_right, once_from_distinct, HasSameFileBlocksOfStructOnDisks, file_blocks_same, is_list_same, some_filled, Site, begin_of, thread_at, PowerLossLeavesSuchBlocksAfterCleanErases, KeptThread}
+use Rattle.lfs_model.specs.Disk.{inline_limit}
 use Rattle.lfs_model.specs.Operations as ops
-use Rattle.lfs_model.specs.Operations.{Operation}
-use Rattle.lfs_model.specs.PowerLoss.{SurvivesPowerLossInCallsSince}
-use Rattle.lfs_model.specs.Session.{Session}
 use Rattle.lfs_model.specs.SlotEdits.{IsStructStoringBytes}
-use Rattle.lfs_model.specs.Slots.{Slot, Struct, Inline, Ctz, Branch, KindOfSlot, File, Directory, Superblock, Attributes, is_superblock, same_pair}
+use Rattle.lfs_model.specs.Slots.{KindOfSlot}
 use Rattle.lfs_model.specs.Effects.{node_with_bytes}
-use Rattle.lfs_model.specs.Thread.{Pair, blocks_of_pairs}
-use Rattle.lfs_model.specs.Tree.{EntriesByDirectory, FileNode, Tree, branch_address_of_struct, node_of_struct_and_attributes}
-use Rattle.lfs_model.specs.Profile.{IsEntryWithinWritableLimits, IsSlotWithinWritableLimits, HasInlineBytesWithinLimit}
-use Rattle.lfs_model.specs.View.{IsFileOrDirectoryEntry, IsStructOfKind}
-use Rattle.lfs_model.specs.Shown.{IsPathToDirectory, all_slots_not_moved, skip_list_bytes_on_disk, entries_by_directory_in_thread, skip_list_blocks_of_struct, tree_on_disk, used_blocks}
-use Rattle.lfs_model.proofs.BlockSets.{Contains-occurrence_count_of_number}
-use Rattle.lfs_model.proofs.Changes.{IsImageAfterTreeChange}
-use Rattle.lfs_model.proofs.Committed.{IsImageAfterCompletedOperation, commit_step, recovered_from}
-use Rattle.lfs_model.proofs.Counts.{Each, occurrence_count_of_number, count_append, distinct_from_once, each_counted, each_from_counted, each_right, once_from_distinct}
+use Rattle.lfs_model.specs.Tree.{node_of_struct_and_attributes}
+use Rattle.lfs_model.specs.Profile.{HasInlineBytesWithinLimit}
+use Rattle.lfs_model.specs.View.{IsStructOfKind}
+use Rattle.lfs_model.specs.Shown.{skip_list_bytes_on_disk}
 use Rattle.lfs_model.proofs.Effects.{puts_struct, with_struct}
-use Rattle.lfs_model.proofs.Files.{HasSameFileBlocksOfStructOnDisks, contents_same, file_blocks_same, is_list_same}
+use Rattle.lfs_model.proofs.Files.{contents_same}
 use Rattle.lfs_model.proofs.Moves.{bytes_change}
-use Rattle.lfs_model.proofs.OneCommit.{close_completed, some_filled, sync_completed}
-use Rattle.lfs_model.proofs.Sites.{Site, begin_of, thread_at}
-use Rattle.lfs_thread.specs.Device.{PowerLossLeavesSuchBlocksAfterCleanErases}
-use Rattle.lfs_thread.specs.Kept.{KeptThread}
+use Rattle.lfs_model.proofs.OneCommit.{close_completed, sync_completed}
 use Rattle.lfs_operations.specs.Changing.{CanChangeOrSplitPair, IsLeftByStoppedChangeOrSplit, IsPairChangedOrSplit}
 use Rattle.lfs_operations.specs.Editing.{CanEditEntryOfPair, slot_of_editable_entry}
 use Rattle.lfs_operations.specs.Storing.{CanSetFileStruct, HasStoredContentsOfFile, tree_with_contents_at}

@@ -1,9 +1,6 @@
 -- Two free blocks that are taken.
 use Rattle.std.proofs.Common.{ℕ, zero, suc, ◌≡◌, ◌≢◌, ◌<◌, Bool, true, false, nat_eq, [], ◌∷◌, length, Some, refl, sym, ap, subst, ◌∙◌, arith, set, slice_get, eqb-true, eq-eqb}
-use Rattle.std.proofs.lemmas.Option.{same_Some}
-use Rattle.lfs_model.specs.BlockSets.{BlockState, BlockStateList, IsBlockFree}
-use Rattle.lfs_model.specs.BlockSets.BlockState.{Free, InFlight}
-use Rattle.lfs_model.proofs.BlockSets.{slice_get-set_same, slice_get-set_other}
+use Rattle.lfs_operations.proofs.Common.{same_Some, BlockState, BlockStateList, IsBlockFree, Free, InFlight, slice_get-set_same, slice_get-set_other}
 use Rattle.lfs_operations.specs.Changing.{AreTwoFreeBlocks}
 
 pub within : (sets : BlockStateList) (b : ℕ) (s : BlockState) → slice_get sets b ≡ Some s → b < length sets

@@ -1,27 +1,12 @@
 -- Pairs of a thread, by their numbers; and the pair of a number by its site: where it stands, and which blocks change with it.
 use Rattle.std.proofs.Common.{ℕ, suc, ◌≡◌, ◌+◌, ◌<◌, ◌≤◌, Bool, true, false, cond, eqb-true, nat_eq, List, [], ◌∷◌, ◌++◌, length, Some, refl, sym, ap, ap₂, subst, ◌∙◌, arith, append_assoc, length-append, get_or, set, insert, slice_get, take}
-use Rattle.std.specs.List.{IsDistinct}
-use Rattle.lfs_model.specs.BlockSets.{AreExactlyTheUsedBlocks, IsBlockFree}
-use Rattle.lfs_model.specs.BlockSets.BlockState.{Free}
-use Rattle.lfs_model.specs.Content.{content_of_pair_at, current_block_of_pair_at}
-use Rattle.lfs_model.specs.Disk.{Disk, block_bytes_on_disk, block_count, SameGeometry}
-use Rattle.lfs_model.specs.Slots.{PairContent, gstate_xor, zero_gstate}
-use Rattle.lfs_model.specs.Thread.{Pair, blocks_of_pairs, gstate_of_pairs}
-use Rattle.lfs_model.specs.View.{BeginsWithLogEntry, superblock_name_log_entry}
-use Rattle.lfs_model.specs.Shown.{used_blocks}
-use Rattle.lfs_model.proofs.Counts.{Each, occurrence_count_of_number, once_from_distinct, distinct_from_once}
-use Rattle.lfs_model.proofs.Sites.{Site, thread_at}
-use Rattle.lfs_model.proofs.Unchanged.{HasFirst}
+use Rattle.lfs_operations.proofs.Common.{IsDistinct, AreExactlyTheUsedBlocks, IsBlockFree, Free, content_of_pair_at, current_block_of_pair_at, Disk, block_bytes_on_disk, block_count, SameGeometry, PairContent, gstate_xor, zero_gstate, Pair, blocks_of_pairs, gstate_of_pairs, BeginsWithLogEntry, superblock_name_log_entry, used_blocks, Each, occurrence_count_of_number, once_from_distinct, distinct_from_once, Site, thread_at, HasFirst, KeepsBlocksOutsideBothPairs, KeptThread, thread_pair_at_index, empty_pair_at_anchor, thread_pairs_with_content_replaced_at_index, HasSameGeometry, HasPairOldContentOnDisk, IsPairWrittenOnDisk, SlotsBeginWithSuperblock, gstate_comm, gstate_cons, gstate_right, sync_bit_delta, site_gstate_moved}
 use Rattle.lfs_pair.specs.Commit.{KeepsBlocksOutsidePair}
-use Rattle.lfs_pair.specs.Split.{KeepsBlocksOutsideBothPairs}
-use Rattle.lfs_thread.specs.Kept.{KeptThread}
-use Rattle.lfs_thread.specs.Steps.{thread_pair_at_index, empty_pair_at_anchor, thread_pairs_with_content_replaced_at_index, pairs_with_one_replaced_by_two, HasSameGeometry, HasPairOldContentOnDisk, IsPairWrittenOnDisk, SlotsBeginWithSuperblock}
+use Rattle.lfs_thread.specs.Steps.{pairs_with_one_replaced_by_two}
 use Rattle.lfs_operations.specs.Changing.{AreTwoFreeBlocks}
 use Rattle.lfs_operations.proofs.Placing.{IsPlaced, all_apart}
 use Rattle.lfs_operations.proofs.Taking.{within}
 use Rattle.lfs_operations.proofs.Owning.{not_used}
-use Rattle.lfs_model.proofs.Global.{gstate_comm, gstate_cons, gstate_right, sync_bit_delta}
-use Rattle.lfs_model.proofs.Rests.{site_gstate_moved}
 
 -- ---- lists
 

@@ -1,20 +1,7 @@
 -- An entry that goes while the sync bit turns, as a change of its pair.
 use Rattle.std.proofs.Common.{ℕ, ◌≡◌, ◌⊎◌, inl, inr, ◌<◌, List, [], ◌∷◌, ◌++◌, length, Some, refl, sym, ap, ap₂, subst, ◌∙◌, arith, length-append, remove, sum_by}
 use Rattle.std.specs.Option.{option_and_then}
-use Rattle.std.proofs.lemmas.Option.{same_Some}
-use Rattle.std.proofs.lemmas.List.Sums.{sum_by-append, sum_by-cons}
-use Rattle.lfs_model.specs.Blocks.{Blocks}
-use Rattle.lfs_model.specs.Changes.{Delete, PutMove, raw_pair_content_after_changes}
-use Rattle.lfs_model.specs.Content.{RawPairContent, pair_content_if_slots_complete, raw_content_of_pair_at}
-use Rattle.lfs_model.specs.LoggedContent.{AreMoveStateFieldsWithinBitWidths}
-use Rattle.lfs_model.specs.Slots.{IsContentFittingPair, Gstate, Slot, gstate_xor, slot_size}
-use Rattle.lfs_model.specs.Thread.{Pair}
-use Rattle.lfs_model.proofs.Completed.{complete_length, complete_remove, completed_from, completed_parts}
-use Rattle.lfs_model.proofs.Effects.{deletes, does_first, does_nothing, puts_move}
-use Rattle.lfs_model.proofs.Global.{sync_bit_delta}
-use Rattle.lfs_model.proofs.Moves.{remove_here}
-use Rattle.lfs_thread.specs.Kept.{KeptThread}
-use Rattle.lfs_thread.specs.Steps.{CanChangePair, IsPairChanged, PowerLossLeavesPairOldOrChanged, IsCommitRefused, IsPairWrittenOnDisk, complete_content_after_changes, thread_pair_at_index, thread_pairs_with_content_replaced_at_index}
+use Rattle.lfs_operations.proofs.Common.{same_Some, sum_by-append, sum_by-cons, Blocks, Delete, PutMove, raw_pair_content_after_changes, RawPairContent, pair_content_if_slots_complete, raw_content_of_pair_at, AreMoveStateFieldsWithinBitWidths, IsContentFittingPair, Gstate, Slot, gstate_xor, slot_size, Pair, complete_length, complete_remove, completed_from, completed_parts, deletes, does_first, does_nothing, puts_move, sync_bit_delta, remove_here, KeptThread, CanChangePair, IsPairChanged, PowerLossLeavesPairOldOrChanged, IsCommitRefused, IsPairWrittenOnDisk, complete_content_after_changes, thread_pair_at_index, thread_pairs_with_content_replaced_at_index}
 use Rattle.lfs_operations.specs.Editing.{CanEditEntryOfPair}
 use Rattle.lfs_operations.specs.Unlinking.{IsLeftByStoppedUnlink, IsDirectoryEntryUnlinked, directory_unlink_changes, content_without_directory_entry}
 use Rattle.lfs_operations.proofs.DroppedTails.{move_xor}

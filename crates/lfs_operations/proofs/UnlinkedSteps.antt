@@ -1,49 +1,17 @@
 -- Two steps of the thread, one after the other: what they write and tell, and what a stop in them leaves.
 use Rattle.std.proofs.Common.{◌⊎◌, ℕ, zero, suc, ◌≡◌, ◌≢◌, ◌-◌, ◌<◌, Result, Ok, List, [], ◌∷◌, get_or, set, refl, sym, ap, subst, ◌∙◌, true, false, cond, inl, inr}
 use Rattle.std.specs.Prelude.{All}
-use Rattle.std.proofs.lemmas.List.Elements.{All-from_recursion, recursion_from_All}
+use Rattle.lfs_operations.proofs.Common.{All-from_recursion, recursion_from_All, DeviceCallEvent, fault_count_of_history, SurvivesPowerLossInCallsSince, PairContent, zero_gstate, Pair, blocks_of_pair_address, blocks_of_two_pair_addresses, tree_on_disk, IsTrueOfEachCallSince-behind, IsTrueOfEachCallSince-until, IsTrueAfterAnyPowerLossSince-trans, IsTrueAfterAnyPowerLossSince-weaker, PowerLossLeavesSuchBlocksAfterCleanErases, KeptThread, ThreadView, ThreadChangesOnlyTheseBlocks, empty_pair_at_anchor, thread_pair_at_index, sync_bit_delta}
 use Rattle.lfs_device.specs.declared.error.Error.{Error}
-use Rattle.lfs_model.specs.History.{DeviceCallEvent, fault_count_of_history}
-use Rattle.lfs_model.specs.PowerLoss.{SurvivesPowerLossInCallsSince}
-use Rattle.lfs_model.specs.Slots.{PairContent, zero_gstate}
-use Rattle.lfs_model.specs.Thread.{Pair, blocks_of_pair_address, blocks_of_two_pair_addresses}
-use Rattle.lfs_model.specs.Shown.{tree_on_disk}
-use Rattle.lfs_model.proofs.Histories.{IsTrueOfEachCallSince-behind, IsTrueOfEachCallSince-until, IsTrueAfterAnyPowerLossSince-trans, IsTrueAfterAnyPowerLossSince-weaker, AreBytesStillUnprogrammed-trans, AreBytesStillUnprogrammed-wider}
-use Rattle.lfs_model.proofs.Overwrites.{AreBlocksEqualExceptThese-trans, AreBlocksEqualExceptThese-wider}
-use Rattle.lfs_thread.specs.Device.{PowerLossLeavesSuchBlocksAfterCleanErases}
-use Rattle.lfs_thread.specs.Kept.{KeptThread, ThreadView}
-use Rattle.lfs_thread.specs.Steps.{ThreadChangesOnlyTheseBlocks, empty_pair_at_anchor, thread_pair_at_index}
 use Rattle.lfs_operations.specs.Dropping.{IsNextPairDropped, IsLeftByStoppedPairDrop}
 use Rattle.lfs_operations.specs.Removing.{ReportsErrorsOfCommitTakingNoBlock, is_pair_dropped_with_slot, tree_without_named_entry, pair_address_written_by_removal}
 use Rattle.lfs_operations.specs.Unlinking.{CanRemoveDirectory, IsLeftByStoppedUnlink, IsDirectoryEntryUnlinked, ReportsErrorsOfCommitsTakingNoBlock, pair_number_after_drop, content_without_directory_entry}
+use Rattle.lfs_operations.proofs.Putting.{writes_trans, writes_wider}
 use Rattle.lfs_operations.proofs.RemovedWhole.{StandsWhole}
 use Rattle.lfs_operations.proofs.RmdirThread.{left_first, left_second}
 use Rattle.lfs_operations.proofs.UnlinkedWhole.{whole_first, whole_second, written_then}
-use Rattle.lfs_model.proofs.Global.{sync_bit_delta}
 
 -- ---- blocks
-
-pub writes_wider : {bs : List ℕ} (cs : List ℕ) {old new : KeptThread} → ((b : ℕ) → All (λ c. c ≢ b) cs → All (λ c. c ≢ b) bs) → ThreadChangesOnlyTheseBlocks bs old new → ThreadChangesOnlyTheseBlocks cs old new
-writes_wider cs f h = record {
-  others = AreBlocksEqualExceptThese-wider cs f h.others;
-  elsewhere = AreBytesStillUnprogrammed-wider cs f h.elsewhere;
-  shape = h.shape;
-  at_worst = IsTrueAfterAnyPowerLossSince-weaker (λ blocks k. AreBlocksEqualExceptThese-wider cs f k) h.at_worst;
-}
-
-pub writes_trans : {bs : List ℕ} {old mid new : KeptThread} → ThreadChangesOnlyTheseBlocks bs old mid → ThreadChangesOnlyTheseBlocks bs mid new → ThreadChangesOnlyTheseBlocks bs old new
-writes_trans first second = record {
-  others = AreBlocksEqualExceptThese-trans first.others second.others;
-  elsewhere = AreBytesStillUnprogrammed-trans first.elsewhere second.elsewhere;
-  shape = record {
-    block_size = second.shape.block_size ∙ first.shape.block_size;
-    page = second.shape.page ∙ first.shape.page;
-    order = second.shape.order ∙ first.shape.order;
-    profile = second.shape.profile ∙ first.shape.profile;
-    count = second.shape.count ∙ first.shape.count;
-  };
-  at_worst = IsTrueAfterAnyPowerLossSince-trans first.at_worst (IsTrueAfterAnyPowerLossSince-weaker (λ blocks k. AreBlocksEqualExceptThese-trans first.others k) second.at_worst);
-}
 
 first_two : (a b : ℕ × ℕ) (x : ℕ) → All (λ c. c ≢ x) (blocks_of_two_pair_addresses a b) → All (λ c. c ≢ x) (blocks_of_pair_address a)
 first_two a b x h = let k = recursion_from_All (λ (c : ℕ). c ≢ x) (blocks_of_two_pair_addresses a b) h in All-from_recursion (λ c. c ≢ x) (blocks_of_pair_address a) (k.0, (k.1.0, tt))

@@ -1,5 +1,5 @@
 use Rattle.std.proofs.Common.{ap, sym, ◌∙◌, ◌≡◌, Ok, Err}
-use Rattle.std.proofs.lemmas.Result.{err_from_is_err_and}
+use Rattle.lfs_operations.proofs.Common.{err_from_is_err_and}
 use Rattle.lfs_pair.specs.declared.commits.Outcome.{Outcome}
 use Rattle.lfs_pair.specs.declared.commits.Outcome.TheVariants as outcome
 use Rattle.lfs_operations.specs.Editing.{HasRemovedAttribute}

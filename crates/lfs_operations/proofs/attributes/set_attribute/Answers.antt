@@ -1,6 +1,5 @@
 use Rattle.std.proofs.Common.{ap, sym, subst, ◌∙◌, Err, ◌∷◌, []}
-use Rattle.std.proofs.lemmas.Result.{err_from_is_err_and}
-use Rattle.lfs_model.specs.Changes.{PutAttribute}
+use Rattle.lfs_operations.proofs.Common.{err_from_is_err_and, PutAttribute}
 use Rattle.lfs_operations.specs.Changing.{ReportsErrorsOfChangeOrSplit}
 use Rattle.lfs_operations.proofs.Edited.{can_set, has_set, set_survives}
 use Rattle.lfs_operations.proofs.attributes.set_attribute.Goals as goal

@@ -1,12 +1,7 @@
 use Rattle.std.proofs.Common.{arith, ap, sym, subst, ◌∙◌, inl, inr, Ok, Err}
-use Rattle.std.proofs.lemmas.Result.{err_from_is_err_and}
+use Rattle.lfs_operations.proofs.Common.{err_from_is_err_and, IsTrueAfterAnyPowerLossSince-weaker, changes_view, PowerLossLeavesSuchBlocksAfterCleanErases, KeptThread, cached_log}
 use Rattle.lfs_device.specs.declared.error.Error.TheVariants as Error
 use Rattle.lfs_pair.specs.declared.commits.Outcome.TheVariants as Outcome
-use Rattle.lfs_model.proofs.Histories.{IsTrueAfterAnyPowerLossSince-weaker}
-use Rattle.lfs_pair.specs.ChangeView.{changes_view}
-use Rattle.lfs_thread.specs.Device.{PowerLossLeavesSuchBlocksAfterCleanErases}
-use Rattle.lfs_thread.specs.Kept.{KeptThread}
-use Rattle.lfs_thread.specs.CachedLog.{cached_log}
 use Rattle.lfs_operations.specs.Changing.{IsPairSplit, IsLeftByStoppedSplit, ReportsErrorsOfChangeOrSplit, ReportsFaultsChangingNothingAtNoSpace, WritesPairAndTwoFreeBlocks}
 use Rattle.lfs_operations.proofs.Putting.{read_at_most, read_is, cut_later, reports_later, writes_later, stops_later, not_both}
 use Rattle.lfs_operations.proofs.changes.change_or_split_pair.Goals as goal

@@ -1,16 +1,9 @@
 use Rattle.std.proofs.Common.{arith, ap, sym, subst, ◌∙◌, Err}
-use Rattle.std.proofs.lemmas.Result.{err_from_is_err_and}
+use Rattle.lfs_operations.proofs.Common.{err_from_is_err_and, pair_address_of_array, PowerLossLeavesSuchBlocksAfterCleanErases, ThreadView, cached_log, CanSplitPairAtIndex, IoMeantFaultNoMemoryWroteNothing, PowerLossLeavesPairOldOrSplit, IsPairSplitInTwo, ThreadChangesOnlyTheseBlocks, thread_pair_at_index, changes_view, blocks_of_two_pair_addresses}
 use Rattle.lfs_model.specs.History.{read_count_of_history}
-use Rattle.lfs_model.specs.Slots.{pair_address_of_array}
-use Rattle.lfs_thread.specs.Device.{PowerLossLeavesSuchBlocksAfterCleanErases}
-use Rattle.lfs_thread.specs.Kept.{ThreadView}
-use Rattle.lfs_thread.specs.CachedLog.{cached_log}
-use Rattle.lfs_thread.specs.Steps.{CanSplitPairAtIndex, IoMeantFaultNoMemoryWroteNothing, PowerLossLeavesPairOldOrSplit, IsPairSplitInTwo, ThreadChangesOnlyTheseBlocks, thread_pair_at_index}
-use Rattle.lfs_pair.specs.ChangeView.{changes_view}
 use Rattle.lfs_operations.specs.Changing.{WritesPairAndTwoFreeBlocks, map_with_two_blocks_in_flight}
 use Rattle.lfs_operations.proofs.Putting.{read_at_most, can_split, cut_in, stops_by_cut, writes_in, writes_none, reports_state}
 use Rattle.lfs_operations.proofs.changes.split_pair_in_two.Goals as goal
-use Rattle.lfs_model.specs.Thread.{blocks_of_two_pair_addresses}
 
 pub returns-in_default-clause-device : goal.returns-in_default-clause-device
 returns-in_default-clause-device g c =

@@ -1,7 +1,5 @@
 use Rattle.std.proofs.Common.{ap, sym, subst, ◌∙◌, set}
-use Rattle.lfs_model.specs.BlockSets.{BlockStateList, IsBlockFree}
-use Rattle.lfs_model.specs.BlockSets.BlockState.{Free, InFlight}
-use Rattle.lfs_thread.specs.Kept.{ThreadView}
+use Rattle.lfs_operations.proofs.Common.{BlockStateList, IsBlockFree, Free, InFlight, ThreadView}
 use Rattle.lfs_operations.proofs.Taking.{two_free, not_two, put_back}
 use Rattle.lfs_operations.proofs.changes.take_two_free_blocks.Goals as goal
 

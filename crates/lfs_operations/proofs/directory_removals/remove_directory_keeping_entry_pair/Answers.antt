@@ -1,8 +1,5 @@
 use Rattle.std.proofs.Common.{ap, sym, subst, ◌∙◌, ◌-◌, Err}
-use Rattle.std.proofs.lemmas.Result.{err_from_is_err_and}
-use Rattle.lfs_model.specs.Slots.{Gstate}
-use Rattle.lfs_thread.specs.Device.{PowerLossLeavesSuchBlocksAfterCleanErases}
-use Rattle.lfs_thread.specs.Steps.{ThreadChangesOnlyTheseBlocks, thread_pair_at_index}
+use Rattle.lfs_operations.proofs.Common.{err_from_is_err_and, Gstate, PowerLossLeavesSuchBlocksAfterCleanErases, ThreadChangesOnlyTheseBlocks, thread_pair_at_index, blocks_of_pair_address, blocks_of_two_pair_addresses}
 use Rattle.lfs_operations.specs.Dropping.{CanDropPairAt, IsNextPairDropped, IsLeftByStoppedPairDrop}
 use Rattle.lfs_operations.proofs.AlteredDrops.{beside_alters}
 use Rattle.lfs_operations.proofs.Removed.{reports_again}
@@ -10,7 +7,6 @@ use Rattle.lfs_operations.proofs.LastDrop.{can_drop_last}
 use Rattle.lfs_operations.proofs.RmdirThread.{directory_removed, may_go}
 use Rattle.lfs_operations.proofs.UnlinkedSteps.{both_survive, first_survives, steps_from, steps_then, writes_first, writes_two, written_beside}
 use Rattle.lfs_operations.proofs.directory_removals.remove_directory_keeping_entry_pair.Goals as goal
-use Rattle.lfs_model.specs.Thread.{blocks_of_pair_address, blocks_of_two_pair_addresses}
 
 pub drop_pair_at-requires-clause-can : goal.drop_pair_at-requires-clause-can
 drop_pair_at-requires-clause-can g c =

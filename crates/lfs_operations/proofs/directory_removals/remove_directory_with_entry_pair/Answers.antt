@@ -1,10 +1,6 @@
 use Rattle.std.proofs.Common.{ℕ, ◌≡◌, sym, subst, ◌∙◌, ◌-◌, ap, Err}
-use Rattle.std.proofs.lemmas.Result.{err_from_is_err_and}
-use Rattle.lfs_model.specs.Slots.{Gstate, zero_gstate}
+use Rattle.lfs_operations.proofs.Common.{err_from_is_err_and, Gstate, zero_gstate, PowerLossLeavesSuchBlocksAfterCleanErases, KeptThread, ThreadChangesOnlyTheseBlocks, thread_pair_at_index, blocks_of_pair_address, blocks_of_two_pair_addresses}
 use Rattle.lfs_tag.specs.FieldsView.{move_view}
-use Rattle.lfs_thread.specs.Device.{PowerLossLeavesSuchBlocksAfterCleanErases}
-use Rattle.lfs_thread.specs.Kept.{KeptThread}
-use Rattle.lfs_thread.specs.Steps.{ThreadChangesOnlyTheseBlocks, thread_pair_at_index}
 use Rattle.lfs_operations.specs.Dropping.{CanDropPairAt, IsNextPairDropped, IsLeftByStoppedPairDrop}
 use Rattle.lfs_operations.specs.Unlinking.{pair_number_after_drop}
 use Rattle.lfs_operations.proofs.AlteredDrops.{whole_alters}
@@ -14,7 +10,6 @@ use Rattle.lfs_operations.proofs.LastDrop.{can_drop_last}
 use Rattle.lfs_operations.proofs.UnlinkedWhole.{can_drop_entry, may_go, whole_removed}
 use Rattle.lfs_operations.proofs.UnlinkedSteps.{both_survive_whole, first_survives_whole, steps_from, steps_then, writes_first, writes_whole, written_whole}
 use Rattle.lfs_operations.proofs.directory_removals.remove_directory_with_entry_pair.Goals as goal
-use Rattle.lfs_model.specs.Thread.{blocks_of_pair_address, blocks_of_two_pair_addresses}
 
 then_dropped : (m : KeptThread) (i j : ℕ) (s : Gstate) (new : KeptThread) → i ≡ j → s ≡ zero_gstate → IsNextPairDropped m (i - 1) s new → IsNextPairDropped m (j - 1) zero_gstate new
 then_dropped m i j s new e f h = subst (λ (k : ℕ). IsNextPairDropped m (k - 1) zero_gstate new) e (subst (λ z. IsNextPairDropped m (i - 1) z new) f h)

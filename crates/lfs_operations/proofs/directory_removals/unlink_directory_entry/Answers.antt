@@ -1,14 +1,8 @@
 use Rattle.std.proofs.Common.{ap, ap₂, sym, subst, ◌∙◌, ◌≡◌, ◌∷◌, [], ℕ, Ok, Err}
-use Rattle.std.proofs.lemmas.Result.{err_from_is_err_and}
-use Rattle.lfs_model.specs.Changes.{Delete, PutMove}
-use Rattle.lfs_model.specs.Slots.{Gstate, gstate_xor}
-use Rattle.lfs_model.proofs.Global.{sync_bit_delta}
+use Rattle.lfs_operations.proofs.Common.{err_from_is_err_and, Delete, PutMove, Gstate, gstate_xor, sync_bit_delta, IsTrueAfterAnyPowerLossSince-weaker, KeptThread, CanChangePair, IsPairChanged, PowerLossLeavesPairOldOrChanged, IsCommitRefused, thread_pair_at_index}
 use Rattle.lfs_tag.specs.FieldsView.{move_view}
-use Rattle.lfs_model.proofs.Histories.{IsTrueAfterAnyPowerLossSince-weaker}
 use Rattle.lfs_pair.specs.declared.commits.Outcome.{Outcome}
 use Rattle.lfs_pair.specs.declared.commits.Outcome.TheVariants as outcome
-use Rattle.lfs_thread.specs.Kept.{KeptThread}
-use Rattle.lfs_thread.specs.Steps.{CanChangePair, IsPairChanged, PowerLossLeavesPairOldOrChanged, IsCommitRefused, thread_pair_at_index}
 use Rattle.lfs_operations.specs.Unlinking.{IsDirectoryEntryUnlinked, directory_unlink_changes}
 use Rattle.lfs_operations.proofs.Removed.{reports_again}
 use Rattle.lfs_operations.proofs.Unlinked.{can_unlink, has_unlinked, left_by_unlink, unlink_not_refused}

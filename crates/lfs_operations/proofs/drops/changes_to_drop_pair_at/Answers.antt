@@ -1,12 +1,7 @@
 use Rattle.std.proofs.Common.{ℕ, ◌≡◌, ◌+◌, ◌-◌, ◌<◌, [], ◌∷◌, Some, length, subst, ap, ap₂, ◌∙◌, arith}
-use Rattle.std.proofs.lemmas.List.Elements.{recursion_from_All}
+use Rattle.lfs_operations.proofs.Common.{recursion_from_All, PairContentChange, PutMove, content_of_pair_at, Disk, Pair, complete_content_after_changes, thread_pair_at_index, change_that_sets_tail}
 use Rattle.lfs_device.specs.Bytes.{AreAllBlockElementsBelow256}
-use Rattle.lfs_model.specs.Changes.{PairContentChange, PutMove}
-use Rattle.lfs_model.specs.Content.{content_of_pair_at}
-use Rattle.lfs_model.specs.Disk.{Disk}
-use Rattle.lfs_model.specs.Thread.{Pair}
 use Rattle.lfs_tag.specs.FieldsView.{move_view}
-use Rattle.lfs_thread.specs.Steps.{complete_content_after_changes, thread_pair_at_index, change_that_sets_tail}
 use Rattle.lfs_operations.specs.Dropping.{tail_over_dropped_pair}
 use Rattle.lfs_operations.proofs.DroppedTails.{taking_made}
 use Rattle.lfs_operations.proofs.drops.changes_to_drop_pair_at.Goals as goal

@@ -1,14 +1,8 @@
 use Rattle.std.proofs.Common.{ℕ, ◌≡◌, ◌+◌, ◌-◌, ◌<◌, List, Some, length, Ok, Err, subst, sym, ap, ◌∙◌, arith}
-use Rattle.std.proofs.lemmas.Result.{err_from_is_err_and}
-use Rattle.lfs_model.proofs.Histories.{IsTrueAfterAnyPowerLossSince-weaker}
+use Rattle.lfs_operations.proofs.Common.{err_from_is_err_and, IsTrueAfterAnyPowerLossSince-weaker, changes_view, PairContentChange, CanDropNextPair, IsPairAfterIndexDropped, PowerLossLeavesPairOldOrChanged, IsCommitRefused, complete_content_after_changes, KeptThread, Gstate}
 use Rattle.lfs_pair.specs.declared.commits.Outcome.{Outcome}
 use Rattle.lfs_pair.specs.declared.commits.Outcome.TheVariants as outcome
-use Rattle.lfs_pair.specs.ChangeView.{changes_view}
-use Rattle.lfs_model.specs.Changes.{PairContentChange}
 use Rattle.lfs_tag.specs.FieldsView.{move_view}
-use Rattle.lfs_thread.specs.Steps.{CanDropNextPair, IsPairAfterIndexDropped, PowerLossLeavesPairOldOrChanged, IsCommitRefused, complete_content_after_changes}
-use Rattle.lfs_thread.specs.Kept.{KeptThread}
-use Rattle.lfs_model.specs.Slots.{Gstate}
 use Rattle.lfs_operations.specs.Dropping.{CanDropPairAt, IsNextPairDropped, drop_next_pair_changes, content_after_next_pair_drop}
 use Rattle.lfs_operations.proofs.DroppedTails.{can_drop, drop_not_refused, has_dropped, left_by_drop}
 use Rattle.lfs_operations.proofs.Removed.{reports_again}

@@ -1,6 +1,5 @@
 use Rattle.std.proofs.Common.{sym, subst, ◌-◌}
-use Rattle.lfs_model.specs.Slots.{Gstate}
-use Rattle.lfs_thread.specs.Device.{PowerLossLeavesSuchBlocksAfterCleanErases}
+use Rattle.lfs_operations.proofs.Common.{Gstate, PowerLossLeavesSuchBlocksAfterCleanErases}
 use Rattle.lfs_operations.specs.Dropping.{CanDropPairAt, IsNextPairDropped, IsLeftByStoppedPairDrop}
 use Rattle.lfs_operations.proofs.MovEndGoes.{can_drop_moved, goes_survives, has_gone}
 use Rattle.lfs_operations.proofs.moves.end_move_dropping_pair.Goals as goal

@@ -1,12 +1,7 @@
 use Rattle.std.proofs.Common.{false, ap, sym, subst, ◌∙◌, ◌≡◌, [], ◌∷◌, Ok, Err}
-use Rattle.std.proofs.lemmas.Result.{err_from_is_err_and}
+use Rattle.lfs_operations.proofs.Common.{err_from_is_err_and, Delete, PutMove, Are32BitPairAddresses, Gstate, PowerLossLeavesSuchBlocksAfterCleanErases, CanChangePair, IsPairChanged, PowerLossLeavesPairOldOrChanged, IsCommitRefused}
 use Rattle.lfs_pair.specs.declared.commits.Outcome.{Outcome}
 use Rattle.lfs_pair.specs.declared.commits.Outcome.TheVariants as outcome
-use Rattle.lfs_model.specs.Changes.{Delete, PutMove}
-use Rattle.lfs_model.specs.LoggedContent.{Are32BitPairAddresses}
-use Rattle.lfs_model.specs.Slots.{Gstate}
-use Rattle.lfs_thread.specs.Device.{PowerLossLeavesSuchBlocksAfterCleanErases}
-use Rattle.lfs_thread.specs.Steps.{CanChangePair, IsPairChanged, PowerLossLeavesPairOldOrChanged, IsCommitRefused}
 use Rattle.lfs_operations.specs.MoveEnds.{HasEndedMoveAt, delta_without_move}
 use Rattle.lfs_operations.proofs.MovEnding.{can_end, end_not_refused, end_survives, has_ended}
 use Rattle.lfs_operations.proofs.Removed.{reports_again}

@@ -1,13 +1,10 @@
 use Rattle.std.proofs.Common.{ℕ, ap, ap₂, length, sym, subst, ◌∙◌, ◌-◌, arith, Err}
-use Rattle.std.proofs.lemmas.Result.{err_from_is_err_and}
-use Rattle.lfs_pair.specs.ChangeView.{changes_view}
+use Rattle.lfs_operations.proofs.Common.{err_from_is_err_and, changes_view, ThreadChangesOnlyTheseBlocks, thread_pair_at_index, blocks_of_pair_address}
 use Rattle.lfs_operations.specs.MoveEnds.{CanEndMoveAt, HasEndedMoveAt, pair_written_at_move_end}
 use Rattle.lfs_operations.specs.MovingSteps.{ReportsErrorsOfCommitsTakingBlocks, pair_number_after_insertion}
 use Rattle.lfs_operations.proofs.MovReporting.{not_io, survives_both, reports_of_end, writes_at_end, writes_first}
 use Rattle.lfs_operations.proofs.OntoWritten.{end_within, put_within}
-use Rattle.lfs_thread.specs.Steps.{ThreadChangesOnlyTheseBlocks, thread_pair_at_index}
 use Rattle.lfs_operations.proofs.moves.put_changes_and_end_move.Goals as goal
-use Rattle.lfs_model.specs.Thread.{blocks_of_pair_address}
 
 pub returns-in_err-change_or_split_pair-clause-device : goal.returns-in_err-change_or_split_pair-clause-device
 returns-in_err-change_or_split_pair-clause-device g c = writes_first c.args.thread.now.kept c.change_or_split_pair.new.thread.kept (pair_written_at_move_end c.args.old_pair c.args.goes) c.args.new_pair c.change_or_split_pair.ensures.device

@@ -1,8 +1,6 @@
 use Rattle.std.proofs.Common.{ap, ap₂, sym, subst, ◌∙◌, ◌∷◌, Err}
-use Rattle.std.proofs.lemmas.Result.{err_from_is_err_and}
+use Rattle.lfs_operations.proofs.Common.{err_from_is_err_and, PutMove, changes_view}
 use Rattle.lfs_device.specs.declared.error.Error.TheVariants as Error
-use Rattle.lfs_model.specs.Changes.{PutMove}
-use Rattle.lfs_pair.specs.ChangeView.{changes_view}
 use Rattle.lfs_operations.specs.Changing.{CanChangeOrSplitPair, IsPairChangedOrSplit}
 use Rattle.lfs_operations.specs.MoveEnds.{pair_written_at_move_end}
 use Rattle.lfs_operations.specs.MovingSteps.{CanEndMoveAfterFirstCommit, IsSlotPutAndMoveEnded, SurvivesBothMoveCommits, ReportsErrorsOfCommitsTakingBlocks, WritesTwoPairsAndTwoFreeBlocks, pair_written_by_second_move_commit}

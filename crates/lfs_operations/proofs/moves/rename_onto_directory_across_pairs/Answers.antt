@@ -1,11 +1,5 @@
 use Rattle.std.proofs.Common.{ap, sym, subst, false, true, ◌∙◌, ◌-◌, ◌≡◌, Err, arith}
-use Rattle.std.specs.List.{AllByRecursion}
-use Rattle.std.proofs.lemmas.Result.{err_from_is_err_and}
-use Rattle.lfs_model.specs.InDirectory.{IsPairAtAddress}
-use Rattle.lfs_model.specs.Slots.{Gstate, same_pair}
-use Rattle.lfs_model.specs.Thread.{Pair}
-use Rattle.lfs_model.specs.Shown.{tree_on_disk}
-use Rattle.lfs_thread.specs.Device.{PowerLossLeavesSuchBlocksAfterCleanErases}
+use Rattle.lfs_operations.proofs.Common.{AllByRecursion, err_from_is_err_and, IsPairAtAddress, Gstate, same_pair, Pair, tree_on_disk, PowerLossLeavesSuchBlocksAfterCleanErases}
 use Rattle.lfs_operations.specs.Dropping.{CanDropPairAt, IsNextPairDropped, IsLeftByStoppedPairDrop}
 use Rattle.lfs_operations.specs.MovingSteps.{ReportsErrorsOfCommitsTakingBlocks, pair_written_by_second_move_commit}
 use Rattle.lfs_operations.specs.MovingAcross.{tree_with_moved_entry}

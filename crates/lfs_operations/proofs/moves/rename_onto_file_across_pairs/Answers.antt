@@ -2,13 +2,12 @@ use Rattle.std.proofs.Common.{false, refl, Result, Ok, Err}
 use Rattle.std.specs.Prelude.{OnOk}
 use Rattle.lfs_device.specs.declared.error.Error.{Error}
 use Rattle.lfs_operations.specs.MovingOnto.{CanReplaceFileAcrossPairs, IsEntryReplacedAcrossPairs, IsFileReplacedAcrossPairs}
-use Rattle.lfs_thread.specs.Steps.{thread_pair_at_index}
+use Rattle.lfs_operations.proofs.Common.{thread_pair_at_index, blocks_of_two_pair_addresses}
 use Rattle.lfs_operations.specs.Altering.{ChangesOnlyGivenAlteredOrFreeBlocks}
 use Rattle.lfs_operations.proofs.AlteredLater.{altered_onto_file}
 use Rattle.lfs_operations.proofs.MovLater.{replaced_later}
 use Rattle.lfs_operations.proofs.MovReplace.{onto_file}
 use Rattle.lfs_operations.proofs.moves.rename_onto_file_across_pairs.Goals as goal
-use Rattle.lfs_model.specs.Thread.{blocks_of_two_pair_addresses}
 
 pub replace_entry_across_pairs-requires-clause-can : goal.replace_entry_across_pairs-requires-clause-can
 replace_entry_across_pairs-requires-clause-can g c = onto_file c.requires.can

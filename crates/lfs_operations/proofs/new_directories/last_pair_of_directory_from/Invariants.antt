@@ -1,5 +1,5 @@
 use Rattle.std.proofs.Common.{◌≡◌, ◌<◌, ◌+◌, ◌-◌, length, drop}
-use Rattle.lfs_model.specs.InDirectory.{hard_tail_joined_pair_count}
+use Rattle.lfs_operations.proofs.Common.{hard_tail_joined_pair_count}
 use Rattle.lfs_operations.proofs.new_directories.last_pair_of_directory_from.Given as goal
 
 abbrev pub invariant-loop-next : goal.invariant-loop-next

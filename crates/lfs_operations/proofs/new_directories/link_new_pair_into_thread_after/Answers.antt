@@ -1,16 +1,11 @@
 use Rattle.std.proofs.Common.{ap, sym, subst, ◌∙◌, ◌≡◌, ◌∷◌, [], false, Some, Ok, Err}
-use Rattle.std.proofs.lemmas.Result.{err_from_is_err_and}
-use Rattle.lfs_model.specs.Changes.{PutMove, PutTail}
-use Rattle.lfs_model.specs.Slots.{Gstate, pair_address_of_array}
-use Rattle.lfs_model.proofs.Global.{gstate_with_inverted_sync_bit}
+use Rattle.lfs_operations.proofs.Common.{err_from_is_err_and, PutMove, PutTail, Gstate, pair_address_of_array, gstate_with_inverted_sync_bit, IsFreshPairThreadedIn, complete_content_after_changes, thread_pair_at_index, blocks_of_pair_address}
 use Rattle.lfs_pair.specs.declared.commits.Outcome.{Outcome}
 use Rattle.lfs_pair.specs.declared.commits.Outcome.TheVariants as outcome
 use Rattle.lfs_tag.specs.FieldsView.{move_view}
-use Rattle.lfs_thread.specs.Steps.{IsFreshPairThreadedIn, complete_content_after_changes, thread_pair_at_index}
 use Rattle.lfs_operations.specs.Making.{changes_threading_new_pair}
 use Rattle.lfs_operations.proofs.MakingReported.{reported_again}
 use Rattle.lfs_operations.proofs.new_directories.link_new_pair_into_thread_after.Goals as goal
-use Rattle.lfs_model.specs.Thread.{blocks_of_pair_address}
 
 pub returns-in_err-thread_in-clause-errors : goal.returns-in_err-thread_in-clause-errors
 returns-in_err-thread_in-clause-errors g c =

@@ -1,13 +1,6 @@
 use Rattle.std.proofs.Common.{ap, sym, subst, ◌∙◌, arith, Err}
-use Rattle.std.proofs.lemmas.Result.{err_from_is_err_and}
+use Rattle.lfs_operations.proofs.Common.{err_from_is_err_and, Disk, HasTreeBeforeOrAfterOperation, pair_address_of_array, tree_on_disk, PowerLossLeavesSuchBlocksAfterCleanErases, ThreadView, CanThreadInFreshPair, IoMeantFaultNoMemoryKeptOtherBlocks, IsFreshPairThreadedIn, PowerLossLeavesPairOldOrThreadedIn, ThreadChangesOnlyTheseBlocks, thread_pair_at_index, blocks_of_pair_address, blocks_of_two_pair_addresses}
 use Rattle.lfs_device.specs.declared.error.Error.TheVariants as Error
-use Rattle.lfs_model.specs.Disk.{Disk}
-use Rattle.lfs_model.specs.PowerLoss.{HasTreeBeforeOrAfterOperation}
-use Rattle.lfs_model.specs.Slots.{pair_address_of_array}
-use Rattle.lfs_model.specs.Shown.{tree_on_disk}
-use Rattle.lfs_thread.specs.Device.{PowerLossLeavesSuchBlocksAfterCleanErases}
-use Rattle.lfs_thread.specs.Kept.{ThreadView}
-use Rattle.lfs_thread.specs.Steps.{CanThreadInFreshPair, IoMeantFaultNoMemoryKeptOtherBlocks, IsFreshPairThreadedIn, PowerLossLeavesPairOldOrThreadedIn, ThreadChangesOnlyTheseBlocks, thread_pair_at_index}
 use Rattle.lfs_operations.specs.Changing.{IsLeftByStoppedChangeOrSplit, map_with_two_blocks_in_flight}
 use Rattle.lfs_operations.specs.Making.{FitsPairWithTailToNewPair, ReportsErrorsOfMakingDirectory, changes_adding_entry_for_directory_pair, changes_threading_new_pair, tree_with_new_directory}
 use Rattle.lfs_operations.proofs.MakingCounts.{no_room}
@@ -16,7 +9,6 @@ use Rattle.lfs_operations.proofs.MakingWrites.{survives_both, survives_by, write
 use Rattle.lfs_operations.proofs.Mkdir.{at_still, can_enter, can_thread, left_by_entering, left_by_threading, left_between, left_unthreaded, made_alters, made_is, room_left, thread_fits, threaded_now}
 use Rattle.lfs_operations.proofs.Putting.{not_both, with_map}
 use Rattle.lfs_operations.proofs.new_directories.make_directory.Goals as goal
-use Rattle.lfs_model.specs.Thread.{blocks_of_pair_address, blocks_of_two_pair_addresses}
 
 pub returns-in_default-clause-errors : goal.returns-in_default-clause-errors
 returns-in_default-clause-errors g c = let room = c.requires.can.room in absurd (no_room c.args.thread.now.kept.map c.in_default.ensures.none (omega arith))

@@ -1,9 +1,6 @@
 use Rattle.std.proofs.Common.{ap, sym, subst, ◌∙◌, ◌∷◌, [], Err}
-use Rattle.std.proofs.lemmas.Result.{err_from_is_err_and}
-use Rattle.lfs_model.specs.Changes.{Create, PutMove, PutStruct}
-use Rattle.lfs_model.specs.EntryTypes.{directory_name_type, directory_struct_type}
-use Rattle.lfs_model.specs.Slots.{Gstate}
-use Rattle.lfs_model.proofs.Global.{gstate_with_inverted_sync_bit}
+use Rattle.lfs_operations.proofs.Common.{err_from_is_err_and, PutMove, PutStruct, directory_name_type, directory_struct_type, Gstate, gstate_with_inverted_sync_bit}
+use Rattle.lfs_model.specs.Changes.{Create}
 use Rattle.lfs_tag.specs.FieldsView.{move_view}
 use Rattle.lfs_operations.specs.Changing.{IsPairChangedOrSplit, ReportsErrorsOfChangeOrSplit}
 use Rattle.lfs_operations.proofs.new_directories.put_directory_entry_in_pair.Goals as goal

@@ -1,8 +1,5 @@
 use Rattle.std.proofs.Common.{ap, sym, subst, ◌∙◌, Err}
-use Rattle.std.proofs.lemmas.Result.{err_from_is_err_and}
-use Rattle.lfs_model.specs.Slots.{pair_address_of_array}
-use Rattle.lfs_model.specs.WrittenContent.{bytes_of_pair_address}
-use Rattle.lfs_thread.specs.Device.{PowerLossLeavesSuchBlocksAfterCleanErases}
+use Rattle.lfs_operations.proofs.Common.{err_from_is_err_and, pair_address_of_array, bytes_of_pair_address, PowerLossLeavesSuchBlocksAfterCleanErases}
 use Rattle.lfs_operations.specs.Changing.{IsLeftByStoppedChangeOrSplit, IsPairChangedOrSplit, ReportsErrorsOfChangeOrSplit}
 use Rattle.lfs_operations.specs.Making.{directory_entry_changes}
 use Rattle.lfs_operations.proofs.new_directories.put_entry_of_new_directory.Goals as goal

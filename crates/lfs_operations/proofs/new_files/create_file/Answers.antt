@@ -1,5 +1,5 @@
 use Rattle.std.proofs.Common.{ap, sym, subst, ◌∙◌, Err}
-use Rattle.std.proofs.lemmas.Result.{err_from_is_err_and}
+use Rattle.lfs_operations.proofs.Common.{err_from_is_err_and}
 use Rattle.lfs_operations.specs.Changing.{ReportsErrorsOfChangeOrSplit}
 use Rattle.lfs_operations.specs.Creating.{file_creation_changes}
 use Rattle.lfs_operations.proofs.Created.{alters, can_put, created, create_survives}

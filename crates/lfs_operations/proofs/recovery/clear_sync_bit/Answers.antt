@@ -1,10 +1,7 @@
 use Rattle.std.proofs.Common.{◌≡◌, ◌+◌, ◌-◌, ap, sym, subst, ◌∙◌, length, arith, Some}
-use Rattle.lfs_model.specs.Slots.{Gstate}
-use Rattle.lfs_thread.specs.Device.{PowerLossLeavesSuchBlocksAfterCleanErases}
-use Rattle.lfs_thread.specs.Steps.{IsPairChanged, PowerLossLeavesPairOldOrChanged, complete_content_after_changes}
+use Rattle.lfs_operations.proofs.Common.{Gstate, PowerLossLeavesSuchBlocksAfterCleanErases, IsPairChanged, PowerLossLeavesPairOldOrChanged, complete_content_after_changes, blocks_of_pairs}
 use Rattle.lfs_operations.specs.Deltas.{gstate_setting_changes, content_reaching_gstate}
 use Rattle.lfs_operations.proofs.RecoverEnd.{clear_survives, cleared, cleared_already, enough}
-use Rattle.lfs_model.specs.Thread.{blocks_of_pairs}
 use Rattle.lfs_operations.proofs.RecoverWrites.{two_fewer, writes_fewer, writes_none}
 use Rattle.lfs_operations.proofs.recovery.clear_sync_bit.Goals as goal
 

@@ -1,13 +1,11 @@
 use Rattle.std.proofs.Common.{suc, ◌≡◌, ◌+◌, ◌-◌, ap, sym, subst, ◌∙◌, drop, length, arith, refl, Err}
 use Rattle.std.specs.Prelude.{slice_index_or}
-use Rattle.std.proofs.lemmas.Result.{err_from_is_err_and}
+use Rattle.lfs_operations.proofs.Common.{err_from_is_err_and, blocks_of_pairs, gstate_of_pairs, KeptThread}
 use Rattle.lfs_tag.specs.FieldsView.{move_view}
-use Rattle.lfs_model.specs.Thread.{blocks_of_pairs, gstate_of_pairs}
-use Rattle.lfs_thread.specs.Kept.{KeptThread}
 use Rattle.lfs_operations.proofs.RecoverEnd.{can_end, end_survives, ends, none_reported, reports_steps}
 use Rattle.lfs_operations.proofs.RecoverUnderWay.{IsUnderWay, begins, can_take, drop_all, indexes, moves_on, next_at, stays_by, survives_on, wanted, way_at, writes_on}
 use Rattle.lfs_operations.proofs.RecoverWrites.{writes_fewer}
-use Rattle.lfs_operations.proofs.UnlinkedSteps.{writes_trans}
+use Rattle.lfs_operations.proofs.Putting.{writes_trans}
 use Rattle.lfs_operations.proofs.recovery.drop_unreached_pairs.Goals as goal
 
 pub loop-dropped-init : goal.loop-dropped-init

@@ -1,5 +1,5 @@
 use Rattle.std.proofs.Common.{◌≡◌, ◌≤◌, drop, false, length}
-use Rattle.lfs_model.specs.History.{fault_count_of_history}
+use Rattle.lfs_operations.proofs.Common.{fault_count_of_history}
 use Rattle.lfs_operations.proofs.RecoverUnderWay.{IsUnderWay}
 use Rattle.lfs_operations.proofs.recovery.drop_unreached_pairs.Given as goal
 

@@ -1,14 +1,11 @@
 use Rattle.std.proofs.Common.{ℕ, ◌≡◌, Bool, ap, sym, subst₂, ◌∙◌, Err, refl}
-use Rattle.std.proofs.lemmas.Result.{err_from_is_err_and}
-use Rattle.lfs_model.specs.Slots.{Gstate}
-use Rattle.lfs_model.specs.Thread.{blocks_of_pairs, gstate_of_pairs}
+use Rattle.lfs_operations.proofs.Common.{err_from_is_err_and, Gstate, blocks_of_pairs, gstate_of_pairs, thread_pair_at_index}
 use Rattle.lfs_operations.specs.MoveEnds.{CanEndMoveAt, HasEndedMoveAt, pair_written_at_move_end}
 use Rattle.lfs_operations.proofs.MakingContents.{logged_there}
 use Rattle.lfs_operations.proofs.RecoverEnd.{reports_steps}
 use Rattle.lfs_operations.proofs.RecoverEnded.{can_at, ended_at, written_below}
 use Rattle.lfs_operations.proofs.RecoverWrites.{two_fewer, writes_fewer}
 use Rattle.lfs_operations.proofs.recovery.end_move.Goals as goal
-use Rattle.lfs_thread.specs.Steps.{thread_pair_at_index}
 
 pub end_move-requires-clause-can : goal.end_move-requires-clause-can
 end_move-requires-clause-can g c =

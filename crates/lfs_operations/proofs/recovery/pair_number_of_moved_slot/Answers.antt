@@ -1,8 +1,6 @@
 use Rattle.std.proofs.Common.{ℕ, ◌≡◌, ap, sym, subst, ◌∙◌, false}
 use Rattle.std.specs.Prelude.{IfNone, IfSome}
-use Rattle.std.specs.List.{AllByRecursion}
-use Rattle.lfs_model.specs.InDirectory.{IsPairAtAddress}
-use Rattle.lfs_model.specs.Slots.{Gstate, same_pair}
+use Rattle.lfs_operations.proofs.Common.{AllByRecursion, IsPairAtAddress, Gstate, same_pair}
 use Rattle.lfs_operations.proofs.RecoverMoved.{found_none, found_there}
 use Rattle.lfs_operations.proofs.recovery.pair_number_of_moved_slot.Goals as goal
 

@@ -1,11 +1,8 @@
 use Rattle.std.proofs.Common.{◌≡◌, ap, sym, subst, ◌∙◌, Ok, Err, ◌∷◌, []}
-use Rattle.std.proofs.lemmas.Result.{err_from_is_err_and}
-use Rattle.lfs_model.specs.Changes.{PutMove}
-use Rattle.lfs_model.specs.Slots.{Gstate}
+use Rattle.lfs_operations.proofs.Common.{err_from_is_err_and, PutMove, Gstate, CanChangePair, IsPairChanged, IsCommitRefused}
 use Rattle.lfs_tag.specs.FieldsView.{move_view}
 use Rattle.lfs_pair.specs.declared.commits.Outcome.{Outcome}
 use Rattle.lfs_pair.specs.declared.commits.Outcome.TheVariants as outcome
-use Rattle.lfs_thread.specs.Steps.{CanChangePair, IsPairChanged, IsCommitRefused}
 use Rattle.lfs_operations.specs.Deltas.{gstate_setting_changes}
 use Rattle.lfs_operations.proofs.RecoverDeltas.{can_set, set_made, set_not_refused}
 use Rattle.lfs_operations.proofs.Removed.{reports_again}

@@ -1,9 +1,7 @@
 use Rattle.std.proofs.Common.{ap, sym, subst, ◌∙◌, ◌≡◌, ◌-◌, Ok, Err, false}
-use Rattle.std.proofs.lemmas.Result.{err_from_is_err_and}
-use Rattle.lfs_model.specs.Slots.{Gstate, zero_gstate}
+use Rattle.lfs_operations.proofs.Common.{err_from_is_err_and, Gstate, zero_gstate, PowerLossLeavesSuchBlocksAfterCleanErases}
 use Rattle.lfs_pair.specs.declared.commits.Outcome.{Outcome}
 use Rattle.lfs_pair.specs.declared.commits.Outcome.TheVariants as outcome
-use Rattle.lfs_thread.specs.Device.{PowerLossLeavesSuchBlocksAfterCleanErases}
 use Rattle.lfs_operations.specs.Dropping.{CanDropPairAt, IsNextPairDropped, IsLeftByStoppedPairDrop}
 use Rattle.lfs_operations.specs.Editing.{slot_of_editable_entry}
 use Rattle.lfs_operations.specs.Removing.{IsFileRemoved, is_pair_dropped_with_slot}

@@ -1,9 +1,6 @@
 use Rattle.std.proofs.Common.{ap, sym, subst, ◌∙◌, ◌∷◌, Err}
-use Rattle.std.proofs.lemmas.Result.{err_from_is_err_and}
+use Rattle.lfs_operations.proofs.Common.{err_from_is_err_and, Delete, changes_view, PowerLossLeavesSuchBlocksAfterCleanErases}
 use Rattle.lfs_device.specs.declared.error.Error.TheVariants as Error
-use Rattle.lfs_model.specs.Changes.{Delete}
-use Rattle.lfs_pair.specs.ChangeView.{changes_view}
-use Rattle.lfs_thread.specs.Device.{PowerLossLeavesSuchBlocksAfterCleanErases}
 use Rattle.lfs_operations.specs.Changing.{CanChangeOrSplitPair, IsLeftByStoppedChangeOrSplit, IsPairChangedOrSplit, ReportsErrorsOfChangeOrSplit}
 use Rattle.lfs_operations.specs.Renaming.{ReportsErrorsOfReadThenChangeOrSplit, id_after_slot_removal, rename_onto_file_in_pair_changes, tree_with_renamed_entry}
 use Rattle.lfs_operations.specs.RenamingSlots.{slot_creation_changes}

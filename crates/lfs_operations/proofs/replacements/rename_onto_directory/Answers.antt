@@ -1,9 +1,5 @@
 use Rattle.std.proofs.Common.{ap, sym, subst, ◌∙◌, ◌-◌, Err}
-use Rattle.std.proofs.lemmas.Result.{err_from_is_err_and}
-use Rattle.lfs_model.specs.Slots.{Gstate}
-use Rattle.lfs_model.specs.Shown.{tree_on_disk}
-use Rattle.lfs_thread.specs.Device.{PowerLossLeavesSuchBlocksAfterCleanErases}
-use Rattle.lfs_thread.specs.Steps.{thread_pair_at_index}
+use Rattle.lfs_operations.proofs.Common.{err_from_is_err_and, Gstate, tree_on_disk, PowerLossLeavesSuchBlocksAfterCleanErases, thread_pair_at_index, blocks_of_pair_address}
 use Rattle.lfs_operations.specs.Dropping.{CanDropPairAt, IsNextPairDropped, IsLeftByStoppedPairDrop}
 use Rattle.lfs_operations.specs.Renaming.{tree_with_renamed_entry}
 use Rattle.lfs_operations.specs.RenamingOver.{ReportsErrorsOfReadThenCommits, replace_directory_in_pair_changes}
@@ -13,7 +9,6 @@ use Rattle.lfs_operations.proofs.OntoWithin.{left_within, renamed_onto_directory
 use Rattle.lfs_operations.proofs.UnlinkedSteps.{writes_first}
 use Rattle.lfs_operations.proofs.Removed.{reports_again}
 use Rattle.lfs_operations.proofs.replacements.rename_onto_directory.Goals as goal
-use Rattle.lfs_model.specs.Thread.{blocks_of_pair_address}
 use Rattle.lfs_operations.proofs.LastDrop.{can_drop_last}
 
 pub returns-in_err-rename_over_directory_in_pair-clause-errors : goal.returns-in_err-rename_over_directory_in_pair-clause-errors

@@ -1,15 +1,8 @@
 use Rattle.std.proofs.Common.{ap, ap₂, refl, sym, subst, ◌∙◌, ◌∷◌, ◌≡◌, Ok, Err}
-use Rattle.std.proofs.lemmas.Result.{err_from_is_err_and}
+use Rattle.lfs_operations.proofs.Common.{err_from_is_err_and, Delete, PutMove, gstate_xor, sync_bit_delta, changes_view, PowerLossLeavesSuchBlocksAfterCleanErases, KeptThread, CanChangePair, IsPairChanged, PowerLossLeavesPairOldOrChanged, IsCommitRefused, ThreadChangesOnlyTheseBlocks, thread_pair_at_index, blocks_of_pair_address}
 use Rattle.lfs_device.specs.declared.error.Error.TheVariants as Error
-use Rattle.lfs_model.specs.Changes.{Delete, PutMove}
-use Rattle.lfs_model.specs.Slots.{gstate_xor}
-use Rattle.lfs_model.proofs.Global.{sync_bit_delta}
-use Rattle.lfs_pair.specs.ChangeView.{changes_view}
 use Rattle.lfs_pair.specs.declared.commits.Outcome.{Outcome}
 use Rattle.lfs_pair.specs.declared.commits.Outcome.TheVariants as outcome
-use Rattle.lfs_thread.specs.Device.{PowerLossLeavesSuchBlocksAfterCleanErases}
-use Rattle.lfs_thread.specs.Kept.{KeptThread}
-use Rattle.lfs_thread.specs.Steps.{CanChangePair, IsPairChanged, PowerLossLeavesPairOldOrChanged, IsCommitRefused, ThreadChangesOnlyTheseBlocks, thread_pair_at_index}
 use Rattle.lfs_operations.specs.Renaming.{id_after_slot_removal, tree_with_renamed_entry}
 use Rattle.lfs_operations.specs.RenamingOver.{IsDirectoryReplacedInPair, replace_directory_in_pair_changes}
 use Rattle.lfs_operations.specs.RenamingSlots.{slot_creation_changes}
@@ -18,7 +11,6 @@ use Rattle.lfs_operations.proofs.RenameRead.{read_survives}
 use Rattle.lfs_operations.proofs.RenameReadOver.{blocks_after_read, can_change_after_read, change_stops_after_read, changed_after_read, only_read_writes, over_done, over_failed, over_unread, refused_after_read}
 use Rattle.lfs_operations.proofs.RenameOver.{can_over, has_slot, over_not_refused, over_survives, renamed_over}
 use Rattle.lfs_operations.proofs.replacements.rename_over_directory_in_pair.Goals as goal
-use Rattle.lfs_model.specs.Thread.{blocks_of_pair_address}
 
 pub copy_slot_of_pair-requires-clause-there : goal.copy_slot_of_pair-requires-clause-there
 copy_slot_of_pair-requires-clause-there g c = has_slot c.args.thread.now.kept c.args.pair c.args.id c.args.place c.args.name.now c.requires.can

@@ -1,6 +1,5 @@
 use Rattle.std.proofs.Common.{◌∙◌, ◌<◌, ℕ, length, sym, ap, subst}
-use Rattle.std.proofs.lemmas.Option.{same_Some}
-use Rattle.lfs_model.specs.Content.{RawPairContent, slot_of_id}
+use Rattle.lfs_operations.proofs.Common.{same_Some, RawPairContent, slot_of_id}
 use Rattle.lfs_operations.specs.RenamingSlots.{nameless_slot_of}
 use Rattle.lfs_operations.proofs.RenameCopied.{is_named, is_structured, read_below, there_read}
 use Rattle.lfs_operations.proofs.slot_copies.copy_slot_of_log.Goals as goal

@@ -1,5 +1,5 @@
 use Rattle.std.proofs.Common.{◌≡◌, ◌++◌, map, take}
-use Rattle.lfs_pair.specs.ChangeView.{changes_view}
+use Rattle.lfs_operations.proofs.Common.{changes_view}
 use Rattle.lfs_operations.specs.RenamingView.{attribute_copy_view}
 use Rattle.lfs_operations.specs.RenamingSlots.{put_attribute_changes}
 use Rattle.lfs_operations.proofs.slot_copies.push_attribute_changes.Given as goal

@@ -1,6 +1,5 @@
 use Rattle.std.proofs.Common.{ap, sym, subst, ◌∙◌, Err, ◌∷◌, []}
-use Rattle.std.proofs.lemmas.Result.{err_from_is_err_and}
-use Rattle.lfs_model.specs.Changes.{PutStruct}
+use Rattle.lfs_operations.proofs.Common.{err_from_is_err_and, PutStruct}
 use Rattle.lfs_operations.specs.Changing.{ReportsErrorsOfChangeOrSplit}
 use Rattle.lfs_operations.proofs.Stored.{can_store, store_survives, stored}
 use Rattle.lfs_operations.proofs.structs.set_struct.Goals as goal

@@ -1,4 +1,4 @@
-ghost use Rattle.std.specs.Prelude.{◌≡◌, ◌≢◌, IfErr, IfOk, IsErrOf, OnOk, false, true};
+ghost use Rattle.std.specs.Prelude.{◌≡◌, ◌≢◌, IfErr, IfOk, IsErrOf, OnOk};
 ghost use Rattle.lfs_device.specs.RamDevice.{ram_bytes};
 ghost use Rattle.lfs_fs.specs.SessionView.{system_state_of_session_view};
 ghost use Rattle.lfs_tool.specs.Reports.{ReportsWriterFaults};
@@ -47,8 +47,13 @@ fn begin_session_on_fresh_disk(
     }
 }
 
-// Makes the image that holds these entries.
-fn new_image_of_entries<F: FollowsProgress>(
+/// Makes an image of a geometry in memory that holds these entries, as `create` does.
+///
+/// # Errors
+/// - `NoMemory` where memory isn't granted.
+/// - Another error where one of the operations that copy the entries is refused for that: `NoSpace` where too few
+///   blocks are free.
+pub fn new_image_of_entries<F: FollowsProgress>(
     alloc: Global,
     geometry: Geometry,
     order: NameOrder,
@@ -61,28 +66,6 @@ fn new_image_of_entries<F: FollowsProgress>(
     let mut session = begin_session_on_fresh_disk(alloc, geometry, order)?;
     copy_entries_into_session(alloc, &mut session, entries, progress)?;
     Ok(session.unmount())
-}
-
-/// Returns whether an image of a geometry, with that order of names, has room for these entries.
-///
-/// # Errors
-/// - `NoMemory` where memory isn't granted.
-/// - Another error where one of the operations that copy the entries is refused for that.
-pub fn has_room_for_entries(
-    alloc: Global,
-    geometry: Geometry,
-    order: NameOrder,
-    entries: &[SourceEntry],
-) -> Result<bool, Error>
-    ensures room { IfOk result (λ has_room. has_room ≡ true → (image : _) × AreImageBytesOfEntries geometry order entries.now image) }
-    ensures small { IfOk result (λ has_room. has_room ≡ false → RefusesCopyOfEntries geometry order entries.now Error.NoSpace) }
-    ensures err { IfErr result (λ e. e ≢ Error.NoMemory → RefusesCopyOfEntries geometry order entries.now e) }
-{
-    match new_image_of_entries(alloc, geometry, order, entries, &mut ()) {
-        Ok(_image) => Ok(true),
-        Err(Error::NoSpace) => Ok(false),
-        Err(error) => Err(error),
-    }
 }
 
 /// Writes an image of a geometry that holds what a source has. The names in its directories have

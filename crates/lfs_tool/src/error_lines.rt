@@ -44,6 +44,10 @@ fn line_of_misuse(misuse: Misuse) -> &'static str
         Misuse::Folder => "error: --exclude, --follow-links and --skip-links are for -c\n",
         Misuse::Links => "error: give one of --follow-links and --skip-links\n",
         Misuse::Json => "error: --json is for -l and --check\n",
+        Misuse::Size => "error: --size auto is for -c\n",
+        Misuse::Spare => "error: --spare is for -c with --size auto\n",
+        Misuse::Times => "error: --times is for -c and -u\n",
+        Misuse::Streams => "error: --put takes - as FILE or as IMAGE, not as both\n",
     }
 }
 

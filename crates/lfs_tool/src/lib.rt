@@ -45,7 +45,7 @@ mod wrong_number;
 pub use block_excerpt::BlockExcerpt;
 pub use check_result::{CheckResult, GivenSizes, RefusalReason};
 pub use checked_lines::lines_of_check_result;
-pub use creation::{create, has_room_for_entries};
+pub use creation::{create, new_image_of_entries};
 pub use cutter::ExcerptMaker;
 pub use error_lines::report;
 pub use errors::{Fault, ToolError};

@@ -8,12 +8,14 @@ use crate::zeros::zeros_of_too_long_file;
 use crate::{FaultLog, FolderRules, Links, ListedName, Source, SourceError, SourceKind, Tally};
 use std::alloc::{AllocError, Global};
 use std::fs::{File, FileType, Metadata, OpenFile};
-use std::io::ErrorKind;
+use std::io::{ErrorKind, Read};
+use std::os::unix::fs::MetadataExt;
 use std::rt::Files;
 use std::{fs, io};
 
 /// A folder of the real file system. A name that isn't UTF-8 is a fault, and so is anything else but a file or a
-/// folder. So is a symbolic link, unless the folder's rules say otherwise. A fault is noted in a log, with the path that it comes from.
+/// folder. So is a symbolic link, unless the folder's rules say otherwise, and a folder to which one leads that is above
+/// it. A fault is noted in a log, with the path that it comes from.
 ///
 /// It can be made for an image of so many bytes. Then a file that is longer than that isn't read, since
 /// no such image holds it. Zeros stand for its bytes, one more than the image has.
@@ -40,15 +42,6 @@ fn source_kind_of_file_type(kind: FileType) -> io::Result<SourceKind> {
     }
 }
 
-// Returns a name that is text.
-fn copy_name_if_utf8(alloc: Global, name: &[u8]) -> io::Result<Vec<u8>> {
-    if str::from_utf8(name).is_err() {
-        return Err(io::Error::new(ErrorKind::InvalidFilename, "the name is not UTF-8"));
-    }
-    let name = name.to_vec(alloc)?;
-    Ok(name)
-}
-
 // Returns an entry of a folder: its name, kind and length.
 fn listed_name_with_kind_and_length(
     alloc: Global,
@@ -57,7 +50,7 @@ fn listed_name_with_kind_and_length(
 ) -> io::Result<ListedName> {
     let metadata = metadata?;
     let kind = source_kind_of_file_type(metadata.file_type())?;
-    let name = copy_name_if_utf8(alloc, name)?;
+    let name = name.to_vec(alloc)?;
     let len = metadata.len();
     Ok(ListedName { name, kind, len })
 }
@@ -120,8 +113,31 @@ impl<'a, R: Files + AllocGlobal + Clone + Drop> Folder<'a, R> {
             },
             own => own,
         };
+        if let Ok(found) = &metadata {
+            if self.rules.links == Links::Follow && self.is_above(folder, found)? {
+                return Err(io::Error::new(ErrorKind::InvalidInput, "the folder is in itself"));
+            }
+        }
         let listed = listed_name_with_kind_and_length(alloc, name, metadata)?;
         Ok(Some(listed))
+    }
+
+    // Returns whether what was found is the folder at a path, or one above it.
+    fn is_above(&self, path: &[u8], found: &Metadata) -> io::Result<bool> {
+        if !found.is_dir() {
+            return Ok(false);
+        }
+        for end in 0..path.len().saturating_add(1) {
+            if matches!(path.get(end), None | Some(b'/')) {
+                let beginning = path.get(..end).unwrap_or(path);
+                let full = full_path(self.rt.alloc(), self.root.as_str(), beginning)?;
+                let above = fs::metadata(self.rt, full.as_str())?;
+                if above.dev() == found.dev() && above.ino() == found.ino() {
+                    return Ok(true);
+                }
+            }
+        }
+        Ok(false)
     }
 
     /// Returns the length of the first file that was longer than the image, of those that were read.
@@ -133,6 +149,9 @@ impl<'a, R: Files + AllocGlobal + Clone + Drop> Folder<'a, R> {
         let full = full_path(self.rt.alloc(), self.root.as_str(), path)?;
         let mut names = Vec::new(alloc);
         for entry in fs::read_dir(self.rt, full.as_str())? {
+            if entry.is_err() {
+                self.note_name_not_utf8(path)?;
+            }
             let entry = entry?;
             let name = entry.file_name();
             let listed = self.listed_name_by_rules(path, name.as_bytes(), entry.metadata());
@@ -144,6 +163,22 @@ impl<'a, R: Files + AllocGlobal + Clone + Drop> Folder<'a, R> {
             }
         }
         Ok(names)
+    }
+
+    // Notes the first name in a folder that isn't UTF-8, where there is one.
+    fn note_name_not_utf8(&self, path: &[u8]) -> io::Result<()> {
+        let mut full = full_path(self.rt.alloc(), self.root.as_str(), path)?;
+        // As `fs::read_dir` opens it.
+        full.push('/')?;
+        let mut names = Vec::new(self.rt.alloc());
+        self.rt.open_dir(full.as_str())?.read_to_end(&mut names)?;
+        for name in names.split(|byte| *byte == 0) {
+            if str::from_utf8(name).is_err() {
+                let error = io::Error::new(ErrorKind::InvalidFilename, "the name is not UTF-8");
+                self.note_error_at_name(path, name, &error);
+            }
+        }
+        Ok(())
     }
 
     // Notes a fault of a name in a folder. With no name it is the fault of the path itself.

@@ -9,7 +9,7 @@ use Rattle.clap.specs.declared.error.Error.{Error}
 use Rattle.clap.specs.declared.parser.ArgMatches.{ArgMatches}
 use Rattle.lfs_tool_line.specs.Command.{mklittlefs, with_board_and_version_options, with_extra_options, with_limit_options, with_mode_options, with_mode_size_and_order_options, with_path_mode_options, with_size_options}
 use Rattle.lfs_tool_line.specs.Matches.{faults, rows}
-use Rattle.lfs_tool_line.specs.Values.{first_bad_number, number_faults, number_options}
+use Rattle.lfs_tool_line.specs.Values.{first_bad_text, number_faults}
 
 is_simple_command : is_simple mklittlefs ≡ true
 unfolding mklittlefs with_mode_size_and_order_options with_mode_options with_path_mode_options with_size_options with_limit_options with_board_and_version_options with_extra_options
@@ -55,13 +55,13 @@ unfolding faults
 faults_of_numbers words found taken same = ap (λ (ks : Kinds). or_else ks (number_faults (rows words))) taken ∙ ap number_faults (sym same)
 
 pub bad_number_refused : (words : List Text) (found : List Row) (text : Text) (e : Error) → fault_of mklittlefs words ≡ [] → found ≡ rows words
-    → Some text ≡ first_bad_number (number_options found) found → kind_of e ≡ ValueValidation → HasKind (faults words) e
+    → Some text ≡ first_bad_text found → kind_of e ≡ ValueValidation → HasKind (faults words) e
 bad_number_refused words found text e taken same bad is =
     let faults_are_one : faults words ≡ ValueValidation ∷ [] = faults_of_numbers words found taken same
     ∙ ap (λ (o : Option Text). if is_some o then ValueValidation ∷ [] else []) (sym bad) in
     subst (λ (ks : Kinds). HasKind ks e) (sym faults_are_one) (inr (inl is))
 
 pub good_numbers_taken : (words : List Text) (found : List Row) → fault_of mklittlefs words ≡ [] → found ≡ rows words
-    → None ≡ first_bad_number (number_options found) found → faults words ≡ []
+    → None ≡ first_bad_text found → faults words ≡ []
 good_numbers_taken words found taken same good =
     faults_of_numbers words found taken same ∙ ap (λ (o : Option Text). if is_some o then ValueValidation ∷ [] else []) (sym good)

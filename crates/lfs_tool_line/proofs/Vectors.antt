@@ -6,7 +6,7 @@ use Rattle.clap.proofs.OnLiterals.{clap_on_literals}
 use Rattle.lfs_tool_line.specs.Command.{mklittlefs, with_board_and_version_options, with_extra_options, with_limit_options, with_mode_options, with_mode_size_and_order_options, with_path_mode_options, with_size_options}
 use Rattle.lfs_tool_line.specs.Matches.{faults, given_mode_count, rows}
 use Rattle.lfs_tool_line.specs.Numbers.{number_in_text, within_32_bits}
-use Rattle.lfs_tool_line.specs.Values.{is_block_size_auto, number_or, numeric_option_value_in_rows}
+use Rattle.lfs_tool_line.specs.Values.{is_option_auto, number_or, numeric_option_value_in_rows}
 
 abbrev create_line : List Text
 create_line = codes "mklittlefs" ∷ codes "-cdir" ∷ codes "-b=512" ∷ codes "-p" ∷ codes "+16" ∷ codes "disk.img" ∷ []
@@ -30,10 +30,18 @@ unfolding clap_on_literals mklittlefs with_mode_size_and_order_options with_mode
 no_mode = (refl, refl)
 
 -- the size of a block may be that of the superblock
-auto_size : (is_block_size_auto (rows (codes "m" ∷ codes "-l" ∷ codes "-bauto" ∷ codes "i" ∷ [])) ≡ true) × (faults (codes "m" ∷ codes "-l" ∷ codes "-bauto" ∷ codes "i" ∷ []) ≡ [])
+auto_size : (is_option_auto (codes "block_size") (rows (codes "m" ∷ codes "-l" ∷ codes "-bauto" ∷ codes "i" ∷ [])) ≡ true) × (faults (codes "m" ∷ codes "-l" ∷ codes "-bauto" ∷ codes "i" ∷ []) ≡ [])
     × (faults (codes "m" ∷ codes "-l" ∷ codes "-pauto" ∷ codes "i" ∷ []) ≡ kind.ValueValidation ∷ [])
 unfolding clap_on_literals mklittlefs with_mode_size_and_order_options with_mode_options with_path_mode_options with_size_options with_limit_options with_board_and_version_options with_extra_options rows faults number_in_text
 auto_size = (refl, refl, refl)
+
+-- the size may be the one that is enough, with blocks to spare
+abbrev fitted_line : List Text
+fitted_line = codes "m" ∷ codes "-cdir" ∷ codes "-sauto" ∷ codes "--spare" ∷ codes "4" ∷ codes "i" ∷ []
+
+fitted : (is_option_auto (codes "size") (rows fitted_line) ≡ true) × (numeric_option_value_in_rows (codes "spare") (rows fitted_line) ≡ Some 4) × (faults fitted_line ≡ [])
+unfolding clap_on_literals mklittlefs with_mode_size_and_order_options with_mode_options with_path_mode_options with_size_options with_limit_options with_board_and_version_options with_extra_options rows faults number_in_text
+fitted = (refl, refl, refl)
 
 -- each form of a number
 forms : (number_in_text (codes "4096") ≡ Some 4096) × (number_in_text (codes "0x160000") ≡ Some 1441792) × (number_in_text (codes "0XfF") ≡ Some 255)

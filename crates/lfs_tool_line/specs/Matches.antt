@@ -14,7 +14,7 @@ use Rattle.lfs_tool_line.specs.Boards.{block_size_of_board, board_with_name, pro
 use Rattle.lfs_tool_line.specs.Command.{mklittlefs}
 use Rattle.lfs_tool_line.specs.Extras.{AreExtrasOfParsedArguments, misused_option}
 use Rattle.lfs_tool_line.specs.Limits.{first_broken_limit}
-use Rattle.lfs_tool_line.specs.Values.{flag_value_in_rows, is_block_size_auto, number_faults, number_or}
+use Rattle.lfs_tool_line.specs.Values.{flag_value_in_rows, is_option_auto, number_faults, number_or}
 use Rattle.lfs_tool_line.specs.declared.board.Board.{Board}
 use Rattle.lfs_tool_line.specs.declared.board.Board.TheVariants.{Unnamed}
 use Rattle.lfs_tool_line.specs.declared.limits.Limit.{Limit}
@@ -157,7 +157,7 @@ pub record IsCommandLineOfParsedArguments (rows : List Row) (line : Line) : Type
   pub mode : IsModeOfParsedArguments rows line.mode
   pub known_board : HasKnownBoard rows
   pub block_size : given_block_size rows ≡ line.block_size
-  pub is_auto : is_block_size_auto rows ≡ line.is_auto
+  pub is_auto : is_option_auto (codes "block_size") rows ≡ line.is_auto
   pub offset : number_or 0 (codes "offset") rows ≡ line.offset
   pub page : number_or 256 (codes "page") rows ≡ line.page
   pub size : number_or 65536 (codes "size") rows ≡ line.size

@@ -37,21 +37,27 @@ abbrev pub is_text_auto : Option Text → Bool
 is_text_auto None = false
 is_text_auto (Some text) = bytes_eq text (codes "auto")
 
--- the size of a block is that of the superblock
-abbrev pub is_block_size_auto : List Row → Bool
-is_block_size_auto rows = is_text_auto (first_of (codes "block_size") rows)
+-- the number of an option is found elsewhere: in the superblock, or by what the folder has
+abbrev pub is_option_auto : Text → List Row → Bool
+is_option_auto id rows = is_text_auto (first_of id rows)
 
--- the options that take a number alone
+-- the text of an option that takes a number or `auto`, where it is neither
+abbrev pub bad_size_of_option : Text → List Row → Option Text
+bad_size_of_option id rows = if is_option_auto id rows then None else bad_number_of_option id rows
+
+-- the options that take a number alone, behind those for sizes
 abbrev pub other_number_options : List Text
-other_number_options = codes "page" ∷ codes "size" ∷ codes "offset" ∷ codes "name_max" ∷ codes "file_max" ∷ codes "attr_max" ∷ codes "inline_max" ∷ []
+other_number_options = codes "offset" ∷ codes "name_max" ∷ codes "file_max" ∷ codes "attr_max" ∷ codes "inline_max" ∷ codes "spare" ∷ []
 
--- the options that take a number here
-abbrev pub number_options : List Row → List Text
-number_options rows = if is_block_size_auto rows then other_number_options else (codes "block_size" ∷ other_number_options)
+-- the first option's text that names no number, where it takes one
+abbrev pub first_bad_text : List Row → Option Text
+first_bad_text rows = text_or_next (bad_size_of_option (codes "block_size") rows)
+    (text_or_next (bad_number_of_option (codes "page") rows)
+    (text_or_next (bad_size_of_option (codes "size") rows) (first_bad_number other_number_options rows)))
 
 -- the error of a text that names no number; empty where each names one
 abbrev pub number_faults : List Row → Kinds
-number_faults rows = if is_some (first_bad_number (number_options rows) rows) then ValueValidation ∷ [] else []
+number_faults rows = if is_some (first_bad_text rows) then ValueValidation ∷ [] else []
 
 -- the flag's text, which clap gives as true or false
 abbrev pub is_flag_text_true : Option Text → Bool

@@ -40,6 +40,7 @@ Examples:
   mklittlefs -l -b auto --offset 2M flash.bin
   mklittlefs -c settings --order shorter-first disk.img
   mklittlefs -c settings --board esp32 -s 0x160000 disk.img
+  mklittlefs -c settings -s auto --spare 4 disk.img
   mklittlefs -l --also-2.1 disk.img      lists one that firmware has changed
   mklittlefs --explain -l disk.img       says why where it isn't listed
   mklittlefs -c settings - > disk.img    writes the image to standard output
@@ -54,6 +55,7 @@ Sizes:
   -b  from 1024 to 65536, a multiple of -p
   -p  8, 16, 32, 64, 128, 256 or 512, and at most an eighth of -b
   -s  a multiple of -b: from 2 to 65536 blocks, and at most 268435456
+  -s auto takes the fewest blocks that hold DIR, and --spare N adds N blocks.
   With -l, -u and --check the size is that of IMAGE, and -b is the one that it
   was made with. -b auto takes the size and number of blocks from its
   superblock, and leaves alone what is behind them. --offset N skips N bytes.
@@ -90,7 +92,8 @@ Files:
   -c writes an image beside IMAGE and puts it in its place once it is whole, so
   that an old one stays where that fails. A file longer than the image isn't
   read. -u makes the folders above DIR. With --explain both say where they
-  stopped.
+  stopped. --times keeps when each file and folder was modified, as seconds
+  since 1970 in four bytes: its attribute t. With -u it sets these times.
 
 Paths:
   PATH is a path in IMAGE, as /log/today. --put, --remove and --mkdir change
@@ -266,11 +269,13 @@ fn with_size_options<'a>(alloc: Global, command: Command<'a>) -> Result<Command<
 {
     let block_size = "Size of a block in bytes, or auto [default: 4096]";
     let page = "Size of a page in bytes [default: 256]";
-    let size = "Size of the image in bytes, with -c [default: 65536]";
-    let offset = "Bytes of IMAGE before the image, without -c [default: 0]";
+    let size = "Size of the image in bytes, or auto, with -c [default: 65536]";
+    let spare = "Blocks beside those that are enough, with -c -s auto [default: 0]";
+    let offset = "Bytes before the image, with -l, -u, --check and --cat [default: 0]";
     let command = with_number_option(alloc, command, "block_size", ('b', "block"), block_size)?;
     let command = with_number_option(alloc, command, "page", ('p', "page"), page)?;
     let command = with_number_option(alloc, command, "size", ('s', "size"), size)?;
+    let command = with_limit_option(alloc, command, "spare", "spare", spare)?;
     let command = with_limit_option(alloc, command, "offset", "offset", offset)?;
     Ok(command)
 }

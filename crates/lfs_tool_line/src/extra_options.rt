@@ -1,4 +1,4 @@
-// The options of mklittlefs for what is read of a folder, and for lines as JSON.
+// The options of mklittlefs for what is read of a folder, for times, and for lines as JSON.
 
 ghost use Rattle.std.specs.Prelude.{◌≡◌, IfOk, codes};
 ghost use Rattle.clap.specs.Words.{app_of, rule_of, with_rule};
@@ -34,7 +34,7 @@ fn with_exclude_option<'a>(alloc: Global, command: Command<'a>) -> Result<Comman
     command.arg(arg)
 }
 
-// Adds the options for what is read of a folder, and for lines as JSON.
+// Adds the options for what is read of a folder, for times, and for lines as JSON.
 pub(crate) fn with_extra_options<'a>(
     alloc: Global,
     command: Command<'a>,
@@ -43,10 +43,12 @@ pub(crate) fn with_extra_options<'a>(
 {
     let follow = "Read what symbolic links lead to, with -c";
     let skip = "Leave out symbolic links, with -c";
+    let times = "Keep or set the times of files and folders, with -c and -u";
     let json = "Print JSON, with -l and --check";
     let command = with_exclude_option(alloc, command)?;
     let command = with_flag_option(alloc, command, "follow-links", follow)?;
     let command = with_flag_option(alloc, command, "skip-links", skip)?;
+    let command = with_flag_option(alloc, command, "times", times)?;
     let command = with_flag_option(alloc, command, "json", json)?;
     Ok(command)
 }

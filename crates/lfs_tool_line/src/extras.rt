@@ -1,22 +1,28 @@
 // What a command line requests beside its image.
 
-ghost use Rattle.std.specs.Prelude.{◌≡◌, IfOk, is_some};
-ghost use Rattle.clap.specs.Words.{first_of, found_of, rows_of};
-ghost use Rattle.lfs_tool_line.specs.Extras.{AreExtrasOfParsedArguments, misused_option, rule_of_misuse};
+ghost use Rattle.std.specs.Prelude.{◌≡◌, IfOk};
+ghost use Rattle.clap.specs.Words.{found_of, rows_of};
+ghost use Rattle.lfs_tool_line.specs.Extras.{AreExtrasOfParsedArguments, is_given, is_standard_stream, misused_option, misused_size_or_file, rule_of_misuse};
 
-use crate::values::{argument_text, flag_value_in_matches};
+use crate::values::{argument_text, flag_value_in_matches, given_or_other_number, is_auto};
 use clap::ArgMatches;
 use std::alloc::{AllocError, Global};
 
 /// What a line requests beside its image, its sizes and its limits.
 #[derive(Debug, Drop)]
 pub struct Extras<'a> {
+    /// Whether the image has the fewest blocks that are enough, for `Mode::Create`.
+    pub is_size_auto: bool,
+    /// How many blocks it has beside these.
+    pub spare: u32,
     /// The patterns of the names that are left out, for `Mode::Create`.
     pub exclude: Vec<&'a str>,
     /// Whether what symbolic links lead to is read, for `Mode::Create`.
     pub follow_links: bool,
     /// Whether symbolic links are left out, for `Mode::Create`.
     pub skip_links: bool,
+    /// Whether times are kept or set, for `Mode::Create` and `Mode::Unpack`.
+    pub times: bool,
     /// Whether lines are JSON, for `Mode::List` and `Mode::Check`.
     pub json: bool,
 }
@@ -30,6 +36,14 @@ pub enum Misuse {
     Links,
     /// JSON, without lines.
     Json,
+    /// A size that is enough, without `-c`.
+    Size,
+    /// Blocks to spare, without such a size.
+    Spare,
+    /// Times, with neither `-c` nor `-u`.
+    Times,
+    /// A file and an image that are both standard input.
+    Streams,
 }
 
 impl Misuse {
@@ -41,15 +55,50 @@ impl Misuse {
             Misuse::Folder => "--exclude, --follow-links and --skip-links are for -c",
             Misuse::Links => "give one of --follow-links and --skip-links",
             Misuse::Json => "--json is for -l and --check",
+            Misuse::Size => "--size auto is for -c",
+            Misuse::Spare => "--spare is for -c with --size auto",
+            Misuse::Times => "--times is for -c and -u",
+            Misuse::Streams => "--put takes - as FILE or as IMAGE, not as both",
         }
     }
 }
 
 // Returns whether an option with a text is given.
 fn is_given(matches: &ArgMatches<'_>, id: &str) -> bool
-    ensures { result ≡ is_some (first_of id.now (rows_of (found_of matches.now))) }
+    ensures { result ≡ is_given id.now (rows_of (found_of matches.now)) }
 {
     argument_text(matches, id).is_some()
+}
+
+// Returns whether the text of an option or an argument names a standard stream.
+fn is_standard_stream(matches: &ArgMatches<'_>, id: &str) -> bool
+    ensures { result ≡ is_standard_stream id.now (rows_of (found_of matches.now)) }
+{
+    match argument_text(matches, id) {
+        Some(text) => text == "-",
+        None => false,
+    }
+}
+
+// Returns the first option of those for sizes, times and files that has no meaning where it is given.
+fn misused_size_or_file(matches: &ArgMatches<'_>) -> Option<Misuse>
+    ensures { result ≡ misused_size_or_file (rows_of (found_of matches.now)) }
+{
+    let creates = is_given(matches, "create");
+    let is_size_auto = is_auto(matches, "size");
+    if !creates && is_size_auto {
+        return Some(Misuse::Size);
+    }
+    if is_given(matches, "spare") && !is_size_auto {
+        return Some(Misuse::Spare);
+    }
+    if flag_value_in_matches(matches, "times") && !(creates || is_given(matches, "unpack")) {
+        return Some(Misuse::Times);
+    }
+    if is_standard_stream(matches, "put") && is_standard_stream(matches, "image") {
+        return Some(Misuse::Streams);
+    }
+    None
 }
 
 // Returns the first option that has no meaning where it is given.
@@ -69,7 +118,7 @@ pub(crate) fn misused_option(matches: &ArgMatches<'_>) -> Option<Misuse>
     if flag_value_in_matches(matches, "json") && !shows {
         return Some(Misuse::Json);
     }
-    None
+    misused_size_or_file(matches)
 }
 
 // Returns what the matches request beside the image.
@@ -84,9 +133,12 @@ pub(crate) fn extras_of_matches<'a>(
         None => Vec::new(alloc),
     };
     Ok(Extras {
+        is_size_auto: is_auto(matches, "size"),
+        spare: given_or_other_number(matches, "spare", 0),
         exclude,
         follow_links: flag_value_in_matches(matches, "follow-links"),
         skip_links: flag_value_in_matches(matches, "skip-links"),
+        times: flag_value_in_matches(matches, "times"),
         json: flag_value_in_matches(matches, "json"),
     })
 }

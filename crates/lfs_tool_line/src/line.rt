@@ -8,9 +8,7 @@ use crate::command::parse_command_line_words;
 use crate::extras::{Extras, Misuse, extras_of_matches, misused_option};
 use crate::limits::{Limit, first_broken_limit, given_or_other_profile};
 use crate::modes::mode_of_matches;
-use crate::values::{
-    argument_text, flag_value_in_matches, given_or_other_number, is_block_size_auto,
-};
+use crate::values::{argument_text, flag_value_in_matches, given_or_other_number, is_auto};
 use clap::ArgMatches;
 use lfs_model::{NameOrder, Profile};
 use std::alloc::Global;
@@ -50,7 +48,7 @@ pub struct Line<'a> {
     pub offset: u32,
     /// The size of a page in bytes, the unit that a device programs.
     pub page: u32,
-    /// The size of the image in bytes, for `Mode::Create`.
+    /// The size of the image in bytes, for `Mode::Create`: 65536 where it is none that is given.
     pub size: u32,
     /// The order of the names in the image, for `Mode::Create`.
     pub order: NameOrder,
@@ -187,7 +185,7 @@ fn command_line_of_matches<'a>(
     Ok(Line {
         mode: choices.mode,
         block_size,
-        is_auto: is_block_size_auto(matches),
+        is_auto: is_auto(matches, "block_size"),
         offset: given_or_other_number(matches, "offset", 0),
         page: given_or_other_number(matches, "page", 256),
         size: given_or_other_number(matches, "size", 65536),
@@ -200,9 +198,10 @@ fn command_line_of_matches<'a>(
 
 /// Reads the words of a command line, the program's name first:
 /// `mklittlefs (-c DIR | -u DIR | -l | --check | --cat PATH | --put FILE PATH | --remove PATH | --mkdir PATH) [-b N] [-p N] [-s N]
-/// [--offset N] [--order ORDER] [--name-max N] [--file-max N] [--attr-max N] [--inline-max N] [--board NAME] [--also-2.1]
-/// [--exclude PATTERN] [--follow-links] [--skip-links] [--json] [--explain] IMAGE`. The long names are `--create`, `--unpack`,
-/// `--list`, `--block`, `--page` and `--size`. `-b auto` and `--offset` go with the modes that write no image.
+/// [--spare N] [--offset N] [--order ORDER] [--name-max N] [--file-max N] [--attr-max N] [--inline-max N] [--board NAME] [--also-2.1]
+/// [--exclude PATTERN] [--follow-links] [--skip-links] [--times] [--json] [--explain] IMAGE`. The long names are `--create`, `--unpack`,
+/// `--list`, `--block`, `--page` and `--size`. `-b auto` and `--offset` go with the modes that write no image, and
+/// `-s auto` and `--spare` with `-c`.
 ///
 /// A number is from 0 to 4294967295, as `4096`, `0x1000`, `4k` and `1.5M` are: decimal, hexadecimal, or in units of 1024
 /// or 1048576 bytes, where it may have a point. Where an option isn't given, a block has 4096 bytes, a

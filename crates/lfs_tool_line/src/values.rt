@@ -2,7 +2,7 @@
 
 ghost use Rattle.std.specs.Prelude.{◌≡◌, option_map};
 ghost use Rattle.clap.specs.Words.{first_of, found_of, rows_of};
-ghost use Rattle.lfs_tool_line.specs.Values.{bad_number_of_option, first_bad_number, flag_value_in_rows, is_block_size_auto, number_options, number_or, numeric_option_value_in_rows, other_number_options};
+ghost use Rattle.lfs_tool_line.specs.Values.{bad_number_of_option, bad_size_of_option, first_bad_number, first_bad_text, flag_value_in_rows, is_option_auto, number_or, numeric_option_value_in_rows, other_number_options};
 
 use crate::numbers::number_in_text;
 use clap::ArgMatches;
@@ -51,38 +51,46 @@ fn bad_number<'a>(matches: &ArgMatches<'a>, id: &str) -> Option<&'a str>
     }
 }
 
-// Returns whether the size of a block is that of the superblock.
-pub(crate) fn is_block_size_auto(matches: &ArgMatches<'_>) -> bool
-    ensures { result ≡ is_block_size_auto (rows_of (found_of matches.now)) }
+// Returns whether an option says that its number is found elsewhere.
+pub(crate) fn is_auto(matches: &ArgMatches<'_>, id: &str) -> bool
+    ensures { result ≡ is_option_auto id.now (rows_of (found_of matches.now)) }
 {
-    match argument_text(matches, "block_size") {
+    match argument_text(matches, id) {
         Some(text) => text == "auto",
         None => false,
     }
 }
 
+// Returns the text of an option that takes a number or `auto`, where it is neither.
+fn bad_size<'a>(matches: &ArgMatches<'a>, id: &str) -> Option<&'a str>
+    ensures { option_map (λ s. s.now) result ≡ bad_size_of_option id.now (rows_of (found_of matches.now)) }
+{
+    if is_auto(matches, id) {
+        return None;
+    }
+    bad_number(matches, id)
+}
+
 // Returns the first option whose text names no number, and the text.
 pub(crate) fn first_bad_number<'a>(matches: &ArgMatches<'a>) -> Option<(&'static str, &'a str)>
-    ensures { option_map (λ bad. bad.1.now) result ≡ first_bad_number (number_options (rows_of (found_of matches.now))) (rows_of (found_of matches.now)) }
+    ensures { option_map (λ bad. bad.1.now) result ≡ first_bad_text (rows_of (found_of matches.now)) }
 {
-    if !is_block_size_auto(matches) {
-        if let Some(text) = bad_number(matches, "block_size") {
-            return Some(("block", text));
-        }
+    if let Some(text) = bad_size(matches, "block_size") {
+        return Some(("block", text));
+    }
+    if let Some(text) = bad_number(matches, "page") {
+        return Some(("page", text));
+    }
+    if let Some(text) = bad_size(matches, "size") {
+        return Some(("size", text));
     }
     first_other_bad_number(matches)
 }
 
-// Returns the same of the options behind the size of a block.
+// Returns the same of the options behind those for sizes.
 fn first_other_bad_number<'a>(matches: &ArgMatches<'a>) -> Option<(&'static str, &'a str)>
     ensures { option_map (λ bad. bad.1.now) result ≡ first_bad_number other_number_options (rows_of (found_of matches.now)) }
 {
-    if let Some(text) = bad_number(matches, "page") {
-        return Some(("page", text));
-    }
-    if let Some(text) = bad_number(matches, "size") {
-        return Some(("size", text));
-    }
     if let Some(text) = bad_number(matches, "offset") {
         return Some(("offset", text));
     }
@@ -97,6 +105,9 @@ fn first_other_bad_number<'a>(matches: &ArgMatches<'a>) -> Option<(&'static str,
     }
     if let Some(text) = bad_number(matches, "inline_max") {
         return Some(("inline-max", text));
+    }
+    if let Some(text) = bad_number(matches, "spare") {
+        return Some(("spare", text));
     }
     None
 }

@@ -495,8 +495,9 @@ Options:
       --mkdir <PATH>       Make a folder at PATH in IMAGE
   -b, --block <N>          Size of a block in bytes, or auto [default: 4096]
   -p, --page <N>           Size of a page in bytes [default: 256]
-  -s, --size <N>           Size of the image in bytes, with -c [default: 65536]
-      --offset <N>         Bytes of IMAGE before the image, without -c [default: 0]
+  -s, --size <N>           Size of the image in bytes, or auto, with -c [default: 65536]
+      --spare <N>          Blocks beside those that are enough, with -c -s auto [default: 0]
+      --offset <N>         Bytes before the image, with -l, -u, --check and --cat [default: 0]
       --order <ORDER>      Order of names in the image that -c makes [default: longer-first]
       --name-max <N>       Longest name in bytes, with -c [default: 255]
       --file-max <N>       Longest file in bytes, with -c [default: 2147483647]
@@ -507,6 +508,7 @@ Options:
       --exclude <PATTERN>  Leave out the names that PATTERN fits, with -c
       --follow-links       Read what symbolic links lead to, with -c
       --skip-links         Leave out symbolic links, with -c
+      --times              Keep or set the times of files and folders, with -c and -u
       --json               Print JSON, with -l and --check
       --explain            Say why after the line of an error
   -h, --help               Print help
@@ -525,6 +527,7 @@ Examples:
   mklittlefs -l -b auto --offset 2M flash.bin
   mklittlefs -c settings --order shorter-first disk.img
   mklittlefs -c settings --board esp32 -s 0x160000 disk.img
+  mklittlefs -c settings -s auto --spare 4 disk.img
   mklittlefs -l --also-2.1 disk.img      lists one that firmware has changed
   mklittlefs --explain -l disk.img       says why where it isn't listed
   mklittlefs -c settings - > disk.img    writes the image to standard output
@@ -539,6 +542,7 @@ Sizes:
   -b  from 1024 to 65536, a multiple of -p
   -p  8, 16, 32, 64, 128, 256 or 512, and at most an eighth of -b
   -s  a multiple of -b: from 2 to 65536 blocks, and at most 268435456
+  -s auto takes the fewest blocks that hold DIR, and --spare N adds N blocks.
   With -l, -u and --check the size is that of IMAGE, and -b is the one that it
   was made with. -b auto takes the size and number of blocks from its
   superblock, and leaves alone what is behind them. --offset N skips N bytes.
@@ -575,7 +579,8 @@ Files:
   -c writes an image beside IMAGE and puts it in its place once it is whole, so
   that an old one stays where that fails. A file longer than the image isn't
   read. -u makes the folders above DIR. With --explain both say where they
-  stopped.
+  stopped. --times keeps when each file and folder was modified, as seconds
+  since 1970 in four bytes: its attribute t. With -u it sets these times.
 
 Paths:
   PATH is a path in IMAGE, as /log/today. --put, --remove and --mkdir change
@@ -590,7 +595,43 @@ Progress:
 // own text.
 const PART: &str = "error: -b auto and --offset are for -l, -u, --check and --cat\n";
 
-const REFUSED: [(&[&str], u8, &str, Option<&str>); 40] = [
+const SIZE: &str = "error: --size auto is for -c\n";
+
+const SPARE: &str = "error: --spare is for -c with --size auto\n";
+
+const TIMES: &str = "error: --times is for -c and -u\n";
+
+const STREAMS: &str = "error: --put takes - as FILE or as IMAGE, not as both\n";
+
+const REFUSED: [(&[&str], u8, &str, Option<&str>); 47] = [
+    // options that are for other modes
+    (&["mklittlefs", "-l", "-sauto", "i"], 2, "", Some(SIZE)),
+    (&["mklittlefs", "-cd", "--spare=1", "i"], 2, "", Some(SPARE)),
+    (&["mklittlefs", "-l", "--spare=1", "i"], 2, "", Some(SPARE)),
+    (
+        &["mklittlefs", "-cd", "-sauto", "--spare=x", "i"],
+        2,
+        "",
+        None,
+    ),
+    (
+        &["mklittlefs", "--cat", "/a", "--times", "i"],
+        2,
+        "",
+        Some(TIMES),
+    ),
+    (
+        &["mklittlefs", "--check", "--times", "i"],
+        2,
+        "",
+        Some(TIMES),
+    ),
+    (
+        &["mklittlefs", "--put", "-", "/a", "-"],
+        2,
+        "",
+        Some(STREAMS),
+    ),
     // a part of a file that is to be made
     (&["mklittlefs", "-cd", "-b", "auto", "i"], 2, "", Some(PART)),
     (&["mklittlefs", "-cd", "--offset=1", "i"], 2, "", Some(PART)),

@@ -1,22 +1,59 @@
 // How many blocks are enough for what a folder has.
 
 use crate::files::Host;
-use lfs_device::{Error, Geometry};
-use lfs_tool::{Line, has_room_for_entries};
-use lfs_tool_folders::SourceEntry;
+use crate::run::{folder_of_line, geometry_of_line, refusing_file_limit};
+use crate::times::keep_times;
+use lfs_device::{Error, Geometry, RamDevice};
+use lfs_tool::{Extras, FollowsProgress, Line, Mode, ToolError, new_image_of_entries};
+use lfs_tool_folders::{Folder, SourceEntry, SourceError, read_tree};
 
-// The most bytes that an image has, and the most blocks.
-const IMAGE_MAX: u32 = 268_435_456;
+/// The most bytes that an image has.
+pub(crate) const IMAGE_MAX: u32 = 268_435_456;
 
 const BLOCKS_MAX: u32 = 65_536;
 
-pub(crate) enum EnoughBlocks {
-    /// A larger number. One less is too few.
-    Count(u32),
-    /// As many as the image has: by now the folder fits.
-    Given,
-    /// No image has enough of such blocks.
-    NoImage,
+// No longer file is in its folder's entry.
+const INLINE_MAX: usize = 1022;
+
+/// Reads all that a folder has.
+pub(crate) fn read_folder(
+    host: Host<'_>,
+    source: &mut Folder<'_, HostRuntime>,
+) -> Result<Vec<SourceEntry>, ToolError> {
+    match read_tree(host.alloc(), source) {
+        Ok(entries) => Ok(entries),
+        Err(SourceError::Fault) => Err(ToolError::Input),
+        Err(SourceError::NoMemory) => Err(ToolError::Fs(Error::NoMemory)),
+    }
+}
+
+/// Reads all that the folder of a line has, for an image of any size. The line comes with the limit of files by which
+/// such an image is refused.
+pub(crate) fn read_folder_of_line<'a>(
+    host: Host<'_>,
+    line: &Line<'a>,
+    folder: &str,
+) -> Result<(Vec<SourceEntry>, Line<'a>), ToolError> {
+    let mut source = folder_of_line(host, folder, IMAGE_MAX)?;
+    let entries = read_folder(host, &mut source)?;
+    let mut line = *line;
+    line.profile.file_max = refusing_file_limit(&source, IMAGE_MAX, line.profile.file_max);
+    Ok((entries, line))
+}
+
+/// Makes the image of a folder's entries in memory, with their times where these are kept.
+pub(crate) fn image_of_entries<F: FollowsProgress>(
+    host: Host<'_>,
+    line: &Line<'_>,
+    geometry: Geometry,
+    entries: &[SourceEntry],
+    progress: &mut F,
+) -> Result<RamDevice, ToolError> {
+    let image = new_image_of_entries(host.alloc(), geometry, line.order, entries, progress)?;
+    match line.mode {
+        Mode::Create(folder) if host.times => keep_times(host, folder, image),
+        _ => Ok(image),
+    }
 }
 
 // Returns whether an image of so many blocks holds the entries.
@@ -25,63 +62,93 @@ fn are_blocks_enough(
     line: &Line<'_>,
     entries: &[SourceEntry],
     count: u32,
-) -> Result<bool, Error> {
+) -> Result<bool, ToolError> {
     let geometry = Geometry::new(line.block_size, line.page, count)?.with_profile(line.profile);
-    has_room_for_entries(host.alloc(), geometry, line.order, entries)
+    match image_of_entries(host, line, geometry, entries, &mut ()) {
+        Ok(_image) => Ok(true),
+        Err(ToolError::Fs(Error::NoSpace)) => Ok(false),
+        Err(error) => Err(error),
+    }
 }
 
-// Returns how many blocks it takes, where so few are too few and so many are enough.
-fn just_enough_blocks(
-    host: Host<'_>,
-    line: &Line<'_>,
-    entries: &[SourceEntry],
-    few: u32,
-    enough: u32,
-) -> Result<u32, Error> {
-    let (mut low, mut high) = (few, enough);
-    for _ in 0..32 {
-        let between = high.saturating_sub(low);
-        if between < 2 {
-            break;
-        }
-        let half = low.saturating_add(between / 2);
-        if are_blocks_enough(host, line, entries, half)? {
-            high = half;
-        } else {
-            low = half;
+// Returns the most blocks of this size that an image has.
+fn most_blocks(block_size: u32) -> u32 {
+    match IMAGE_MAX.checked_div(block_size) {
+        Some(most) => most.min(BLOCKS_MAX),
+        None => 0,
+    }
+}
+
+// Returns how many blocks the bytes of the entries take at least, beside the root's.
+fn blocks_of_bytes(entries: &[SourceEntry], block_size: u32) -> u32 {
+    let mut count = 2u32;
+    for entry in entries {
+        if let Some(bytes) = &entry.bytes {
+            if bytes.len() > INLINE_MAX {
+                let whole = (bytes.len() as u32).checked_div(block_size).unwrap_or(0);
+                count = count.saturating_add(whole);
+            }
         }
     }
-    Ok(high)
+    count
 }
 
-/// Returns how many blocks are enough for the entries, where an image has so many.
+/// Returns how many blocks are enough for the entries, but no fewer than are given. None comes where no image has enough.
 ///
 /// # Errors
 /// That of a trial that is refused for another cause than too few blocks.
-pub(crate) fn enough_blocks_for_entries(
+pub(crate) fn enough_blocks(
     host: Host<'_>,
     line: &Line<'_>,
     entries: &[SourceEntry],
     given: u32,
-) -> Result<EnoughBlocks, Error> {
-    if are_blocks_enough(host, line, entries, given)? {
-        return Ok(EnoughBlocks::Given);
+) -> Result<Option<u32>, ToolError> {
+    let most = most_blocks(line.block_size);
+    // One block less than `next` is too few, or fewer aren't wanted; so many are enough where that is known.
+    let mut few = given
+        .max(blocks_of_bytes(entries, line.block_size).min(most))
+        .saturating_sub(1);
+    let mut enough: Option<u32> = None;
+    let mut step = 1u32;
+    for _ in 0..64 {
+        let next = match enough {
+            Some(enough) if enough.saturating_sub(few) < 2 => break,
+            Some(enough) => few.saturating_add(enough.saturating_sub(few) / 2),
+            None if few >= most => break,
+            None => few.saturating_add(step).min(most.max(given)),
+        };
+        if are_blocks_enough(host, line, entries, next)? {
+            enough = Some(next);
+        } else {
+            few = next;
+            step = step.saturating_mul(2);
+        }
     }
-    let most = match IMAGE_MAX.checked_div(line.block_size) {
-        Some(most) => most.min(BLOCKS_MAX),
-        None => 0,
+    Ok(enough)
+}
+
+/// Gives the line of a new image the size that is enough for the folder, and for the blocks to spare, where that is
+/// requested. Where none is enough, it has the largest one.
+pub(crate) fn fit_size(
+    host: Host<'_>,
+    line: &mut Line<'_>,
+    extras: &Extras<'_>,
+) -> Result<(), ToolError> {
+    let Mode::Create(folder) = line.mode else {
+        return Ok(());
     };
-    let mut low = given;
-    for _ in 0..32 {
-        if low >= most {
-            break;
-        }
-        let high = low.saturating_mul(2).min(most);
-        if are_blocks_enough(host, line, entries, high)? {
-            let count = just_enough_blocks(host, line, entries, low, high)?;
-            return Ok(EnoughBlocks::Count(count));
-        }
-        low = high;
+    if !extras.is_size_auto {
+        return Ok(());
     }
-    Ok(EnoughBlocks::NoImage)
+    line.size = most_blocks(line.block_size).saturating_mul(line.block_size);
+    geometry_of_line(line)?;
+    let (entries, refusing) = read_folder_of_line(host, line, folder)?;
+    match enough_blocks(host, &refusing, entries.as_slice(), 2)? {
+        Some(count) => {
+            let count = count.saturating_add(extras.spare);
+            line.size = count.saturating_mul(line.block_size);
+            Ok(())
+        }
+        None => Err(ToolError::Fs(Error::NoSpace)),
+    }
 }

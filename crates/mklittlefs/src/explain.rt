@@ -1,22 +1,19 @@
 // Why a command line wasn't carried out: the lines of --explain.
 
-use crate::blocks::{EnoughBlocks, enough_blocks_for_entries};
+use crate::blocks::{IMAGE_MAX, enough_blocks, read_folder, read_folder_of_line};
 use crate::files::{Host, is_standard_stream};
-use crate::limit_watch::{LimitWatch, PassedLimit};
-use crate::parts::{ImagePart, OldImage, open_part};
+use crate::parts::{ImagePart, open_part};
 use crate::path_words::push_path_line;
-use crate::run::{folder_of_line, geometry_of_line, refusing_file_limit};
+use crate::run::{folder_of_line, geometry_of_line};
 use lfs_device::Error;
 use lfs_tool::{
-    CheckResult, Fault, ImageInput, Line, Mode, RefusalReason, ToolError, ToolOutput, WrongNumber,
+    CheckResult, Fault, Line, Mode, RefusalReason, ToolError, ToolOutput, WrongNumber,
     check_result_of_image, lines_of_check_result, push_escaped_path, report, write_bytes_and_flush,
 };
-use lfs_tool_folders::{Source, SourceEntry, SourceError, read_tree};
+use lfs_tool_folders::{Folder, SourceEntry};
 use lfs_tool_line::Sizes;
-use std::io::Write;
-
-// The most bytes that an image has.
-const IMAGE_MAX: u32 = 268_435_456;
+use std::io;
+use std::io::{Read, Write};
 
 // The version 2.1, as a superblock has it.
 const LATER_VERSION: u32 = 0x0002_0001;
@@ -41,24 +38,6 @@ fn path_fault_line(host: Host<'_>) -> Result<Vec<u8>, ToolError> {
     Ok(text)
 }
 
-// How many bytes an image has, or one more than it may have.
-fn size_of_image(image: &mut OldImage<'_>) -> Result<usize, ToolError> {
-    let most = IMAGE_MAX as usize + 1;
-    let mut buffer = [0u8; 65536];
-    let mut size = 0usize;
-    for _ in 0..most {
-        match image.read(&mut buffer) {
-            Ok(0) => break,
-            Ok(n) => size = size.saturating_add(n),
-            Err(_) => return Err(ToolError::Input),
-        }
-        if size >= most {
-            break;
-        }
-    }
-    Ok(size.min(most))
-}
-
 // What is wrong with the path in the image of the line's mode.
 fn path_in_image_line(host: Host<'_>, line: &Line<'_>, error: Error) -> Result<Vec<u8>, ToolError> {
     let mut text = Vec::new(host.alloc());
@@ -80,9 +59,14 @@ fn sizes_of_image(host: Host<'_>, line: &Line<'_>) -> Result<Sizes, ToolError> {
             page: line.page,
         });
     }
-    let ImagePart { mut stream, layout } = open_part_again(host, line)?;
+    let ImagePart { stream, layout } = open_part_again(host, line)?;
+    // One byte more than an image may have is enough to know.
+    let mut bytes = stream.into_inner().take(u64::from(IMAGE_MAX) + 1);
+    let Ok(size) = io::copy(&mut bytes, &mut io::sink()) else {
+        return Err(ToolError::Input);
+    };
     Ok(Sizes {
-        size: size_of_image(&mut stream)?,
+        size: size as usize,
         block_size: layout.block_size,
         page: layout.page,
     })
@@ -123,74 +107,89 @@ fn check_lines(host: Host<'_>, line: &Line<'_>) -> Result<Vec<u8>, ToolError> {
     Ok(text)
 }
 
-// All that a source has.
-fn entries_of_source<S: Source>(
-    host: Host<'_>,
-    source: &mut S,
-) -> Result<Vec<SourceEntry>, ToolError> {
-    match read_tree(host.alloc(), source) {
-        Ok(entries) => Ok(entries),
-        Err(SourceError::Fault) => Err(ToolError::Input),
-        Err(SourceError::NoMemory) => Err(ToolError::Fs(Error::NoMemory)),
+// A limit of an image that a folder passes, in bytes.
+#[derive(Clone, Copy)]
+enum PassedLimit {
+    Name(u32),
+    File(u32),
+}
+
+// How many bytes a file of a folder has. Zeros stand for one that is longer than each image.
+fn length_of_file(entry: &SourceEntry, source: &Folder<'_, HostRuntime>) -> u64 {
+    let len = match &entry.bytes {
+        Some(bytes) => bytes.len() as u64,
+        None => 0,
+    };
+    if len > u64::from(IMAGE_MAX) {
+        return source.first_too_long_file().unwrap_or(len);
     }
+    len
+}
+
+// How many bytes the last name of a path has.
+fn length_of_name(path: &[u8]) -> u64 {
+    let name = path.rsplit(|byte| *byte == b'/').next().unwrap_or(path);
+    name.len() as u64
 }
 
 // The first name or file of a folder that passes a limit.
 fn passed_limit_line(
     host: Host<'_>,
-    line: &Line<'_>,
     folder: &str,
     limit: PassedLimit,
 ) -> Result<Vec<u8>, ToolError> {
-    let source = folder_of_line(host, folder, IMAGE_MAX)?;
-    let mut watch = LimitWatch {
-        source,
-        limit,
-        first: None,
-    };
-    entries_of_source(host, &mut watch)?;
+    let mut source = folder_of_line(host, folder, IMAGE_MAX)?;
     let mut text = Vec::new(host.alloc());
-    match &watch.first {
-        Some(words) => {
+    for entry in read_folder(host, &mut source)? {
+        let (what, len, most) = match limit {
+            PassedLimit::Name(most) => ("name", length_of_name(&entry.path), most),
+            PassedLimit::File(most) => ("file", length_of_file(&entry, &source), most),
+        };
+        if len > u64::from(most) {
             push_escaped_path(&mut text, folder.as_bytes())?;
-            text.extend_from_slice(words.as_slice())?;
+            push_escaped_path(&mut text, &entry.path)?;
+            return match writeln!(text, ": a {what} of {len} bytes, and {most} are the most") {
+                Ok(()) => Ok(text),
+                Err(_) => Err(ToolError::Fs(Error::NoMemory)),
+            };
         }
-        None => text.extend_from_slice(b"no name and no file of the folder is too long by now\n")?,
     }
+    text.extend_from_slice(b"no name and no file of the folder is too long by now\n")?;
     Ok(text)
 }
 
 // How many blocks the image of a folder takes.
 fn needed_blocks_line(host: Host<'_>, line: &Line<'_>, folder: &str) -> Result<Vec<u8>, ToolError> {
     let blocks = geometry_of_line(line)?.block_count;
-    let mut source = folder_of_line(host, folder, IMAGE_MAX)?;
-    let entries = entries_of_source(host, &mut source)?;
-    let mut line = *line;
-    line.profile.file_max = refusing_file_limit(&source, IMAGE_MAX, line.profile.file_max);
+    let (entries, line) = read_folder_of_line(host, line, folder)?;
     let mut text = Vec::new(host.alloc());
-    let written = match enough_blocks_for_entries(host, &line, entries.as_slice(), blocks) {
-        Ok(EnoughBlocks::Count(count)) => {
+    let written = match enough_blocks(host, &line, entries.as_slice(), blocks) {
+        Ok(Some(count)) if count > blocks => {
             writeln!(text, "{blocks} blocks are too few, it takes {count}")
         }
-        Ok(EnoughBlocks::Given) => {
-            writeln!(
-                text,
-                "{blocks} blocks are enough for what the folder has by now"
-            )
-        }
-        Ok(EnoughBlocks::NoImage) => {
-            writeln!(text, "{blocks} blocks are too few, and no image has enough")
-        }
+        Ok(Some(_)) => writeln!(
+            text,
+            "{blocks} blocks are enough for what the folder has by now"
+        ),
+        Ok(None) => writeln!(text, "{blocks} blocks are too few, and no image has enough"),
         Err(error) => writeln!(
             text,
-            "{blocks} blocks were too few, how many it takes isn't known: {}",
-            ToolError::Fs(error)
+            "{blocks} blocks were too few, how many it takes isn't known: {error}"
         ),
     };
     match written {
         Ok(()) => Ok(text),
         Err(_) => Err(ToolError::Fs(Error::NoMemory)),
     }
+}
+
+// The limit of attributes, where a time passes it.
+fn time_limit_line(host: Host<'_>, line: &Line<'_>) -> Result<Vec<u8>, ToolError> {
+    let text = format!(in host.alloc();
+        "a time takes an attribute of 4 bytes, and {} are the most\n",
+        line.profile.attr_max
+    )?;
+    Ok(text.into_bytes())
 }
 
 // The lines that say why no image of a folder was made.
@@ -203,13 +202,10 @@ fn new_image_lines(
     match error {
         Error::NoSpace => needed_blocks_line(host, line, folder),
         Error::NameTooLong => {
-            let limit = PassedLimit::Name(line.profile.name_max);
-            passed_limit_line(host, line, folder, limit)
+            passed_limit_line(host, folder, PassedLimit::Name(line.profile.name_max))
         }
-        Error::TooBig => {
-            let limit = PassedLimit::File(line.profile.file_max);
-            passed_limit_line(host, line, folder, limit)
-        }
+        Error::TooBig if host.times && line.profile.attr_max < 4 => time_limit_line(host, line),
+        Error::TooBig => passed_limit_line(host, folder, PassedLimit::File(line.profile.file_max)),
         _ => Ok(Vec::new(host.alloc())),
     }
 }

@@ -23,6 +23,8 @@ pub(crate) struct Host<'a> {
     pub(crate) explains: bool,
     /// How the folder of an image that is made is read.
     pub(crate) rules: FolderRules<'a>,
+    /// Whether the times of files and folders are kept in an image that is made, or set where one is unpacked.
+    pub(crate) times: bool,
     /// Why standard output didn't take the lines.
     pub(crate) fault_of_lines: &'a Cell<Option<ErrorKind>>,
 }
@@ -32,8 +34,8 @@ impl<'a> Host<'a> {
         self.rt.alloc()
     }
 
-    // Notes the error of a call at a path. A call that a signal interrupted has none.
-    fn note_error<T>(self, path: &str, called: &io::Result<T>) {
+    /// Notes the error of a call at a path. A call that a signal interrupted has none.
+    pub(crate) fn note_error<T>(self, path: &str, called: &io::Result<T>) {
         if let Err(error) = called {
             if error.kind() != ErrorKind::Interrupted {
                 self.log.note(self.alloc(), path.as_bytes(), error);

@@ -9,7 +9,6 @@ mod explain;
 mod files;
 mod json;
 mod leftovers;
-mod limit_watch;
 mod parts;
 mod path_words;
 mod progress;
@@ -19,6 +18,7 @@ mod run;
 #[cfg(test)]
 mod run_tests;
 mod session;
+mod times;
 
 use crate::files::{Host, Lines};
 use crate::run::run_words_and_return_exit_status;
@@ -50,6 +50,7 @@ fn main(rt: HostRuntime) -> ExitCode {
         log: &log,
         explains: is_explanation_wanted(&rt),
         rules: FolderRules::new(),
+        times: false,
         fault_of_lines: &fault,
     };
     let mut out = WatchedStream::new(Lines {

@@ -1,5 +1,6 @@
 // What a command line requests.
 
+use crate::blocks::{fit_size, image_of_entries, read_folder};
 use crate::cat::cat_file;
 use crate::change::change_image;
 use crate::explain::write_explanation;
@@ -7,10 +8,12 @@ use crate::files::{Host, NotedWriter};
 use crate::json::{check_as_json, list_as_json};
 use crate::parts::{ImagePart, count_bytes_behind, open_part};
 use crate::progress::progress_at_terminal;
+use crate::times::set_times;
 use lfs_device::{Error, Geometry};
 use lfs_tool::{
-    Extras, Fault, ImageLayout, Line, LineError, Mode, Request, ToolError, ToolOutput,
-    WatchedStream, check, create, geometry_of_image_sizes, list, read_request, report, unpack,
+    Extras, Fault, ImageInput, ImageLayout, Line, LineError, Mode, Request, ToolError, ToolOutput,
+    WatchedStream, check, create, geometry_of_image_sizes, list, ram_device_of_image, read_image,
+    read_request, report, unpack, write_bytes_and_flush,
 };
 use lfs_tool_folders::{Folder, FolderRules, Links, Target, TargetError, TargetFolder};
 use std::io;
@@ -55,6 +58,11 @@ fn write_image(
     image: &mut WatchedStream<NotedWriter<'_>>,
 ) -> Result<(), ToolError> {
     let mut progress = progress_at_terminal(host.rt);
+    if host.times {
+        let entries = read_folder(host, source)?;
+        let made = image_of_entries(host, line, geometry, entries.as_slice(), &mut progress)?;
+        return write_bytes_and_flush(image, made.bytes());
+    }
     create(
         host.alloc(),
         source,
@@ -83,24 +91,34 @@ fn create_image(host: Host<'_>, line: &Line<'_>, folder: &str) -> Result<(), Too
     image.into_inner().place()
 }
 
-// Unpacks the image into a folder.
-fn unpack_image(host: Host<'_>, line: &Line<'_>, folder: &str) -> Result<(), ToolError> {
-    let ImagePart { mut stream, layout } = open_part(host, line)?;
+// Unpacks an image into a folder.
+fn unpack_stream<R: ImageInput>(
+    host: Host<'_>,
+    image: &mut R,
+    layout: ImageLayout,
+    folder: &str,
+) -> Result<(), ToolError> {
     let mut target = TargetFolder::new(host.rt, host.log, folder)?;
     let mut progress = progress_at_terminal(host.rt);
-    unpack(
-        host.alloc(),
-        &mut stream,
-        layout,
-        &mut target,
-        &mut progress,
-    )?;
+    unpack(host.alloc(), image, layout, &mut target, &mut progress)?;
     // An empty image has no action that makes the folder.
     match target.make_folder(host.alloc(), b"") {
         Ok(()) => Ok(()),
         Err(TargetError::Fault) => Err(ToolError::Output),
         Err(TargetError::NoMemory) => Err(ToolError::Fs(Error::NoMemory)),
     }
+}
+
+// Unpacks the line's image into a folder, and sets the times there where these are wanted.
+fn unpack_image(host: Host<'_>, line: &Line<'_>, folder: &str) -> Result<(), ToolError> {
+    let ImagePart { mut stream, layout } = open_part(host, line)?;
+    if !host.times {
+        return unpack_stream(host, &mut stream, layout, folder);
+    }
+    let bytes = read_image(host.alloc(), &mut stream)?;
+    let mut image = WatchedStream::new(bytes.as_slice());
+    unpack_stream(host, &mut image, layout, folder)?;
+    set_times(host, folder, ram_device_of_image(bytes, layout)?)
 }
 
 /// Checks the image. With `-b auto` it is said how many bytes are behind it.
@@ -182,17 +200,22 @@ fn run_request_and_return_exit_status<O: ToolOutput, E: ToolOutput>(
 ) -> u8 {
     let host = Host {
         rules: folder_rules(&request.extras),
+        times: request.extras.times,
         ..host
     };
-    let line = &request.line;
-    match run_mode(host, line, request.extras.json, out) {
+    let mut line = request.line;
+    let done = match fit_size(host, &mut line, &request.extras) {
+        Ok(()) => run_mode(host, &line, request.extras.json, out),
+        Err(error) => Err(error),
+    };
+    match done {
         Ok(true) => 0,
         Ok(false) => 1,
         Err(ToolError::Output) if line.mode == Mode::List => report_unwritten_lines(host, out, err),
         Err(error) => {
             let status = report(&Fault::Tool(error), out, err);
             if line.explain || host.explains {
-                write_explanation(host, line, error, out, err);
+                write_explanation(host, &line, error, out, err);
             }
             status
         }

@@ -8,4 +8,5 @@ unfolding with_size_options
 returns c =
     let two = c.in_ok-command-2.ensures ∙ ap (λ a. with_rule a (rule_of_number_option (codes "page") 112 (codes "page"))) c.in_ok-command.ensures in
     let three = c.in_ok-command-3.ensures ∙ ap (λ a. with_rule a (rule_of_number_option (codes "size") 115 (codes "size"))) two in
-    c.in_ok-command-4.ensures ∙ ap (λ a. with_rule a (rule_of_limit_option (codes "offset") (codes "offset"))) three
+    let four = c.in_ok-command-4.ensures ∙ ap (λ a. with_rule a (rule_of_limit_option (codes "spare") (codes "spare"))) three in
+    c.in_ok-command-5.ensures ∙ ap (λ a. with_rule a (rule_of_limit_option (codes "offset") (codes "offset"))) four

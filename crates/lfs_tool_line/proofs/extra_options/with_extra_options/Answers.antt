@@ -8,4 +8,5 @@ unfolding with_extra_options
 returns c =
     let two = c.in_ok-command-2.ensures ∙ ap (λ a. with_rule a (rule_of_flag_option (codes "follow-links"))) c.in_ok-command.ensures in
     let three = c.in_ok-command-3.ensures ∙ ap (λ a. with_rule a (rule_of_flag_option (codes "skip-links"))) two in
-    c.in_ok-command-4.ensures ∙ ap (λ a. with_rule a (rule_of_flag_option (codes "json"))) three
+    let four = c.in_ok-command-4.ensures ∙ ap (λ a. with_rule a (rule_of_flag_option (codes "times"))) three in
+    c.in_ok-command-5.ensures ∙ ap (λ a. with_rule a (rule_of_flag_option (codes "json"))) four

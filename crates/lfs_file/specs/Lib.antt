@@ -16,6 +16,7 @@ pub mod FewReads
 pub mod Fields
 pub mod Filled
 pub mod Finished
+pub mod FinishedWrites
 pub mod Form
 pub mod Front
 pub mod Growing

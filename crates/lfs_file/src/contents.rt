@@ -1,17 +1,16 @@
 // The contents of an open writer, and writes to them.
 
-ghost use Rattle.std.specs.Prelude.{◌≡◌, ◌≤◌, ◌<◌, ◌+◌, ◌^◌, length, IfOk, IfErr};
+ghost use Rattle.std.specs.Prelude.{◌≡◌, ◌<◌, ◌+◌, length, IfOk, IfErr};
 ghost use Rattle.lfs_model.specs.Blocks.{Blocks};
-ghost use Rattle.lfs_model.specs.BlockSets.{BlockStateList, used_count};
-ghost use Rattle.lfs_model.specs.SkipLists.{list_block_count_for_size};
+ghost use Rattle.lfs_model.specs.BlockSets.{BlockStateList};
 ghost use Rattle.lfs_model.specs.Writers.{contents_after_write};
 ghost use Rattle.lfs_file.specs.Calls.{ReportsIoOrNoMemory};
 ghost use Rattle.lfs_file.specs.ContentsCalls.{CallKeepsUsedBlocks};
 ghost use Rattle.lfs_file.specs.Contents.{CanWriteContents, AreConsistentContentsWithBytesAndForm, HasNoBlockInFlight, writer_contents_bytes_in_memory_or_blocks, storage_form_of_contents, bytes_in_buffer};
+ghost use Rattle.lfs_file.specs.FinishedWrites.{CanWriteOverFinishedList};
 ghost use Rattle.lfs_file.specs.Form as form;
 ghost use Rattle.lfs_file.specs.Form.{storage_form_after_write};
-ghost use Rattle.lfs_file.specs.Hand.{IsFinishedListConsistentWithMapAndDisk, KeepsUsedBlocksInMap, bytes_of_stored_list};
-ghost use Rattle.lfs_file.specs.BaseRoom.{in_flight_block_limit_of_stored_list};
+ghost use Rattle.lfs_file.specs.Hand.{KeepsUsedBlocksInMap, bytes_of_stored_list};
 ghost use Rattle.lfs_file.specs.HandWrites.{IsWrittenUnfinishedListOfContentsEndingAt, contents_bytes_of_unfinished_list};
 ghost use Rattle.lfs_file.specs.BlockOwners.{AreUsedBlocksOfListAmongOwnBlocks, KeepsBlocksOfStoredList, blocks_of_contents};
 
@@ -93,10 +92,7 @@ fn begin_list_over_finished_list_with_bytes<D: BlockDevice>(
     place: u32,
     bytes: &[u8],
 ) -> Result<PendingList, Error>
-    requires stored { IsFinishedListConsistentWithMapAndDisk map.old (D.blocks dev.old) (D.geometry dev.old).block_size stored }
-    requires some { 1 ≤ length bytes.now }
-    requires small { place + length bytes.now < 2 ^ 31 }
-    requires room { used_count map.old + list_block_count_for_size (D.geometry dev.old).block_size (place + length bytes.now) + in_flight_block_limit_of_stored_list (D.geometry dev.old).block_size stored ≤ length map.old }
+    requires { CanWriteOverFinishedList map.old (D.blocks dev.old) (D.geometry dev.old).block_size stored place (length bytes.now) }
     ensures written { IfOk result (λ h. IsWrittenUnfinishedListOfContentsEndingAt map.new (D.blocks dev.new) (D.geometry dev.old) h (place + length bytes.now)
         (contents_after_write (bytes_of_stored_list (D.blocks dev.old) (D.geometry dev.old).block_size stored) place bytes.now)) }
     ensures base { IfOk result (λ h. KeepsBlocksOfStoredList (D.geometry dev.old).block_size (D.blocks dev.old) stored (D.blocks dev.new) h.base) }

@@ -1,13 +1,13 @@
 -- An empty directory goes: the pairs in front of those that go don't stay with what they held.
-use Rattle.std.proofs.Common.{ℕ, ◌≡◌, ◌+◌, ◌-◌, ◌<◌, ◌≤◌, false, [], ◌∷◌, length, Some, sym, ap, ◌∙◌, arith}
-use Rattle.lfs_operations.proofs.Common.{Gstate, zero_gstate, AreLinkedByTails, Pair, anchor_pair_address, blocks_of_pairs, blocks_of_pair_address, occurrence_count_of_number, count_here, once_from_distinct, sync_bit_delta, KeptThread, thread_pair_at_index}
+use Rattle.std.proofs.Common.{refl, ℕ, ◌≡◌, ◌+◌, ◌-◌, ◌<◌, ◌≤◌, false, [], ◌∷◌, length, Some, sym, ap, ◌∙◌, arith}
+use Rattle.lfs_operations.proofs.Common.{IsPairChanged, Gstate, zero_gstate, AreLinkedByTails, Pair, anchor_pair_address, blocks_of_pairs, blocks_of_pair_address, occurrence_count_of_number, count_here, once_from_distinct, sync_bit_delta, KeptThread, thread_pair_at_index}
 use Rattle.lfs_operations.specs.Changing.{IsPairNotKeptUnchanged}
 use Rattle.lfs_operations.specs.Dropping.{CanDropPairAt, IsNextPairDropped, content_after_next_pair_drop}
 use Rattle.lfs_operations.specs.Removing.{is_pair_dropped_with_slot}
-use Rattle.lfs_operations.specs.Unlinking.{ArePairsBeforeDroppedPairsAltered, CanRemoveDirectory, IsDirectoryEntryUnlinked, pair_number_after_drop}
+use Rattle.lfs_operations.specs.Unlinking.{ArePairsBeforeDroppedPairsAltered, CanRemoveDirectory, directory_unlink_changes, pair_number_after_drop}
 use Rattle.lfs_operations.proofs.AlteredTails.{names_next, tail_goes}
+use Rattle.lfs_operations.proofs.Dropped.{blocks_dropped}
 use Rattle.lfs_operations.proofs.DroppedTails.{gone_is, two_at, without_is}
-use Rattle.lfs_operations.proofs.Placing.{blocks_append}
 use Rattle.lfs_operations.proofs.RemovedWhole.{StandsWhole}
 use Rattle.lfs_operations.proofs.RmdirThread as kept
 use Rattle.lfs_operations.proofs.UnlinkedSteps.{at_there}
@@ -26,11 +26,7 @@ fewer_blocks t front state new low d b =
     let now = ap (λ z. occurrence_count_of_number b (blocks_of_pairs z)) (d.pairs ∙ without_is t front two.ahead two.one two.other two.back two.is two.number (content_after_next_pair_drop t front state)) in
     let was = ap (λ z. occurrence_count_of_number b (blocks_of_pairs z)) two.is in
     let gone = ap (λ (z : Pair). occurrence_count_of_number b (blocks_of_pair_address z.at)) (gone_is t front two.ahead two.one two.other two.back two.is two.number) in
-    let a = blocks_append two.ahead (q ∷ two.back) b in
-    let c = blocks_append two.ahead (two.one ∷ two.other ∷ two.back) b in
-    let e = blocks_append (q ∷ []) two.back b in
-    let f = blocks_append (two.one ∷ []) (two.other ∷ two.back) b in
-    let g = blocks_append (two.other ∷ []) two.back b in
+    let e = blocks_dropped two.ahead two.one two.other q two.back refl b in
     omega arith
 
 none_left : (t : KeptThread) (front : ℕ) (state : Gstate) (new : KeptThread) → front + 1 < length t.pairs → IsNextPairDropped t front state new → occurrence_count_of_number (thread_pair_at_index t (front + 1)).at.0 (blocks_of_pairs t.pairs) ≤ 1
@@ -48,14 +44,14 @@ module _ (t : KeptThread) (index id first gone : ℕ) (take : CanRemoveDirectory
   links_are = take.can.ready.accepted.thread.links
 
   -- its entry goes from a pair that stays
-  pub beside_alters : (goes : is_pair_dropped_with_slot t index first ≡ false) (m : KeptThread) (u : IsDirectoryEntryUnlinked t index id m) (new : KeptThread) → IsNextPairDropped m (gone - 1) zero_gstate new → ArePairsBeforeDroppedPairsAltered t index first gone new
+  pub beside_alters : (goes : is_pair_dropped_with_slot t index first ≡ false) (m : KeptThread) (u : IsPairChanged t index (directory_unlink_changes t index id) m) (new : KeptThread) → IsNextPairDropped m (gone - 1) zero_gstate new → ArePairsBeforeDroppedPairsAltered t index first gone new
   beside_alters goes m u new d = record { front = front; entry = λ whole. absurd (let k = sym whole ∙ goes in cc) }
     where
       can : CanDropPairAt m gone zero_gstate
       can = can_drop_last (kept.may_go t index id first gone take goes m u)
 
       same : (thread_pair_at_index m (gone - 1 + 1)).at ≡ (thread_pair_at_index t (gone - 1 + 1)).at
-      same = at_there t m index id (gone - 1 + 1) u
+      same = at_there t m index (gone - 1 + 1) (directory_unlink_changes t index id) u
 
       front : IsPairNotKeptUnchanged t (gone - 1) new
       front =

@@ -71,7 +71,7 @@ module _ (disk new : Disk) (ahead : List Pair) (p o q : Pair) (back : List Pair)
       let c6 = count_files b disk o.content.slots g in
       omega arith
 
-blocks_dropped : (ahead : List Pair) (p o q : Pair) (back : List Pair) → q.at ≡ p.at → (b : ℕ) → occurrence_count_of_number b (blocks_of_pairs (ahead ++ q ∷ back)) + occurrence_count_of_number b (blocks_of_pair_address o.at) ≡ occurrence_count_of_number b (blocks_of_pairs (ahead ++ p ∷ o ∷ back))
+pub blocks_dropped : (ahead : List Pair) (p o q : Pair) (back : List Pair) → q.at ≡ p.at → (b : ℕ) → occurrence_count_of_number b (blocks_of_pairs (ahead ++ q ∷ back)) + occurrence_count_of_number b (blocks_of_pair_address o.at) ≡ occurrence_count_of_number b (blocks_of_pairs (ahead ++ p ∷ o ∷ back))
 blocks_dropped ahead p o q back at b =
     let d1 = blocks_append ahead (q ∷ back) b in
     let d2 = blocks_append ahead (p ∷ o ∷ back) b in

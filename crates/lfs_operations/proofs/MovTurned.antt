@@ -119,7 +119,7 @@ module _ (t : KeptThread) (index : ℕ) (changes : List PairContentChange) (w : 
 
   -- ---- what it comes to
 
-  pub turned_one : (disk : Disk) → IsPairWrittenOnDisk t index c disk → IsContentFittingPair t.disk.block_size t.disk.page c → HasTurned t.disk w p slots move disk (record { at = p.at; content = c }) []
+  turned_one : (disk : Disk) → IsPairWrittenOnDisk t index c disk → IsContentFittingPair t.disk.block_size t.disk.page c → HasTurned t.disk w p slots move disk (record { at = p.at; content = c }) []
   turned_one disk is fits = record {
     at = refl;
     delta = gstate_cons (record { at = p.at; content = c }) [] ∙ gstate_right move;

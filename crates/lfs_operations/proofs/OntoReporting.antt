@@ -1,14 +1,13 @@
 -- What the steps of a rename onto a directory tell, write and leave, one after the other.
-use Rattle.std.proofs.Common.{ℕ, ◌≡◌, ◌-◌, ◌<◌, ◌⊎◌, inl, inr, Bool, true, false, List, length, arith, Result, Ok, sym, ap, subst, ◌∙◌, get_or}
+use Rattle.std.proofs.Common.{ℕ, ◌≡◌, ◌-◌, ◌<◌, ◌⊎◌, inl, inr, Bool, true, false, List, length, arith, Result, Ok, sym, ap, subst, ◌∙◌}
 use Rattle.lfs_device.specs.declared.error.Error.{Error}
-use Rattle.lfs_operations.proofs.Common.{Blocks, fault_count_of_history, HasTreeBeforeOrAfterOperation as IsLeftOf, SurvivesPowerLossInCallsSince, disk_with_blocks, zero_gstate, Pair, blocks_of_pair_address, blocks_of_two_pair_addresses, Tree, survives_then, IsTrueAfterAnyPowerLossSince-weaker, PairContentChange, PowerLossLeavesSuchBlocksAfterCleanErases, KeptThread, ThreadView, IsPairChanged, IsThreadOnlyRead, ThreadChangesOnlyTheseBlocks, empty_pair_at_anchor, thread_pair_at_index}
+use Rattle.lfs_operations.proofs.Common.{Blocks, fault_count_of_history, HasTreeBeforeOrAfterOperation as IsLeftOf, SurvivesPowerLossInCallsSince, disk_with_blocks, zero_gstate, blocks_of_pair_address, Tree, survives_then, IsTrueAfterAnyPowerLossSince-weaker, PairContentChange, PowerLossLeavesSuchBlocksAfterCleanErases, KeptThread, ThreadView, IsThreadOnlyRead, ThreadChangesOnlyTheseBlocks, thread_pair_at_index}
 use Rattle.lfs_operations.specs.Dropping.{IsLeftByStoppedPairDrop}
 use Rattle.lfs_operations.specs.Changing.{has_thread_failed_after_result}
 use Rattle.lfs_operations.specs.MoveEnds.{pair_written_at_move_end}
 use Rattle.lfs_operations.specs.MovingSteps.{ReportsErrorsOfCommitsTakingBlocks, WritesTwoPairsAndTwoFreeBlocks, pair_written_by_second_move_commit}
 use Rattle.lfs_operations.specs.Removing.{ReportsErrorsOfCommitTakingNoBlock, is_pair_dropped_with_slot}
 use Rattle.lfs_operations.specs.RenamingOver.{ReportsErrorsOfReadThenCommit, ReportsErrorsOfReadThenCommits}
-use Rattle.lfs_operations.proofs.UnlinkedSteps.{at_kept, writes_both}
 
 pub over_from : {X : Type 0} (old new : ThreadView) (result : Result X Error) → ReportsErrorsOfReadThenCommit old new result → ReportsErrorsOfReadThenCommits old new result
 over_from old new result h = record { failed = h.failed; errors = h.reported.errors; fault = h.reported.fault; no_fault = h.reported.no_fault }
@@ -22,12 +21,6 @@ over_then old mid new a first second ok one two =
       fault = λ io. subst (λ n. n < fault_count_of_history new.kept.history) same (two.reported.fault io);
       no_fault = λ other. two.reported.no_fault other ∙ same;
     }
-
-pub writes_over : (t m new : KeptThread) (index gone : ℕ) (changes : List PairContentChange) → IsPairChanged t index changes m → ThreadChangesOnlyTheseBlocks (blocks_of_pair_address (thread_pair_at_index t index).at) t m → ThreadChangesOnlyTheseBlocks (blocks_of_pair_address (thread_pair_at_index m (gone - 1)).at) m new
-    → ThreadChangesOnlyTheseBlocks (blocks_of_two_pair_addresses (thread_pair_at_index t index).at (thread_pair_at_index t (gone - 1)).at) t new
-writes_over t m new index gone changes is one two =
-    let at : (thread_pair_at_index m (gone - 1)).at ≡ (thread_pair_at_index t (gone - 1)).at = ap (λ (z : List Pair). (get_or z (gone - 1) empty_pair_at_anchor).at) is.pairs ∙ at_kept t.pairs index (gone - 1) is.content empty_pair_at_anchor in
-    writes_both (thread_pair_at_index t index).at (thread_pair_at_index t (gone - 1)).at one (subst (λ a. ThreadChangesOnlyTheseBlocks (blocks_of_pair_address a) m new) at two)
 
 pub last_survives : (t m new : KeptThread) (gone : ℕ) (bs cs : List ℕ) (before after : Tree) → ThreadChangesOnlyTheseBlocks bs t m → ThreadChangesOnlyTheseBlocks cs m new → SurvivesPowerLossInCallsSince t.disk t.history m.history before after
     → ((left : Blocks) → IsLeftByStoppedPairDrop m (gone - 1) zero_gstate left → IsLeftOf (disk_with_blocks left t.disk) before after) → PowerLossLeavesSuchBlocksAfterCleanErases m.history new.history (IsLeftByStoppedPairDrop m (gone - 1) zero_gstate)

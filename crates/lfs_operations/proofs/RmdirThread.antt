@@ -1,21 +1,19 @@
 -- An empty directory that goes in two steps of the thread.
-use Rattle.std.proofs.Common.{Some, ℕ, ◌≡◌, ◌≢◌, ◌⊎◌, inl, inr, ◌-◌, ◌<◌, true, false, nat_eq, List, [], ◌∷◌, ◌++◌, length, None, refl, sym, ap, ap₂, subst, ◌∙◌, arith, append_assoc, append-nil, length-append}
-use Rattle.lfs_operations.proofs.Common.{IsDistinct, tree_after_removal, tree_after_subtree_replacement, Blocks, AreExactlyTheUsedBlocks, Disk, IsPairAtAddress, HasTreeBeforeOrAfterOperation as IsLeftOf, disk_with_blocks, IsContentFittingPair, PairContent, Gstate, Slot, gstate_xor, zero_gstate, Pair, blocks_of_pairs, gstate_of_pairs, pair_count_before_root, tree_on_disk, used_blocks, IsImageAfterCompletedOperation, no_move_from, IsImageAfterTreeChange, occurrence_count_of_number, HasNoMove, sync_bit_delta, IsStep, directory_goes, step_chain, site, Site, dirs_at, thread_at, IsDevice, IsWritableImageAfterTreeChange, ends_in_hard_tail, KeptThread, IsPairWrittenOnDisk, thread_pair_at_index, IsChain, Path}
+use Rattle.std.proofs.Common.{Some, ℕ, ◌≡◌, ◌≢◌, ◌⊎◌, inl, inr, ◌-◌, ◌<◌, true, false, nat_eq, List, [], ◌∷◌, ◌++◌, length, None, refl, sym, ap, subst, ◌∙◌, arith, append_assoc, append-nil, length-append}
+use Rattle.lfs_operations.proofs.Common.{IsPairChanged, PowerLossLeavesPairOldOrChanged, IsDistinct, tree_after_removal, tree_after_subtree_replacement, Blocks, AreExactlyTheUsedBlocks, Disk, IsPairAtAddress, HasTreeBeforeOrAfterOperation as IsLeftOf, disk_with_blocks, IsContentFittingPair, Gstate, Slot, gstate_xor, zero_gstate, Pair, blocks_of_pairs, gstate_of_pairs, pair_count_before_root, tree_on_disk, used_blocks, IsImageAfterCompletedOperation, no_move_from, IsImageAfterTreeChange, occurrence_count_of_number, HasNoMove, sync_bit_delta, IsStep, directory_goes, step_chain, site, Site, dirs_at, thread_at, IsDevice, IsWritableImageAfterTreeChange, ends_in_hard_tail, KeptThread, thread_pair_at_index, IsChain, Path}
 use Rattle.lfs_model.specs.Operations as ops
 use Rattle.lfs_operations.specs.Dropping.{IsNextPairDropped, IsLeftByStoppedPairDrop, HasSameBlocksInFlight, ShowsTreeAfterPairDrops}
 use Rattle.lfs_operations.specs.Editing.{CanEditEntryOfPair}
 use Rattle.lfs_operations.specs.Removing.{is_pair_dropped_with_slot, tree_without_named_entry}
-use Rattle.lfs_operations.specs.Unlinking.{CanRemoveDirectory, IsDirectoryRemoved, IsLeftByStoppedUnlink, IsDirectoryEntryUnlinked, content_without_directory_entry, directory_unlink_changes}
-use Rattle.lfs_operations.proofs.Placing.{device, left_after, left_still}
+use Rattle.lfs_operations.specs.Unlinking.{CanRemoveDirectory, IsDirectoryRemoved, directory_unlink_changes}
 use Rattle.lfs_operations.proofs.Removed.{alone, flag_ends, stays_there}
 use Rattle.lfs_operations.proofs.Rmdir.{HasPlace, Unlinks, place_of, unlinked_count}
 use Rattle.lfs_operations.proofs.RmdirPlaces.{HasOwnPair, led_to, own_pair, HasFront, flag_from}
-use Rattle.lfs_operations.proofs.Unlinked.{fits_gone, held_there, pair_there, slots_gone, unlink_made}
+use Rattle.lfs_operations.proofs.Unlinked.{content_without_directory_entry, fits_gone, held_there, pair_there, slots_gone, unlink_made}
 use Rattle.lfs_operations.proofs.LastDrop.{IsAllButDropped, is_gone, left_last, pairs_end, shows_dropped, y}
 use Rattle.lfs_operations.proofs.Owning.{used_same}
-use Rattle.lfs_operations.proofs.MovTurned.{content_with}
-use Rattle.lfs_operations.proofs.TurnedSync.{IsSyncTurn, Turned, has_turned, no_move_turned, pair_turned, state_turned, step_turned, taken_turned}
-use Rattle.lfs_operations.proofs.Threads.{one_now, placed_one}
+use Rattle.lfs_operations.proofs.MovTurned.{ChangedOne, changed_one, content_with}
+use Rattle.lfs_operations.proofs.TurnedSync.{left_turned, turn_of, IsSyncTurn, Turned, no_move_turned, pair_turned, state_turned, step_turned, taken_turned}
 use Rattle.lfs_operations.proofs.PairAt.{HasPairAt, pair_at}
 
 module _ (t : KeptThread) (index id first gone : ℕ) (take : CanRemoveDirectory t index id first gone) (goes : is_pair_dropped_with_slot t index first ≡ false) where
@@ -77,9 +75,6 @@ module _ (t : KeptThread) (index id first gone : ℕ) (take : CanRemoveDirectory
 
   -- ---- the first step
 
-  abbrev c : PairContent
-  c = content_without_directory_entry t index id
-
   content_is : content_without_directory_entry t index id ≡ content_with p (l ++ r) (gstate_xor p.content.move sync_bit_delta)
   content_is = λ j. record { slots = slots_gone t index id can j; tail = (pair_there t index id can j).content.tail; move = gstate_xor (pair_there t index id can j).content.move sync_bit_delta }
 
@@ -101,9 +96,6 @@ module _ (t : KeptThread) (index id first gone : ℕ) (take : CanRemoveDirectory
 
   abbrev q : Pair
   q = pair_turned turning
-
-  turned_on : (disk : Disk) → IsPairWrittenOnDisk t index c disk → Turned turning disk
-  turned_on disk written = has_turned turning disk (subst (λ z. IsPairWrittenOnDisk t index z disk) content_is written)
 
   abbrev ahead : List Pair
   ahead = w.chain ++ (w.before ++ w.left)
@@ -144,31 +136,31 @@ module _ (t : KeptThread) (index id first gone : ℕ) (take : CanRemoveDirectory
 
   -- ---- between the steps
 
-  module _ (m : KeptThread) (h : IsDirectoryEntryUnlinked t index id m) where
-    x : Turned turning m.disk
-    x = turned_on m.disk h.written
+  module _ (m : KeptThread) (h : IsPairChanged t index (directory_unlink_changes t index id) m) where
+    abbrev x : ChangedOne t index w p (l ++ r) (gstate_xor p.content.move sync_bit_delta) m
+    x = changed_one t index (directory_unlink_changes t index id) w p (l ++ r) (gstate_xor p.content.move sync_bit_delta) (turn_of turning) m h
 
     abbrev k : HasPlace t.disk m.disk w p q u can.path o (length front.front)
-    k = place m.disk x
+    k = place m.disk x.turned
 
     pairs_middle : m.pairs ≡ thread_at w (q ∷ [])
-    pairs_middle = h.pairs ∙ one_now t index w p stand.there stand.number c ∙ ap (λ z. thread_at w (record { at = p.at; content = z } ∷ [])) content_is
+    pairs_middle = x.pairs
 
     used_middle : (b : ℕ) → occurrence_count_of_number b (used_blocks m.disk m.pairs) ≡ occurrence_count_of_number b (used_blocks t.disk t.pairs)
     used_middle b = ap (λ z. occurrence_count_of_number b (used_blocks m.disk z)) (pairs_middle ∙ grouped q)
         ∙ unlinked_count t.disk m.disk ahead p q behind l r u take.to (subst (λ z. HasNoMove (gstate_of_pairs z)) (grouped p) (no_move_from (thread_at w (p ∷ [])) stand.settled)) (subst (λ z. HasNoMove (gstate_of_pairs z)) (grouped q) (no_move_turned turning))
-        (subst (λ z. IsDevice t.disk m.disk z (ahead ++ q ∷ behind)) (grouped p) (subst (IsDevice t.disk m.disk (thread_at w (p ∷ []))) (grouped q) x.device)) refl held refl take.branch b
+        (subst (λ z. IsDevice t.disk m.disk z (ahead ++ q ∷ behind)) (grouped p) (subst (IsDevice t.disk m.disk (thread_at w (p ∷ []))) (grouped q) x.turned.device)) refl held refl take.branch b
         ∙ ap (λ z. occurrence_count_of_number b (used_blocks t.disk z)) (sym (stand.there ∙ grouped p))
 
     chain_middle : IsChain w.chain (dirs_at w (q ∷ []))
-    chain_middle = step_chain t.disk m.disk w p [] q [] [] [] l (u ∷ []) [] r (step_turned turning m.disk x)
+    chain_middle = step_chain t.disk m.disk w p [] q [] [] [] l (u ∷ []) [] r (step_turned turning m.disk x.turned)
 
     -- the directory's own pair may go
     pub may_go : IsAllButDropped t m (thread_pair_at_index t gone) gone (tree_after_removal (take.can.path ++ take.can.stands.stands.slot.name ∷ [])) (tree_after_subtree_replacement (take.can.path ++ take.can.stands.stands.slot.name ∷ []) (λ t. None))
     may_go = record {
       ready = can.ready;
       taken = subst (λ z. IsWritableImageAfterTreeChange t.disk t.pairs m.disk z (tree_after_removal path_there) (tree_after_subtree_replacement path_there (λ t. None))) (sym pairs_middle)
-          (subst (λ z. IsWritableImageAfterTreeChange t.disk z m.disk (thread_at w (q ∷ [])) (tree_after_removal path_there) (tree_after_subtree_replacement path_there (λ t. None))) (sym stand.there) (first_taken m.disk x));
+          (subst (λ z. IsWritableImageAfterTreeChange t.disk z m.disk (thread_at w (q ∷ [])) (tree_after_removal path_there) (tree_after_subtree_replacement path_there (λ t. None))) (sym stand.there) (first_taken m.disk x.turned));
       no_move = subst (λ z. HasNoMove (gstate_of_pairs z)) (sym pairs_middle) (no_move_turned turning);
       chain = w.chain;
       front = k.front;
@@ -205,15 +197,6 @@ module _ (t : KeptThread) (index id first gone : ℕ) (take : CanRemoveDirectory
 
   -- ---- at a stop in the first step
 
-  pub left_first : (left : Blocks) → IsLeftByStoppedUnlink t index id left → IsLeftOf (disk_with_blocks left t.disk) (tree_on_disk t.disk t.pairs) (tree_without_named_entry t take.can.path take.can.name)
-  left_first left g = go g.is
-    where
-      go : (g.content ≡ (thread_pair_at_index t index).content) ⊎ (g.content ≡ content_without_directory_entry t index id) → IsLeftOf (disk_with_blocks left t.disk) (tree_on_disk t.disk t.pairs) (tree_without_named_entry t can.path can.name)
-      go (inl e) =
-          let same = e ∙ ap (λ (z : Pair). z.content) (pair_there t index id can) in
-          left_still t.disk left (thread_at w (p ∷ [])) stand.accepted stand.writable
-          (device t.disk (disk_with_blocks left t.disk) w p p [] [] stand.accepted stand.accepted.owned_once
-          (placed_one t index w p stand.there stand.number (disk_with_blocks left t.disk) p.content (λ h. (h.kind, h.name)) (subst (λ z. IsPairWrittenOnDisk t index z (disk_with_blocks left t.disk)) same g.written)))
-          (inl (ap (tree_on_disk t.disk) (sym stand.there)))
-      go (inr e) = left_after (first_taken (disk_with_blocks left t.disk) (turned_on (disk_with_blocks left t.disk) (subst (λ z. IsPairWrittenOnDisk t index z (disk_with_blocks left t.disk)) e g.written)))
-          (inr (ap₂ (λ n z. tree_after_removal (can.path ++ n ∷ []) (tree_on_disk t.disk z)) can.stands.stands.named (sym stand.there)))
+  pub left_first : (left : Blocks) → PowerLossLeavesPairOldOrChanged t index (directory_unlink_changes t index id) left → IsLeftOf (disk_with_blocks left t.disk) (tree_on_disk t.disk t.pairs) (tree_without_named_entry t take.can.path take.can.name)
+  left_first left is = subst (IsLeftOf (disk_with_blocks left t.disk) (tree_on_disk t.disk t.pairs)) (ap (λ n. tree_after_removal (can.path ++ n ∷ []) (tree_on_disk t.disk t.pairs)) can.stands.stands.named)
+      (left_turned turning (tree_after_removal (can.path ++ u.name ∷ [])) (tree_after_subtree_replacement (can.path ++ u.name ∷ []) (λ t. None)) follows left is)

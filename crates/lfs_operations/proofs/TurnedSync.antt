@@ -1,11 +1,11 @@
 -- A pair of an image with nothing to recover, whose commit turns the sync bit: the step, and what a stop leaves.
 use Rattle.std.proofs.Common.{ℕ, ◌≡◌, ◌≢◌, ◌⊎◌, inl, inr, ◌+◌, true, false, List, [], ◌∷◌, ◌++◌, length, Some, refl, sym, ap, subst, ◌∙◌, arith, append-nil}
-use Rattle.lfs_operations.proofs.Common.{recursion_from_All, Blocks, PairContentChange, Disk, SameGeometry, HasTreeBeforeOrAfterOperation as IsLeftOf, disk_with_blocks, IsSlotWithinWritableLimits, IsWritableImage, all_slots_not_moved, tree_on_disk, pair_with_slots, IsContentFittingPair, Slot, gstate_xor, zero_gstate, DirectoryAddressByPath, Pair, gstate_of_pairs, starts_with_superblock, Tree, IsAcceptedImage, fits_same, IsImageAfterTreeChange, SameFiles, no_move_from, Each, HasSameFileBlocksOfStructOnDisks, HasNoMove, sync_bit_delta, IsStep, IsSite, Site, thread_at, IsDevice, stays_shape, IsWritableImageAfterTreeChange, ends_in_hard_tail, KeptThread, IsPairWrittenOnDisk, PowerLossLeavesPairOldOrChanged, SlotsBeginWithSuperblock, complete_content_after_changes}
+use Rattle.lfs_operations.proofs.Common.{recursion_from_All, Blocks, PairContentChange, Disk, SameGeometry, HasTreeBeforeOrAfterOperation as IsLeftOf, disk_with_blocks, IsSlotWithinWritableLimits, IsWritableImage, all_slots_not_moved, tree_on_disk, pair_with_slots, IsContentFittingPair, Slot, gstate_xor, zero_gstate, DirectoryAddressByPath, Pair, gstate_of_pairs, starts_with_superblock, Tree, IsAcceptedImage, fits_same, IsImageAfterTreeChange, SameFiles, no_move_from, Each, HasSameFileBlocksOfStructOnDisks, HasNoMove, sync_bit_delta, IsStep, IsSite, Site, thread_at, IsDevice, stays_shape, IsWritableImageAfterTreeChange, ends_in_hard_tail, KeptThread, PowerLossLeavesPairOldOrChanged, SlotsBeginWithSuperblock, complete_content_after_changes}
 use Rattle.lfs_model.proofs.Splices.{IsSplice}
 use Rattle.lfs_model.proofs.StepsTaken.{commit_taken}
 use Rattle.lfs_operations.specs.Ready.{IsImageReadyForChange}
 use Rattle.lfs_operations.proofs.MovSet.{HasTurned}
-use Rattle.lfs_operations.proofs.MovTurned.{IsTurn, content_with, left_alone, turned_one}
+use Rattle.lfs_operations.proofs.MovTurned.{IsTurn, content_with, left_alone}
 use Rattle.lfs_operations.proofs.Placing.{left_after, left_still}
 use Rattle.lfs_operations.proofs.Threads.{sync_turned}
 
@@ -60,10 +60,6 @@ module _ {t : KeptThread} {index : ℕ} {changes : List PairContentChange} {w : 
       go : (l : List Slot) → (l ≡ [] → starts_with_superblock (olds ++ r) ≡ false) → starts_with_superblock (l ++ (olds ++ r)) ≡ true → starts_with_superblock (l ++ (news ++ r)) ≡ true
       go [] f e = absurd (let z = sym (f refl) ∙ e in cc)
       go (s ∷ l) f e = e
-
-  pub has_turned : (disk : Disk) → IsPairWrittenOnDisk t index (content_with p slots (gstate_xor p.content.move sync_bit_delta)) disk
-      → Turned disk
-  has_turned disk written = turned_one t index changes w p slots (gstate_xor p.content.move sync_bit_delta) turn_of disk written k.fits
 
   pub step_turned : (disk : Disk) → Turned disk
       → IsStep t.disk disk w p [] pair_turned [] [] [] l olds news r

@@ -1,11 +1,19 @@
 -- An entry that goes while the sync bit turns, as a change of its pair.
-use Rattle.std.proofs.Common.{ℕ, ◌≡◌, ◌⊎◌, inl, inr, ◌<◌, List, [], ◌∷◌, ◌++◌, length, Some, refl, sym, ap, ap₂, subst, ◌∙◌, arith, length-append, remove, sum_by}
+use Rattle.std.proofs.Common.{ℕ, ◌≡◌, ◌<◌, List, [], ◌∷◌, ◌++◌, length, Some, refl, sym, ap, ap₂, subst, ◌∙◌, arith, length-append, remove, sum_by}
 use Rattle.std.specs.Option.{option_and_then}
-use Rattle.lfs_operations.proofs.Common.{same_Some, sum_by-append, sum_by-cons, Blocks, Delete, PutMove, raw_pair_content_after_changes, RawPairContent, pair_content_if_slots_complete, raw_content_of_pair_at, AreMoveStateFieldsWithinBitWidths, IsContentFittingPair, Gstate, Slot, gstate_xor, slot_size, Pair, complete_length, complete_remove, completed_from, completed_parts, deletes, does_first, does_nothing, puts_move, sync_bit_delta, remove_here, KeptThread, CanChangePair, IsPairChanged, PowerLossLeavesPairOldOrChanged, IsCommitRefused, IsPairWrittenOnDisk, complete_content_after_changes, thread_pair_at_index, thread_pairs_with_content_replaced_at_index}
+use Rattle.lfs_operations.proofs.Common.{PairContent, same_Some, sum_by-append, sum_by-cons, Delete, PutMove, raw_pair_content_after_changes, RawPairContent, pair_content_if_slots_complete, raw_content_of_pair_at, AreMoveStateFieldsWithinBitWidths, IsContentFittingPair, Gstate, Slot, gstate_xor, slot_size, Pair, complete_length, complete_remove, completed_from, completed_parts, deletes, does_first, does_nothing, puts_move, sync_bit_delta, remove_here, KeptThread, CanChangePair, IsCommitRefused, complete_content_after_changes, thread_pair_at_index}
 use Rattle.lfs_operations.specs.Editing.{CanEditEntryOfPair}
-use Rattle.lfs_operations.specs.Unlinking.{IsLeftByStoppedUnlink, IsDirectoryEntryUnlinked, directory_unlink_changes, content_without_directory_entry}
+use Rattle.lfs_operations.specs.Unlinking.{directory_unlink_changes}
 use Rattle.lfs_operations.proofs.DroppedTails.{move_xor}
 use Rattle.lfs_operations.proofs.Held.{CompletesTo, below, fits_there, here, raw_there}
+
+-- what the entry's pair holds without it; the pair's delta turns the sync bit
+abbrev pub content_without_directory_entry : KeptThread → ℕ → ℕ → PairContent
+content_without_directory_entry t pair id = record {
+  slots = remove (thread_pair_at_index t pair).content.slots id;
+  tail = (thread_pair_at_index t pair).content.tail;
+  move = gstate_xor (thread_pair_at_index t pair).content.move sync_bit_delta;
+}
 
 sync_small : AreMoveStateFieldsWithinBitWidths sync_bit_delta
 sync_small = record { kind = omega arith; id = omega arith; pair = (omega arith, omega arith) }
@@ -91,21 +99,3 @@ module _ (t : KeptThread) (index id : ℕ) (can : CanEditEntryOfPair t index id)
 
   pub unlink_not_refused : (new : KeptThread) → IsCommitRefused t index (directory_unlink_changes t index id) new → ⊥
   unlink_not_refused new is = is.too_large (subst (IsContentFittingPair t.disk.block_size t.disk.page) (same_Some (content_without_directory_entry t index id) is.content (sym unlink_made ∙ is.made)) fits_gone)
-
-  pub has_unlinked : (new : KeptThread) → IsPairChanged t index (directory_unlink_changes t index id) new → IsDirectoryEntryUnlinked t index id new
-  has_unlinked new is =
-      let same = same_Some is.content (content_without_directory_entry t index id) (sym is.made ∙ unlink_made) in
-      record {
-        written = subst (λ z. IsPairWrittenOnDisk t index z new.disk) same is.written;
-        pairs = is.pairs ∙ ap (thread_pairs_with_content_replaced_at_index t index) same;
-        thread = is.thread;
-        map = is.map;
-      }
-
-  pub left_by_unlink : (left : Blocks) → PowerLossLeavesPairOldOrChanged t index (directory_unlink_changes t index id) left → IsLeftByStoppedUnlink t index id left
-  left_by_unlink left is = record { content = is.content; is = go is.is; written = is.written }
-    where
-      go : (is.content ≡ (thread_pair_at_index t index).content) ⊎ ((complete_content_after_changes t index (directory_unlink_changes t index id) ≡ Some is.content) × IsContentFittingPair t.disk.block_size t.disk.page is.content)
-          → (is.content ≡ (thread_pair_at_index t index).content) ⊎ (is.content ≡ content_without_directory_entry t index id)
-      go (inl e) = inl e
-      go (inr k) = inr (same_Some is.content (content_without_directory_entry t index id) (sym k.0 ∙ unlink_made))

@@ -1,11 +1,11 @@
 -- Two steps of the thread, one after the other: what they write and tell, and what a stop in them leaves.
 use Rattle.std.proofs.Common.{◌⊎◌, ℕ, zero, suc, ◌≡◌, ◌≢◌, ◌-◌, ◌<◌, Result, Ok, List, [], ◌∷◌, get_or, set, refl, sym, ap, subst, ◌∙◌, true, false, cond, inl, inr}
 use Rattle.std.specs.Prelude.{All}
-use Rattle.lfs_operations.proofs.Common.{All-from_recursion, recursion_from_All, DeviceCallEvent, fault_count_of_history, SurvivesPowerLossInCallsSince, PairContent, zero_gstate, Pair, blocks_of_pair_address, blocks_of_two_pair_addresses, tree_on_disk, IsTrueOfEachCallSince-behind, IsTrueOfEachCallSince-until, IsTrueAfterAnyPowerLossSince-trans, IsTrueAfterAnyPowerLossSince-weaker, PowerLossLeavesSuchBlocksAfterCleanErases, KeptThread, ThreadView, ThreadChangesOnlyTheseBlocks, empty_pair_at_anchor, thread_pair_at_index, sync_bit_delta}
+use Rattle.lfs_operations.proofs.Common.{IsPairChanged, PowerLossLeavesPairOldOrChanged, PairContentChange, All-from_recursion, recursion_from_All, DeviceCallEvent, fault_count_of_history, SurvivesPowerLossInCallsSince, PairContent, zero_gstate, Pair, blocks_of_pair_address, blocks_of_two_pair_addresses, tree_on_disk, IsTrueOfEachCallSince-behind, IsTrueOfEachCallSince-until, IsTrueAfterAnyPowerLossSince-trans, IsTrueAfterAnyPowerLossSince-weaker, PowerLossLeavesSuchBlocksAfterCleanErases, KeptThread, ThreadView, ThreadChangesOnlyTheseBlocks, empty_pair_at_anchor, thread_pair_at_index, sync_bit_delta}
 use Rattle.lfs_device.specs.declared.error.Error.{Error}
 use Rattle.lfs_operations.specs.Dropping.{IsNextPairDropped, IsLeftByStoppedPairDrop}
 use Rattle.lfs_operations.specs.Removing.{ReportsErrorsOfCommitTakingNoBlock, is_pair_dropped_with_slot, tree_without_named_entry, pair_address_written_by_removal}
-use Rattle.lfs_operations.specs.Unlinking.{CanRemoveDirectory, IsLeftByStoppedUnlink, IsDirectoryEntryUnlinked, ReportsErrorsOfCommitsTakingNoBlock, pair_number_after_drop, content_without_directory_entry}
+use Rattle.lfs_operations.specs.Unlinking.{CanRemoveDirectory, directory_unlink_changes, ReportsErrorsOfCommitsTakingNoBlock, pair_number_after_drop}
 use Rattle.lfs_operations.proofs.Putting.{writes_trans, writes_wider}
 use Rattle.lfs_operations.proofs.RemovedWhole.{StandsWhole}
 use Rattle.lfs_operations.proofs.RmdirThread.{left_first, left_second}
@@ -33,13 +33,13 @@ at_kept (x ∷ xs) zero (suc k) c d = refl
 at_kept (x ∷ xs) (suc n) zero c d = refl
 at_kept (x ∷ xs) (suc n) (suc k) c d = at_kept xs n k c d
 
-pub at_there : (t m : KeptThread) (index id k : ℕ) → IsDirectoryEntryUnlinked t index id m → (thread_pair_at_index m k).at ≡ (thread_pair_at_index t k).at
-at_there t m index id k h = ap (λ (z : List Pair). (get_or z k empty_pair_at_anchor).at) h.pairs ∙ at_kept t.pairs index k (content_without_directory_entry t index id) empty_pair_at_anchor
+pub at_there : (t m : KeptThread) (index k : ℕ) (changes : List PairContentChange) → IsPairChanged t index changes m → (thread_pair_at_index m k).at ≡ (thread_pair_at_index t k).at
+at_there t m index k changes h = ap (λ (z : List Pair). (get_or z k empty_pair_at_anchor).at) h.pairs ∙ at_kept t.pairs index k h.content empty_pair_at_anchor
 
-pub writes_two : (t m new : KeptThread) (index id gone : ℕ) → IsDirectoryEntryUnlinked t index id m → ThreadChangesOnlyTheseBlocks (blocks_of_pair_address (thread_pair_at_index t index).at) t m → ThreadChangesOnlyTheseBlocks (blocks_of_pair_address (thread_pair_at_index m (gone - 1)).at) m new
-    → ThreadChangesOnlyTheseBlocks (blocks_of_two_pair_addresses (thread_pair_at_index t index).at (thread_pair_at_index t (gone - 1)).at) t new
-writes_two t m new index id gone h first second =
-    writes_both (thread_pair_at_index t index).at (thread_pair_at_index t (gone - 1)).at first (subst (λ at. ThreadChangesOnlyTheseBlocks (blocks_of_pair_address at) m new) (at_there t m index id (gone - 1) h) second)
+pub writes_two : (t m new : KeptThread) (index gone : ℕ) (changes : List PairContentChange) → IsPairChanged t index changes m → ThreadChangesOnlyTheseBlocks (blocks_of_pair_address (thread_pair_at_index t index).at) t m
+    → ThreadChangesOnlyTheseBlocks (blocks_of_pair_address (thread_pair_at_index m (gone - 1)).at) m new → ThreadChangesOnlyTheseBlocks (blocks_of_two_pair_addresses (thread_pair_at_index t index).at (thread_pair_at_index t (gone - 1)).at) t new
+writes_two t m new index gone changes h first second =
+    writes_both (thread_pair_at_index t index).at (thread_pair_at_index t (gone - 1)).at first (subst (λ at. ThreadChangesOnlyTheseBlocks (blocks_of_pair_address at) m new) (at_there t m index (gone - 1) changes h) second)
 
 -- ---- what they tell
 
@@ -60,10 +60,10 @@ steps_then old mid new a first second ok one two =
 
 module _ (t : KeptThread) (index id first gone : ℕ) (take : CanRemoveDirectory t index id first gone) where
   module _ (goes : is_pair_dropped_with_slot t index first ≡ false) where
-    pub first_survives : (new : List DeviceCallEvent) → PowerLossLeavesSuchBlocksAfterCleanErases t.history new (IsLeftByStoppedUnlink t index id) → SurvivesPowerLossInCallsSince t.disk t.history new (tree_on_disk t.disk t.pairs) (tree_without_named_entry t take.can.path take.can.name)
+    pub first_survives : (new : List DeviceCallEvent) → PowerLossLeavesSuchBlocksAfterCleanErases t.history new (PowerLossLeavesPairOldOrChanged t index (directory_unlink_changes t index id)) → SurvivesPowerLossInCallsSince t.disk t.history new (tree_on_disk t.disk t.pairs) (tree_without_named_entry t take.can.path take.can.name)
     first_survives new stops clean = IsTrueAfterAnyPowerLossSince-weaker (left_first t index id first gone take goes) (stops clean)
 
-    pub both_survive : (m new : KeptThread) (bs cs : List ℕ) → IsDirectoryEntryUnlinked t index id m → ThreadChangesOnlyTheseBlocks bs t m → ThreadChangesOnlyTheseBlocks cs m new → PowerLossLeavesSuchBlocksAfterCleanErases t.history m.history (IsLeftByStoppedUnlink t index id)
+    pub both_survive : (m new : KeptThread) (bs cs : List ℕ) → IsPairChanged t index (directory_unlink_changes t index id) m → ThreadChangesOnlyTheseBlocks bs t m → ThreadChangesOnlyTheseBlocks cs m new → PowerLossLeavesSuchBlocksAfterCleanErases t.history m.history (PowerLossLeavesPairOldOrChanged t index (directory_unlink_changes t index id))
         → PowerLossLeavesSuchBlocksAfterCleanErases m.history new.history (IsLeftByStoppedPairDrop m (gone - 1) zero_gstate) → SurvivesPowerLossInCallsSince t.disk t.history new.history (tree_on_disk t.disk t.pairs) (tree_without_named_entry t take.can.path take.can.name)
     both_survive m new bs cs h one two before after clean = IsTrueAfterAnyPowerLossSince-trans
         (IsTrueAfterAnyPowerLossSince-weaker (left_first t index id first gone take goes) (before (IsTrueOfEachCallSince-until clean one.at_worst two.at_worst)))

@@ -1,24 +1,20 @@
 -- An empty directory that is removed: its entry with the sync bit set, and then its pair, with the sync bit cleared.
 use Rattle.std.specs.Prelude.{ℕ, ◌≡◌, ◌⊎◌, ◌<◌, true, false, List, [], ◌∷◌, ◌++◌, length, nat_lt, ◌-◌, if◌then◌else◌, Result, is_err, IfErr, IsErrOf}
-use Rattle.std.specs.List.{remove}
 use Rattle.lfs_device.specs.declared.error.Error.{Error}
 use Rattle.lfs_device.specs.declared.error.Error.TheVariants.{Io, NoMemory}
-use Rattle.lfs_model.specs.Blocks.{Blocks}
 use Rattle.lfs_model.specs.Changes.{PairContentChange, Delete, PutMove}
-use Rattle.lfs_model.specs.Content.{content_of_pair_at}
-use Rattle.lfs_model.specs.Disk.{block_count}
 use Rattle.lfs_model.specs.History.{fault_count_of_history}
 use Rattle.lfs_model.specs.Names.{Name}
 use Rattle.lfs_model.specs.Operations as ops
 use Rattle.lfs_model.specs.Session.{Session}
-use Rattle.lfs_model.specs.Slots.{Branch, PairContent, gstate_xor, same_pair}
+use Rattle.lfs_model.specs.Slots.{Branch, gstate_xor, same_pair}
 use Rattle.lfs_model.specs.Refusals.{path_of_bytes_or_root}
-use Rattle.lfs_model.specs.Thread.{IsThreadOfMetadataPairs, is_hard_tail}
+use Rattle.lfs_model.specs.Thread.{is_hard_tail}
 use Rattle.lfs_model.specs.Tree.{Path}
 use Rattle.lfs_model.specs.Shown.{tree_on_disk}
 use Rattle.lfs_model.specs.Steps.{IsImageAfterCompletedOperation, sync_bit_delta}
 use Rattle.lfs_thread.specs.Kept.{KeptThread, ThreadView}
-use Rattle.lfs_thread.specs.Steps.{IsPairWrittenOnDisk, thread_pair_at_index, thread_pairs_with_content_replaced_at_index}
+use Rattle.lfs_thread.specs.Steps.{thread_pair_at_index}
 use Rattle.lfs_operations.specs.Changing.{IsPairNotKeptUnchanged}
 use Rattle.lfs_operations.specs.Dropping.{ShowsTreeAfterPairDrops}
 use Rattle.lfs_operations.specs.Editing.{CanEditEntryOfPair, slot_of_editable_entry}
@@ -26,29 +22,9 @@ use Rattle.lfs_operations.specs.Removing.{is_pair_dropped_with_slot, tree_withou
 
 -- ---- the entry is removed
 
--- what the entry's pair holds without it; the pair's delta turns the sync bit
-abbrev pub content_without_directory_entry : KeptThread → ℕ → ℕ → PairContent
-content_without_directory_entry t pair id = record {
-  slots = remove (thread_pair_at_index t pair).content.slots id;
-  tail = (thread_pair_at_index t pair).content.tail;
-  move = gstate_xor (thread_pair_at_index t pair).content.move sync_bit_delta;
-}
-
+-- the entry goes, and the pair's delta turns the sync bit
 abbrev pub directory_unlink_changes : KeptThread → ℕ → ℕ → List PairContentChange
 directory_unlink_changes t pair id = Delete id ∷ PutMove (gstate_xor (thread_pair_at_index t pair).content.move sync_bit_delta) ∷ []
-
--- the pair holds that, and everything else is as it was
-pub record IsDirectoryEntryUnlinked (old : KeptThread) (pair id : ℕ) (new : KeptThread) : Type 0 where
-  pub written : IsPairWrittenOnDisk old pair (content_without_directory_entry old pair id) new.disk
-  pub pairs : new.pairs ≡ thread_pairs_with_content_replaced_at_index old pair (content_without_directory_entry old pair id)
-  pub thread : IsThreadOfMetadataPairs (content_of_pair_at new.disk) (block_count new.disk) new.pairs
-  pub map : new.map ≡ old.map
-
--- what a stop leaves: the pair with its old content, or with its new one
-pub record IsLeftByStoppedUnlink (old : KeptThread) (pair id : ℕ) (left : Blocks) : Type 0 where
-  pub content : PairContent
-  pub is : (content ≡ (thread_pair_at_index old pair).content) ⊎ (content ≡ content_without_directory_entry old pair id)
-  pub written : IsPairWrittenOnDisk old pair content (record old.disk { blocks = left })
 
 -- ---- the operation
 

@@ -6,10 +6,10 @@ ghost use Rattle.lfs_model.specs.Shown.{tree_on_disk};
 ghost use Rattle.lfs_model.specs.Steps.{sync_bit_delta};
 ghost use Rattle.lfs_tag.specs.FieldsView.{move_view};
 ghost use Rattle.lfs_thread.specs.Device.{PowerLossLeavesSuchBlocksAfterCleanErases};
-ghost use Rattle.lfs_thread.specs.Steps.{ThreadChangesOnlyTheseBlocks, thread_pair_at_index};
+ghost use Rattle.lfs_thread.specs.Steps.{IsPairChanged, PowerLossLeavesPairOldOrChanged, ThreadChangesOnlyTheseBlocks, thread_pair_at_index};
 ghost use Rattle.lfs_operations.specs.Editing.{CanEditEntryOfPair};
 ghost use Rattle.lfs_operations.specs.Removing.{ReportsErrorsOfCommitTakingNoBlock, is_pair_dropped_with_slot, tree_without_named_entry, pair_address_written_by_removal};
-ghost use Rattle.lfs_operations.specs.Unlinking.{ArePairsBeforeDroppedPairsAltered, CanRemoveDirectory, IsDirectoryRemoved, IsLeftByStoppedUnlink, IsDirectoryEntryUnlinked, ReportsErrorsOfCommitsTakingNoBlock, pair_number_after_drop};
+ghost use Rattle.lfs_operations.specs.Unlinking.{ArePairsBeforeDroppedPairsAltered, CanRemoveDirectory, IsDirectoryRemoved, ReportsErrorsOfCommitsTakingNoBlock, directory_unlink_changes, pair_number_after_drop};
 ghost use Rattle.lfs_model.specs.Thread.{blocks_of_pair_address, blocks_of_two_pair_addresses};
 
 use crate::drops::drop_pair_at;
@@ -42,10 +42,10 @@ fn unlink_directory_entry<D: BlockDevice>(
 ) -> Result<(), Error>
     requires works { thread.old.failed ≡ false }
     requires can { CanEditEntryOfPair thread.old.kept pair id }
-    ensures is_unlinked { OnOk result (IsDirectoryEntryUnlinked thread.old.kept pair id thread.new.kept) }
+    ensures is_unlinked { OnOk result (IsPairChanged thread.old.kept pair (directory_unlink_changes thread.old.kept pair id) thread.new.kept) }
     ensures errors { ReportsErrorsOfCommitTakingNoBlock thread.old thread.new result }
     ensures device { ThreadChangesOnlyTheseBlocks (blocks_of_pair_address (thread_pair_at_index thread.old.kept pair).at) thread.old.kept thread.new.kept }
-    ensures stops { PowerLossLeavesSuchBlocksAfterCleanErases thread.old.kept.history thread.new.kept.history (IsLeftByStoppedUnlink thread.old.kept pair id) }
+    ensures stops { PowerLossLeavesSuchBlocksAfterCleanErases thread.old.kept.history thread.new.kept.history (PowerLossLeavesPairOldOrChanged thread.old.kept pair (directory_unlink_changes thread.old.kept pair id)) }
 {
     let state = gstate_xor_delta(&thread.delta(pair), &delta_of_sync_bit());
     let changes = [Change::Delete { id }, Change::Move { state }];

@@ -37,7 +37,7 @@ returns-in_err-drop_pair_at-clause-errors g c =
 pub returns-in_err-drop_pair_at-clause-device : goal.returns-in_err-drop_pair_at-clause-device
 returns-in_err-drop_pair_at-clause-device g c =
     subst (λ at. ThreadChangesOnlyTheseBlocks (blocks_of_two_pair_addresses at (thread_pair_at_index c.args.thread.now.kept (c.args.gone - 1)).at) c.args.thread.now.kept c.drop_pair_at.new.thread.kept) (sym (written_beside c.args.thread.now.kept c.args.pair c.args.first c.requires.stays))
-    (writes_two c.args.thread.now.kept c.unlink_directory_entry.new.thread.kept c.drop_pair_at.new.thread.kept c.args.pair c.args.id c.args.gone c.in_ok-unlink_directory_entry.ensures.is_unlinked
+    (writes_two c.args.thread.now.kept c.unlink_directory_entry.new.thread.kept c.drop_pair_at.new.thread.kept c.args.pair c.args.gone _ c.in_ok-unlink_directory_entry.ensures.is_unlinked
     c.unlink_directory_entry.ensures.device c.drop_pair_at.ensures.device)
 
 pub returns-in_err-drop_pair_at-clause-survives : goal.returns-in_err-drop_pair_at-clause-survives
@@ -53,7 +53,7 @@ returns-clause-is_removed g c take = directory_removed c.args.thread.now.kept c.
 pub returns-clause-device : goal.returns-clause-device
 returns-clause-device g c =
     subst (λ at. ThreadChangesOnlyTheseBlocks (blocks_of_two_pair_addresses at (thread_pair_at_index c.args.thread.now.kept (c.args.gone - 1)).at) c.args.thread.now.kept c.drop_pair_at.new.thread.kept) (sym (written_beside c.args.thread.now.kept c.args.pair c.args.first c.requires.stays))
-    (writes_two c.args.thread.now.kept c.unlink_directory_entry.new.thread.kept c.drop_pair_at.new.thread.kept c.args.pair c.args.id c.args.gone c.in_ok-unlink_directory_entry.ensures.is_unlinked
+    (writes_two c.args.thread.now.kept c.unlink_directory_entry.new.thread.kept c.drop_pair_at.new.thread.kept c.args.pair c.args.gone _ c.in_ok-unlink_directory_entry.ensures.is_unlinked
     c.unlink_directory_entry.ensures.device c.drop_pair_at.ensures.device)
 
 pub returns-clause-survives : goal.returns-clause-survives

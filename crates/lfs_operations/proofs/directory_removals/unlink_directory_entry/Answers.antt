@@ -1,11 +1,11 @@
 use Rattle.std.proofs.Common.{ap, ap₂, sym, subst, ◌∙◌, ◌≡◌, ◌∷◌, [], ℕ, Ok, Err}
-use Rattle.lfs_operations.proofs.Common.{err_from_is_err_and, Delete, PutMove, Gstate, gstate_xor, sync_bit_delta, IsTrueAfterAnyPowerLossSince-weaker, KeptThread, CanChangePair, IsPairChanged, PowerLossLeavesPairOldOrChanged, IsCommitRefused, thread_pair_at_index}
+use Rattle.lfs_operations.proofs.Common.{PowerLossLeavesSuchBlocksAfterCleanErases, err_from_is_err_and, Delete, PutMove, Gstate, gstate_xor, sync_bit_delta, KeptThread, CanChangePair, IsPairChanged, PowerLossLeavesPairOldOrChanged, IsCommitRefused, thread_pair_at_index}
 use Rattle.lfs_tag.specs.FieldsView.{move_view}
 use Rattle.lfs_pair.specs.declared.commits.Outcome.{Outcome}
 use Rattle.lfs_pair.specs.declared.commits.Outcome.TheVariants as outcome
-use Rattle.lfs_operations.specs.Unlinking.{IsDirectoryEntryUnlinked, directory_unlink_changes}
+use Rattle.lfs_operations.specs.Unlinking.{directory_unlink_changes}
 use Rattle.lfs_operations.proofs.Removed.{reports_again}
-use Rattle.lfs_operations.proofs.Unlinked.{can_unlink, has_unlinked, left_by_unlink, unlink_not_refused}
+use Rattle.lfs_operations.proofs.Unlinked.{can_unlink, unlink_not_refused}
 use Rattle.lfs_operations.proofs.directory_removals.unlink_directory_entry.Goals as goal
 
 changes_are : (t : KeptThread) (pair id : ℕ) (state delta bit : Gstate) → state ≡ gstate_xor delta bit → delta ≡ (thread_pair_at_index t pair).content.move → bit ≡ sync_bit_delta → Delete id ∷ PutMove state ∷ [] ≡ directory_unlink_changes t pair id
@@ -22,9 +22,8 @@ returns-in_err-commit_pair_changes-clause-errors g c =
     reports_again c.args.thread.now c.commit_pair_changes.new.self p.0 c.commit_pair_changes.result c.from_residual.result (c.in_err-commit_pair_changes.was ∙ ap Err (sym p.2)) p.1 c.commit_pair_changes.ensures.failed c.commit_pair_changes.ensures.errors
 
 pub returns-in_err-commit_pair_changes-clause-stops : goal.returns-in_err-commit_pair_changes-clause-stops
-returns-in_err-commit_pair_changes-clause-stops g c clean = IsTrueAfterAnyPowerLossSince-weaker (λ left x. left_by_unlink c.args.thread.now.kept c.args.pair c.args.id c.requires.can left
-    (subst (λ changes. PowerLossLeavesPairOldOrChanged c.args.thread.now.kept c.args.pair changes left) (changes_are c.args.thread.now.kept c.args.pair c.args.id _ _ _ c.gstate_xor_delta-state.ensures c.delta.ensures c.delta_of_sync_bit.ensures) x))
-    (c.commit_pair_changes.ensures.stops clean)
+returns-in_err-commit_pair_changes-clause-stops g c = subst (λ changes. PowerLossLeavesSuchBlocksAfterCleanErases c.args.thread.now.kept.history c.commit_pair_changes.new.self.kept.history (PowerLossLeavesPairOldOrChanged c.args.thread.now.kept c.args.pair changes))
+    (changes_are c.args.thread.now.kept c.args.pair c.args.id _ _ _ c.gstate_xor_delta-state.ensures c.delta.ensures c.delta_of_sync_bit.ensures) c.commit_pair_changes.ensures.stops
 
 pub returns-clause-is_unlinked : goal.returns-clause-is_unlinked
 returns-clause-is_unlinked g c = by c.in_ok-commit_pair_changes.field-0 c.in_ok-commit_pair_changes.was
@@ -35,11 +34,10 @@ returns-clause-is_unlinked g c = by c.in_ok-commit_pair_changes.field-0 c.in_ok-
     same : Delete c.args.id ∷ PutMove (move_view c.gstate_xor_delta-state.result) ∷ [] ≡ directory_unlink_changes t c.args.pair c.args.id
     same = changes_are t c.args.pair c.args.id _ _ _ c.gstate_xor_delta-state.ensures c.delta.ensures c.delta_of_sync_bit.ensures
 
-    by : (o : Outcome) → c.commit_pair_changes.result ≡ Ok o → IsDirectoryEntryUnlinked t c.args.pair c.args.id c.commit_pair_changes.new.self.kept
-    by outcome.Done is = has_unlinked t c.args.pair c.args.id c.requires.can c.commit_pair_changes.new.self.kept (subst (λ changes. IsPairChanged t c.args.pair changes c.commit_pair_changes.new.self.kept) same (c.commit_pair_changes.ensures.done is))
+    by : (o : Outcome) → c.commit_pair_changes.result ≡ Ok o → IsPairChanged t c.args.pair (directory_unlink_changes t c.args.pair c.args.id) c.commit_pair_changes.new.self.kept
+    by outcome.Done is = subst (λ changes. IsPairChanged t c.args.pair changes c.commit_pair_changes.new.self.kept) same (c.commit_pair_changes.ensures.done is)
     by outcome.Full is = absurd (unlink_not_refused t c.args.pair c.args.id c.requires.can c.commit_pair_changes.new.self.kept (subst (λ changes. IsCommitRefused t c.args.pair changes c.commit_pair_changes.new.self.kept) same (c.commit_pair_changes.ensures.full is)))
 
 pub returns-clause-stops : goal.returns-clause-stops
-returns-clause-stops g c clean = IsTrueAfterAnyPowerLossSince-weaker (λ left x. left_by_unlink c.args.thread.now.kept c.args.pair c.args.id c.requires.can left
-    (subst (λ changes. PowerLossLeavesPairOldOrChanged c.args.thread.now.kept c.args.pair changes left) (changes_are c.args.thread.now.kept c.args.pair c.args.id _ _ _ c.gstate_xor_delta-state.ensures c.delta.ensures c.delta_of_sync_bit.ensures) x))
-    (c.commit_pair_changes.ensures.stops clean)
+returns-clause-stops g c = subst (λ changes. PowerLossLeavesSuchBlocksAfterCleanErases c.args.thread.now.kept.history c.commit_pair_changes.new.self.kept.history (PowerLossLeavesPairOldOrChanged c.args.thread.now.kept c.args.pair changes))
+    (changes_are c.args.thread.now.kept c.args.pair c.args.id _ _ _ c.gstate_xor_delta-state.ensures c.delta.ensures c.delta_of_sync_bit.ensures) c.commit_pair_changes.ensures.stops

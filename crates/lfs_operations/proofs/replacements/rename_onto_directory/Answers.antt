@@ -4,9 +4,9 @@ use Rattle.lfs_operations.specs.Dropping.{CanDropPairAt, IsNextPairDropped, IsLe
 use Rattle.lfs_operations.specs.Renaming.{tree_with_renamed_entry}
 use Rattle.lfs_operations.specs.RenamingOver.{ReportsErrorsOfReadThenCommits, replace_directory_in_pair_changes}
 use Rattle.lfs_operations.proofs.AlteredOnto.{altered_within}
-use Rattle.lfs_operations.proofs.OntoReporting.{last_survives, over_from, over_then, writes_over}
+use Rattle.lfs_operations.proofs.OntoReporting.{last_survives, over_from, over_then}
 use Rattle.lfs_operations.proofs.OntoWithin.{left_within, renamed_onto_directory, replacing}
-use Rattle.lfs_operations.proofs.UnlinkedSteps.{writes_first}
+use Rattle.lfs_operations.proofs.UnlinkedSteps.{writes_first, writes_two}
 use Rattle.lfs_operations.proofs.Removed.{reports_again}
 use Rattle.lfs_operations.proofs.replacements.rename_onto_directory.Goals as goal
 use Rattle.lfs_operations.proofs.LastDrop.{can_drop_last}
@@ -40,7 +40,7 @@ returns-in_err-drop_pair_at-clause-errors g c =
 
 pub returns-in_err-drop_pair_at-clause-device : goal.returns-in_err-drop_pair_at-clause-device
 returns-in_err-drop_pair_at-clause-device g c =
-    writes_over c.args.thread.now.kept c.rename_over_directory_in_pair.new.thread.kept c.drop_pair_at.new.thread.kept c.args.pair c.args.gone (replace_directory_in_pair_changes c.args.thread.now.kept c.args.pair c.args.id c.args.place c.args.name.now)
+    writes_two c.args.thread.now.kept c.rename_over_directory_in_pair.new.thread.kept c.drop_pair_at.new.thread.kept c.args.pair c.args.gone (replace_directory_in_pair_changes c.args.thread.now.kept c.args.pair c.args.id c.args.place c.args.name.now)
     (c.in_ok-rename_over_directory_in_pair.ensures.renamed c.requires.can.over).changed c.rename_over_directory_in_pair.ensures.device c.drop_pair_at.ensures.device
 
 pub returns-in_err-drop_pair_at-clause-survives : goal.returns-in_err-drop_pair_at-clause-survives
@@ -63,7 +63,7 @@ returns-clause-errors g c =
 
 pub returns-clause-device : goal.returns-clause-device
 returns-clause-device g c =
-    writes_over c.args.thread.now.kept c.rename_over_directory_in_pair.new.thread.kept c.drop_pair_at.new.thread.kept c.args.pair c.args.gone (replace_directory_in_pair_changes c.args.thread.now.kept c.args.pair c.args.id c.args.place c.args.name.now)
+    writes_two c.args.thread.now.kept c.rename_over_directory_in_pair.new.thread.kept c.drop_pair_at.new.thread.kept c.args.pair c.args.gone (replace_directory_in_pair_changes c.args.thread.now.kept c.args.pair c.args.id c.args.place c.args.name.now)
     (c.in_ok-rename_over_directory_in_pair.ensures.renamed c.requires.can.over).changed c.rename_over_directory_in_pair.ensures.device c.drop_pair_at.ensures.device
 
 pub returns-clause-survives : goal.returns-clause-survives
@@ -83,4 +83,4 @@ returns-clause-alters g c =
     let k = replacing t c.args.pair c.args.id c.args.place c.args.name.now c.args.gone rename m changed in
     altered_within t m c.args.gone c.args.gone (can_drop_last k).above rename.below k c.drop_pair_at.new.thread.kept
     (subst (λ (s : Gstate). IsNextPairDropped m (c.args.gone - 1) s c.drop_pair_at.new.thread.kept) c.none.ensures c.in_ok-drop_pair_at.ensures.is_dropped) c.args.pair
-    (writes_over t m c.drop_pair_at.new.thread.kept c.args.pair c.args.gone (replace_directory_in_pair_changes t c.args.pair c.args.id c.args.place c.args.name.now) changed c.rename_over_directory_in_pair.ensures.device c.drop_pair_at.ensures.device)
+    (writes_two t m c.drop_pair_at.new.thread.kept c.args.pair c.args.gone (replace_directory_in_pair_changes t c.args.pair c.args.id c.args.place c.args.name.now) changed c.rename_over_directory_in_pair.ensures.device c.drop_pair_at.ensures.device)

@@ -103,7 +103,7 @@ def tool_rows(tool, folder):
     shutil.rmtree(folder + "/named")
     os.makedirs(folder + "/bytes")
     open(os.path.join(folder.encode(), b"bytes/\xff"), "wb").close()
-    for value, why in ("1", "bytes: invalid filename\n"), ("0", ""), ("", ""):
+    for value, why in ("1", "bytes/\\xff: the name is not UTF-8\n"), ("0", ""), ("", ""):
         came = subprocess.run([tool, "-c", "bytes", "n.img"], cwd=folder, capture_output=True, env={"MKLITTLEFS_EXPLAIN": value})
         yield f"MKLITTLEFS_EXPLAIN={value}", (came.returncode, came.stderr.decode()), (3, "error: input\n" + why)
     write(folder, "both/a", size=1 << 20)

@@ -85,8 +85,8 @@ fn blocks_of_bytes(entries: &[SourceEntry], block_size: u32) -> u32 {
     for entry in entries {
         if let Some(bytes) = &entry.bytes {
             if bytes.len() > INLINE_MAX {
-                let whole = (bytes.len() as u32).checked_div(block_size).unwrap_or(0);
-                count = count.saturating_add(whole);
+                let len = u32::try_from(bytes.len()).unwrap_or(u32::MAX);
+                count = count.saturating_add(len.checked_div(block_size).unwrap_or(0));
             }
         }
     }

@@ -3,7 +3,7 @@
 use crate::blocks::{IMAGE_MAX, enough_blocks, read_folder, read_folder_of_line};
 use crate::files::{Host, is_standard_stream};
 use crate::parts::{ImagePart, open_part};
-use crate::path_words::push_path_line;
+use crate::path_words::words_of_refusal;
 use crate::run::{folder_of_line, geometry_of_line};
 use lfs_device::Error;
 use lfs_tool::{
@@ -13,7 +13,7 @@ use lfs_tool::{
 use lfs_tool_folders::{Folder, SourceEntry};
 use lfs_tool_line::Sizes;
 use std::io;
-use std::io::{Read, Write};
+use std::io::Read;
 
 // The version 2.1, as a superblock has it.
 const LATER_VERSION: u32 = 0x0002_0001;
@@ -41,11 +41,13 @@ fn path_fault_line(host: Host<'_>) -> Result<Vec<u8>, ToolError> {
 // What is wrong with the path in the image of the line's mode.
 fn path_in_image_line(host: Host<'_>, line: &Line<'_>, error: Error) -> Result<Vec<u8>, ToolError> {
     let mut text = Vec::new(host.alloc());
-    match line.mode {
-        Mode::Cat(path) | Mode::Put(_, path) | Mode::Remove(path) | Mode::Mkdir(path) => {
-            push_path_line(&mut text, path, error)?;
-        }
-        Mode::Create(_) | Mode::Unpack(_) | Mode::List | Mode::Check => {}
+    let path = match line.mode {
+        Mode::Cat(path) | Mode::Put(_, path) | Mode::Remove(path) | Mode::Mkdir(path) => path,
+        Mode::Create(_) | Mode::Unpack(_) | Mode::List | Mode::Check => return Ok(text),
+    };
+    if let Some(words) = words_of_refusal(error) {
+        push_escaped_path(&mut text, path.as_bytes())?;
+        text.extend_from_slice(format!(in host.alloc(); ": {words}\n")?.as_bytes())?;
     }
     Ok(text)
 }
@@ -148,10 +150,11 @@ fn passed_limit_line(
         if len > u64::from(most) {
             push_escaped_path(&mut text, folder.as_bytes())?;
             push_escaped_path(&mut text, &entry.path)?;
-            return match writeln!(text, ": a {what} of {len} bytes, and {most} are the most") {
-                Ok(()) => Ok(text),
-                Err(_) => Err(ToolError::Fs(Error::NoMemory)),
-            };
+            let words = format!(in host.alloc();
+                ": a {what} of {len} bytes, and {most} are the most\n"
+            )?;
+            text.extend_from_slice(words.as_bytes())?;
+            return Ok(text);
         }
     }
     text.extend_from_slice(b"no name and no file of the folder is too long by now\n")?;
@@ -162,25 +165,22 @@ fn passed_limit_line(
 fn needed_blocks_line(host: Host<'_>, line: &Line<'_>, folder: &str) -> Result<Vec<u8>, ToolError> {
     let blocks = geometry_of_line(line)?.block_count;
     let (entries, line) = read_folder_of_line(host, line, folder)?;
-    let mut text = Vec::new(host.alloc());
-    let written = match enough_blocks(host, &line, entries.as_slice(), blocks) {
+    let alloc = host.alloc();
+    let text = match enough_blocks(host, &line, entries.as_slice(), blocks) {
         Ok(Some(count)) if count > blocks => {
-            writeln!(text, "{blocks} blocks are too few, it takes {count}")
+            format!(in alloc; "{blocks} blocks are too few, it takes {count}\n")?
         }
-        Ok(Some(_)) => writeln!(
-            text,
-            "{blocks} blocks are enough for what the folder has by now"
-        ),
-        Ok(None) => writeln!(text, "{blocks} blocks are too few, and no image has enough"),
-        Err(error) => writeln!(
-            text,
-            "{blocks} blocks were too few, how many it takes isn't known: {error}"
-        ),
+        Ok(Some(_)) => {
+            format!(in alloc; "{blocks} blocks are enough for what the folder has by now\n")?
+        }
+        Ok(None) => format!(in alloc; "{blocks} blocks are too few, and no image has enough\n")?,
+        Err(error) => {
+            format!(in alloc;
+                "{blocks} blocks were too few, how many it takes isn't known: {error}\n"
+            )?
+        }
     };
-    match written {
-        Ok(()) => Ok(text),
-        Err(_) => Err(ToolError::Fs(Error::NoMemory)),
-    }
+    Ok(text.into_bytes())
 }
 
 // The limit of attributes, where a time passes it.

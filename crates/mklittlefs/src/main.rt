@@ -3,8 +3,6 @@
 #![tactic(auto)]
 
 mod blocks;
-mod cat;
-mod change;
 mod explain;
 mod files;
 mod json;

@@ -1,11 +1,9 @@
 // Why the file system refuses a path in an image.
 
 use lfs_device::Error;
-use lfs_tool::push_escaped_path;
-use std::alloc::AllocError;
 
-// What an error says of a path, where it says something.
-fn words_of_refusal(error: Error) -> Option<&'static str> {
+/// What an error says of a path, where it says something.
+pub(crate) fn words_of_refusal(error: Error) -> Option<&'static str> {
     match error {
         Error::NoEnt => Some("nothing is there, or a folder above it is missing"),
         Error::Exist => Some("something is there already"),
@@ -20,19 +18,4 @@ fn words_of_refusal(error: Error) -> Option<&'static str> {
         Error::EntryFull => Some("the name takes too much of a block"),
         _ => None,
     }
-}
-
-/// Adds a line with a path and what an error says of it, where it says something.
-pub(crate) fn push_path_line(
-    text: &mut Vec<u8>,
-    path: &str,
-    error: Error,
-) -> Result<(), AllocError> {
-    if let Some(words) = words_of_refusal(error) {
-        push_escaped_path(text, path.as_bytes())?;
-        text.extend_from_slice(b": ")?;
-        text.extend_from_slice(words.as_bytes())?;
-        text.push(b'\n')?;
-    }
-    Ok(())
 }

@@ -1,13 +1,12 @@
 // What a command line requests.
 
 use crate::blocks::{fit_size, image_of_entries, read_folder};
-use crate::cat::cat_file;
-use crate::change::change_image;
 use crate::explain::write_explanation;
 use crate::files::{Host, NotedWriter};
 use crate::json::{check_as_json, list_as_json};
 use crate::parts::{ImagePart, count_bytes_behind, open_part};
 use crate::progress::progress_at_terminal;
+use crate::session::{cat_file, change_image};
 use crate::times::set_times;
 use lfs_device::{Error, Geometry};
 use lfs_tool::{

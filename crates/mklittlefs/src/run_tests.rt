@@ -54,16 +54,8 @@ $ -c runs/other -s 32768 runs/image
 image: 32768
 
 $ -c runs/files -b 8192 -s 32768 runs/image
-$ --check -b auto runs/image
-ok
-files 2
-directories 0
-used 2 of 4 blocks
-free 2
-order either
-recover no
-writable yes
-behind 0 bytes
+$ --check -b auto --json runs/image
+{"ok": true, "files": 2, "directories": 0, "used": 2, "blocks": 4, "free": 2, "order": "either", "recover": false, "writable": true, "behind": 0}
 $ -l --offset 32768 --explain runs/image
 error: Invalid (22)
 size 0, block 4096: an image has from 2 to 65536 blocks
@@ -147,15 +139,7 @@ status 3
 image: 14
 
 $ -c runs/empty -s auto runs/image
-$ --check runs/image
-ok
-files 0
-directories 0
-used 2 of 2 blocks
-free 0
-order either
-recover no
-writable yes
+$ -l runs/image
 image: 8192
 
 $ -c runs/files -s auto runs/image
@@ -314,7 +298,7 @@ fn run_line(rt: &HostRuntime, line: &str) -> Result<bool, Fail> {
 
 // The attribute of type `t` at a path of an image.
 fn time_in_image(alloc: Global, image: &[u8], path: &[u8]) -> Option<Vec<u8>> {
-    let count = (image.len() / 4096) as u32;
+    let count = u32::try_from(image.len() / 4096).ok()?;
     let geometry = Geometry::new(4096, 256, count).ok()?;
     let device = RamDevice::from_bytes(geometry, image.to_vec(alloc).ok()?).ok()?;
     let mut session = mount(alloc, device).ok()?;
@@ -323,8 +307,7 @@ fn time_in_image(alloc: Global, image: &[u8], path: &[u8]) -> Option<Vec<u8>> {
 
 #[test]
 fn times_are_kept_and_set(rt: HostRuntime) -> Result<(), Fail> {
-    let root = "times";
-    let _ = fs::remove_dir_all(&rt, root);
+    let _ = fs::remove_dir_all(&rt, "times");
     fs::create_dir_all(&rt, "times/from/d")?;
     fs::write(&rt, "times/from/d/a", b"hello")?;
     fs::write(&rt, "times/from/late", b"")?;
@@ -343,6 +326,6 @@ fn times_are_kept_and_set(rt: HostRuntime) -> Result<(), Fail> {
     assert!(rt; time.is_some_and(|time| time.as_slice() == [0x00, 0xca, 0x9a, 0x3b].as_slice()));
     let late = time_in_image(rt.alloc(), image.as_slice(), b"/late");
     assert!(rt; late.is_none());
-    fs::remove_dir_all(&rt, root)?;
+    fs::remove_dir_all(&rt, "times")?;
     Ok(())
 }

@@ -19,3 +19,5 @@ pub mod FileContents
 pub mod AttributeAt
 pub mod CachedPairs
 pub mod Halves
+pub mod Reads
+pub mod Searchable

@@ -1,24 +1,20 @@
 // How many bytes of its pair the attributes of an entry take.
 
-ghost use Rattle.std.specs.Prelude.{◌≡◌, ◌≤◌, ◌<◌, ◌+◌, IfErr, IfOk, IsSome, Some, false, length, map, slice_get, sum_by};
+ghost use Rattle.std.specs.Prelude.{◌≡◌, ◌<◌, ◌+◌, IfErr, IfOk, IsSome, Some, false, length, map, slice_get};
 ghost use Rattle.lfs_model.specs.TreeEdits.{attributes_of_node};
 ghost use Rattle.lfs_model.specs.Content.{slot_of_id};
-ghost use Rattle.lfs_model.specs.Frame.{pair_count_of_directory_at, ancestor_paths_of_path};
-ghost use Rattle.lfs_model.specs.History.{read_count_of_history};
+ghost use Rattle.lfs_model.specs.Frame.{ancestor_paths_of_path};
 ghost use Rattle.lfs_model.specs.LoggedContent.{AreAttributesInTypeOrder, AreWellFormedRawSlots};
 ghost use Rattle.lfs_model.specs.Slots.{PairContent as ModelContent, Slot as ModelSlot, attributes_size};
-ghost use Rattle.lfs_model.specs.Slots.{zero_gstate};
-ghost use Rattle.lfs_model.specs.Thread.{gstate_of_pairs, pair_count_before_root};
-ghost use Rattle.lfs_model.specs.View.{IsAcceptedImage};
 ghost use Rattle.lfs_model.specs.Shown.{tree_on_disk};
 ghost use Rattle.lfs_tag.specs.ContentView.{attribute_view, slot_view};
 ghost use Rattle.lfs_thread.specs.CachedLog.{IsLogBlockOfContent, cached_log};
-ghost use Rattle.lfs_lookup.specs.CachedPairs.{AreDirectoriesAtThesePathsCached};
 ghost use Rattle.lfs_lookup.specs.AttributeAt.{IsAttributesSize};
 ghost use Rattle.lfs_lookup.specs.BytesAt.{IsSlotAtSpot};
-ghost use Rattle.lfs_lookup.specs.Halves.{ReadsAtMostBinarySearchesOnPaths};
 ghost use Rattle.lfs_lookup.specs.Reading.{OnlyReadsThreadAndReportsErrors};
 ghost use Rattle.lfs_lookup.specs.Search.{HasLogWhoseSlotsHaveNameAndStruct};
+ghost use Rattle.lfs_lookup.specs.Reads.{ReadsFewUncachedPairs};
+ghost use Rattle.lfs_lookup.specs.Searchable.{CanSearchFromRoot};
 
 use crate::attributes::spot_of_entry_if_found;
 use crate::by_path::lookup_result_at_path;
@@ -93,13 +89,9 @@ pub fn find_total_size_of_attributes_at_path<D: BlockDevice>(
     root: usize,
     path: &Path<'_>,
 ) -> Result<usize, Error>
-    requires works { thread.old.failed ≡ false }
-    requires accepted { IsAcceptedImage thread.old.kept.disk thread.old.kept.pairs }
-    requires root { root ≡ pair_count_before_root thread.old.kept.pairs }
+    requires { CanSearchFromRoot thread.old root }
     ensures is { IfOk result (IsAttributesSize (attributes_of_node (tree_on_disk thread.old.kept.disk thread.old.kept.pairs path.now))) }
-    ensures few { read_count_of_history thread.new.kept.history ≤ read_count_of_history thread.old.kept.history + sum_by (pair_count_of_directory_at thread.old.kept.pairs) (ancestor_paths_of_path path.now) }
-    ensures halves { gstate_of_pairs thread.old.kept.pairs ≡ zero_gstate → ReadsAtMostBinarySearchesOnPaths thread.old thread.new (ancestor_paths_of_path path.now) }
-    ensures kept { AreDirectoriesAtThesePathsCached thread.old (ancestor_paths_of_path path.now) → read_count_of_history thread.new.kept.history ≡ read_count_of_history thread.old.kept.history }
+    ensures reads { ReadsFewUncachedPairs (ancestor_paths_of_path path.now) thread.old thread.new }
     ensures reading { OnlyReadsThreadAndReportsErrors thread.old thread.new result }
 {
     let shown = lookup_result_at_path(alloc, thread, root, path)?;

@@ -1,23 +1,20 @@
 // An attribute of the entry at a path.
 
-ghost use Rattle.std.specs.Prelude.{◌≡◌, ◌<◌, ◌≤◌, ◌+◌, IfErr, IfOk, IfSome, IsSome, Some, false, length, slice_get, sum_by};
+ghost use Rattle.std.specs.Prelude.{◌≡◌, ◌<◌, ◌≤◌, ◌+◌, IfErr, IfOk, IfSome, IsSome, Some, length, slice_get};
 ghost use Rattle.std.specs.Option.{option_copied, option_map};
 ghost use Rattle.lfs_model.specs.TreeEdits.{attributes_of_node};
 ghost use Rattle.lfs_model.specs.Content.{attribute_bytes_of_type};
-ghost use Rattle.lfs_model.specs.Frame.{pair_count_of_directory_at, ancestor_paths_of_path};
-ghost use Rattle.lfs_model.specs.History.{read_count_of_history};
-ghost use Rattle.lfs_model.specs.Slots.{Attributes, PairContent as ModelContent, Slot, zero_gstate};
-ghost use Rattle.lfs_model.specs.Thread.{gstate_of_pairs, pair_count_before_root};
-ghost use Rattle.lfs_model.specs.View.{IsAcceptedImage};
+ghost use Rattle.lfs_model.specs.Frame.{ancestor_paths_of_path};
+ghost use Rattle.lfs_model.specs.Slots.{Attributes, PairContent as ModelContent, Slot};
 ghost use Rattle.lfs_model.specs.Shown.{tree_on_disk};
 ghost use Rattle.lfs_thread.specs.CachedLog.{IsLogBlockOfContent, cached_log};
-ghost use Rattle.lfs_lookup.specs.CachedPairs.{AreDirectoriesAtThesePathsCached};
 ghost use Rattle.lfs_lookup.specs.AttributeAt.{AreAttributesOfSlotAtSpot, IsAttributeOfTypeOrNone, IsAttributeInSizeLimit, spot_of_lookup_result};
 ghost use Rattle.lfs_lookup.specs.BytesAt.{IsSlotAtSpot};
 ghost use Rattle.lfs_lookup.specs.Finds.{IsFoundNodeAtPath};
-ghost use Rattle.lfs_lookup.specs.Halves.{ReadsAtMostBinarySearchesOnPaths};
 ghost use Rattle.lfs_lookup.specs.Reading.{OnlyReadsThreadAndReportsErrors};
 ghost use Rattle.lfs_lookup.specs.Search.{HasLogWhoseSlotsHaveNameAndStruct};
+ghost use Rattle.lfs_lookup.specs.Reads.{ReadsFewUncachedPairs};
+ghost use Rattle.lfs_lookup.specs.Searchable.{CanReadPair, CanReadCachedSlot, CanSearchFromRoot};
 
 use crate::by_path::{found_node_from_lookup_result, lookup_result_at_path};
 use crate::found_entries::FoundAttribute;
@@ -79,8 +76,7 @@ fn attribute_of_slot<D: BlockDevice>(
     slot: SlotPosition,
     kind: u8,
 ) -> Result<Option<Vec<u8>>, Error>
-    requires works { thread.old.failed ≡ false }
-    requires below { slot.pair < length thread.old.kept.pairs }
+    requires can { CanReadPair thread.old slot.pair }
     requires cached_log { IsSome (cached_log thread.old slot.pair) }
     ensures short { IfOk result IsAttributeInSizeLimit }
     ensures is { (held : Slot) → IsSlotAtSpot thread.old.kept slot held → IfOk result (IsAttributeOfTypeOrNone kind held.attributes) }
@@ -109,9 +105,7 @@ fn attribute_of_optional_slot<D: BlockDevice>(
     slot: Option<SlotPosition>,
     kind: u8,
 ) -> Result<Option<Vec<u8>>, Error>
-    requires works { thread.old.failed ≡ false }
-    requires below { IfSome slot (λ s. s.pair < length thread.old.kept.pairs) }
-    requires cached_log { IfSome slot (λ s. IsSome (cached_log thread.old s.pair)) }
+    requires { CanReadCachedSlot thread.old slot }
     ensures short { IfOk result IsAttributeInSizeLimit }
     ensures is { (attributes : Attributes) → AreAttributesOfSlotAtSpot thread.old.kept slot attributes → IfOk result (IsAttributeOfTypeOrNone kind attributes) }
     ensures no_call { thread.new.kept ≡ thread.old.kept }
@@ -137,15 +131,11 @@ pub fn find_attribute_at_path<D: BlockDevice>(
     path: &Path<'_>,
     kind: u8,
 ) -> Result<FoundAttribute, Error>
-    requires works { thread.old.failed ≡ false }
-    requires accepted { IsAcceptedImage thread.old.kept.disk thread.old.kept.pairs }
-    requires root { root ≡ pair_count_before_root thread.old.kept.pairs }
+    requires { CanSearchFromRoot thread.old root }
     ensures found { IfOk result (λ found. IsFoundNodeAtPath (tree_on_disk thread.old.kept.disk thread.old.kept.pairs) path.now found.finding) }
     ensures short { IfOk result (λ found. IsAttributeInSizeLimit found.bytes) }
     ensures is { IfOk result (λ found. IsAttributeOfTypeOrNone kind (attributes_of_node (tree_on_disk thread.old.kept.disk thread.old.kept.pairs path.now)) found.bytes) }
-    ensures few { read_count_of_history thread.new.kept.history ≤ read_count_of_history thread.old.kept.history + sum_by (pair_count_of_directory_at thread.old.kept.pairs) (ancestor_paths_of_path path.now) }
-    ensures halves { gstate_of_pairs thread.old.kept.pairs ≡ zero_gstate → ReadsAtMostBinarySearchesOnPaths thread.old thread.new (ancestor_paths_of_path path.now) }
-    ensures kept { AreDirectoriesAtThesePathsCached thread.old (ancestor_paths_of_path path.now) → read_count_of_history thread.new.kept.history ≡ read_count_of_history thread.old.kept.history }
+    ensures reads { ReadsFewUncachedPairs (ancestor_paths_of_path path.now) thread.old thread.new }
     ensures reading { OnlyReadsThreadAndReportsErrors thread.old thread.new result }
 {
     let shown = lookup_result_at_path(alloc, thread, root, path)?;

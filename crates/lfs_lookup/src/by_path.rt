@@ -1,19 +1,18 @@
 // What paths lead to, in a thread.
 
-ghost use Rattle.std.specs.Prelude.{◌≡◌, ◌≤◌, ◌+◌, ◌++◌, [], ◌∷◌, IfOk, None, false, sum_by};
+ghost use Rattle.std.specs.Prelude.{◌≡◌, ◌≤◌, ◌+◌, ◌++◌, [], ◌∷◌, IfOk, None, sum_by};
 ghost use Rattle.lfs_model.specs.Frame.{pair_count_of_directory_at, ancestor_paths_of_path};
 ghost use Rattle.lfs_model.specs.History.{read_count_of_history};
 ghost use Rattle.lfs_model.specs.Slots.{zero_gstate};
-ghost use Rattle.lfs_model.specs.Thread.{gstate_of_pairs, pair_count_before_root};
-ghost use Rattle.lfs_model.specs.View.{IsAcceptedImage};
+ghost use Rattle.lfs_model.specs.Thread.{gstate_of_pairs};
 ghost use Rattle.lfs_model.specs.Shown.{tree_on_disk};
-ghost use Rattle.lfs_lookup.specs.CachedPairs.{ReadsNothingAndKeepsDirectoriesWhereAllCached};
 ghost use Rattle.lfs_lookup.specs.AtPath.{IsInlineStorageShorterThanTagLength, IsInlineFileShorterThanTagLengthIfFound, IsLookupNotRefusedByParents, IsLookupResultAtPathHidingMovedSlot, node_and_parent_refusal_of_lookup_result, first_pair_of_found_directory, file_size_of_storage};
 ghost use Rattle.lfs_lookup.specs.AttributeAt.{IsLogBlockOfFoundSlotCached};
 ghost use Rattle.lfs_lookup.specs.Finds.{IsFoundNodeAtPath, has_entry_beneath_path};
 ghost use Rattle.lfs_lookup.specs.declared.found_entries.Node.TheVariants.{Directory, File, Nothing};
-ghost use Rattle.lfs_lookup.specs.Halves.{ReadsAtMostBinarySearchesOnPaths};
 ghost use Rattle.lfs_lookup.specs.Reading.{OnlyReadsThreadAndReportsErrors};
+ghost use Rattle.lfs_lookup.specs.Reads.{ReadsFewPairsOnPaths};
+ghost use Rattle.lfs_lookup.specs.Searchable.{CanSearchFromRoot};
 
 use crate::directory::has_entries;
 use crate::entry::FileStorage;
@@ -40,14 +39,10 @@ pub fn lookup_result_at_path<D: BlockDevice>(
     root: usize,
     path: &Path<'_>,
 ) -> Result<VisiblePathLookup, Error>
-    requires works { thread.old.failed ≡ false }
-    requires accepted { IsAcceptedImage thread.old.kept.disk thread.old.kept.pairs }
-    requires root { root ≡ pair_count_before_root thread.old.kept.pairs }
+    requires { CanSearchFromRoot thread.old root }
     ensures shown { IfOk result (IsLookupResultAtPathHidingMovedSlot thread.old.kept path.now) }
     ensures cached_log { IfOk result (IsLogBlockOfFoundSlotCached thread.new) }
-    ensures few { read_count_of_history thread.new.kept.history ≤ read_count_of_history thread.old.kept.history + sum_by (pair_count_of_directory_at thread.old.kept.pairs) (ancestor_paths_of_path path.now) }
-    ensures halves { gstate_of_pairs thread.old.kept.pairs ≡ zero_gstate → ReadsAtMostBinarySearchesOnPaths thread.old thread.new (ancestor_paths_of_path path.now) }
-    ensures loads { ReadsNothingAndKeepsDirectoriesWhereAllCached IsLookupNotRefusedByParents (ancestor_paths_of_path path.now) thread.old thread.new result }
+    ensures reads { ReadsFewPairsOnPaths (gstate_of_pairs thread.old.kept.pairs ≡ zero_gstate) IsLookupNotRefusedByParents (ancestor_paths_of_path path.now) thread.old thread.new result }
     ensures reading { OnlyReadsThreadAndReportsErrors thread.old thread.new result }
 {
     let names = path.names(alloc)?;
@@ -140,13 +135,9 @@ pub fn find_node_at_path<D: BlockDevice>(
     root: usize,
     path: &Path<'_>,
 ) -> Result<FoundNode, Error>
-    requires works { thread.old.failed ≡ false }
-    requires accepted { IsAcceptedImage thread.old.kept.disk thread.old.kept.pairs }
-    requires root { root ≡ pair_count_before_root thread.old.kept.pairs }
+    requires { CanSearchFromRoot thread.old root }
     ensures found { IfOk result (IsFoundNodeAtPath (tree_on_disk thread.old.kept.disk thread.old.kept.pairs) path.now) }
-    ensures few { read_count_of_history thread.new.kept.history ≤ read_count_of_history thread.old.kept.history + sum_by (pair_count_of_directory_at thread.old.kept.pairs) (ancestor_paths_of_path path.now) }
-    ensures halves { gstate_of_pairs thread.old.kept.pairs ≡ zero_gstate → ReadsAtMostBinarySearchesOnPaths thread.old thread.new (ancestor_paths_of_path path.now) }
-    ensures loads { ReadsNothingAndKeepsDirectoriesWhereAllCached (λ found. found.fault ≡ None) (ancestor_paths_of_path path.now) thread.old thread.new result }
+    ensures reads { ReadsFewPairsOnPaths (gstate_of_pairs thread.old.kept.pairs ≡ zero_gstate) (λ found. found.fault ≡ None) (ancestor_paths_of_path path.now) thread.old thread.new result }
     ensures reading { OnlyReadsThreadAndReportsErrors thread.old thread.new result }
 {
     let shown = lookup_result_at_path(alloc, thread, root, path)?;
@@ -167,9 +158,7 @@ pub fn find_if_path_has_entries<D: BlockDevice>(
     root: usize,
     path: &Path<'_>,
 ) -> Result<NodeAndEmptiness, Error>
-    requires works { thread.old.failed ≡ false }
-    requires accepted { IsAcceptedImage thread.old.kept.disk thread.old.kept.pairs }
-    requires root { root ≡ pair_count_before_root thread.old.kept.pairs }
+    requires { CanSearchFromRoot thread.old root }
     ensures found { IfOk result (λ inside. IsFoundNodeAtPath (tree_on_disk thread.old.kept.disk thread.old.kept.pairs) path.now inside.finding) }
     ensures has { IfOk result (λ inside. inside.has_entries ≡ has_entry_beneath_path (tree_on_disk thread.old.kept.disk thread.old.kept.pairs) path.now) }
     ensures few { read_count_of_history thread.new.kept.history ≤ read_count_of_history thread.old.kept.history + sum_by (pair_count_of_directory_at thread.old.kept.pairs) (ancestor_paths_of_path path.now ++ path.now ∷ []) }

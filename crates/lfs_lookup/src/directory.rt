@@ -1,6 +1,6 @@
 // The entries of a pair and of a directory, and where a directory begins.
 
-ghost use Rattle.std.specs.Prelude.{◌≡◌, ◌<◌, ◌≤◌, ◌+◌, ◌∷◌, [], ℕ, Some, IfOk, IfSome, drop, false, length, map};
+ghost use Rattle.std.specs.Prelude.{◌≡◌, ◌<◌, ◌≤◌, ◌+◌, ◌∷◌, [], Some, IfOk, IfSome, drop, false, length, map};
 ghost use Rattle.lfs_model.specs.Slots.{pair_address_of_array};
 ghost use Rattle.lfs_model.specs.Thread.{gstate_of_pairs, entries_not_moved};
 ghost use Rattle.lfs_model.specs.History.{read_count_of_history};
@@ -11,6 +11,7 @@ ghost use Rattle.lfs_lookup.specs.AtPath.{directory_from_pair_has_entries};
 ghost use Rattle.lfs_lookup.specs.Items.{directory_items_view, name_and_struct_of_slot};
 ghost use Rattle.lfs_lookup.specs.Listed.{AreEntriesOfDirectory, hard_tail_joined_pairs, hard_tail_joined_pair_count_from, moved_slot_id_at_address, hard_tail_joined_pairs_from, entries_of_directory_from_pair};
 ghost use Rattle.lfs_lookup.specs.Reading.{OnlyReadsThreadAndReportsErrors};
+ghost use Rattle.lfs_lookup.specs.Searchable.{CanReadPair};
 
 use crate::items::{NameAndOwnedStruct, items_in_log};
 use lfs_device::{BlockDevice, Error};
@@ -39,8 +40,7 @@ fn items_of_pair_under_gstate<D: BlockDevice>(
     state: &MoveState,
     index: usize,
 ) -> Result<Vec<NameAndOwnedStruct>, Error>
-    requires works { thread.old.failed ≡ false }
-    requires below { index < length thread.old.kept.pairs }
+    requires can { CanReadPair thread.old index }
     requires state { move_view state.now ≡ gstate_of_pairs thread.old.kept.pairs }
     ensures items { IfOk result (λ items. directory_items_view items.items ≡ map name_and_struct_of_slot (entries_not_moved (gstate_of_pairs thread.old.kept.pairs) (thread_pair_at_index thread.old.kept index))) }
     ensures few { read_count_of_history thread.new.kept.history ≤ read_count_of_history thread.old.kept.history + 1 }
@@ -83,8 +83,7 @@ pub fn directory_items_under_gstate<D: BlockDevice>(
     state: &MoveState,
     first: usize,
 ) -> Result<Vec<NameAndOwnedStruct>, Error>
-    requires works { thread.old.failed ≡ false }
-    requires below { first < length thread.old.kept.pairs }
+    requires can { CanReadPair thread.old first }
     requires state { move_view state.now ≡ gstate_of_pairs thread.old.kept.pairs }
     ensures items { IfOk result (λ items. directory_items_view items.items ≡ entries_of_directory_from_pair thread.old.kept.pairs (Some first)) }
     ensures few { read_count_of_history thread.new.kept.history ≤ read_count_of_history thread.old.kept.history + hard_tail_joined_pair_count_from thread.old.kept.pairs (Some first) }
@@ -112,8 +111,7 @@ pub fn entries_of_directory_pairs<D: BlockDevice>(
     thread: &mut Thread<D>,
     first: usize,
 ) -> Result<Vec<NameAndOwnedStruct>, Error>
-    requires works { thread.old.failed ≡ false }
-    requires below { first < length thread.old.kept.pairs }
+    requires { CanReadPair thread.old first }
     ensures items { IfOk result (λ items. directory_items_view items.items ≡ entries_of_directory_from_pair thread.old.kept.pairs (Some first)) }
     ensures entries { IfOk result (λ items. AreEntriesOfDirectory thread.old.kept.disk thread.old.kept.pairs first (directory_items_view items.items)) }
     ensures few { read_count_of_history thread.new.kept.history ≤ read_count_of_history thread.old.kept.history + hard_tail_joined_pair_count_from thread.old.kept.pairs (Some first) }

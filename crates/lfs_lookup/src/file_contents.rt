@@ -1,20 +1,16 @@
 // The contents of a file, as a reader keeps them.
 
-ghost use Rattle.std.specs.Prelude.{◌≡◌, ◌≤◌, ◌<◌, ◌+◌, IfOk, IsSome, List, false, sum_by};
-ghost use Rattle.lfs_model.specs.Frame.{pair_count_of_directory_at, ancestor_paths_of_path};
-ghost use Rattle.lfs_model.specs.History.{read_count_of_history};
+ghost use Rattle.std.specs.Prelude.{◌≡◌, ◌<◌, IfOk, IsSome, List, false};
+ghost use Rattle.lfs_model.specs.Frame.{ancestor_paths_of_path};
 ghost use Rattle.lfs_model.specs.Shown.{tree_on_disk};
 ghost use Rattle.lfs_model.specs.Slots.{Inline, Slot};
-ghost use Rattle.lfs_model.specs.Slots.{zero_gstate};
-ghost use Rattle.lfs_model.specs.Thread.{gstate_of_pairs, pair_count_before_root};
-ghost use Rattle.lfs_model.specs.View.{IsAcceptedImage};
 ghost use Rattle.lfs_thread.specs.CachedLog.{cached_log};
-ghost use Rattle.lfs_lookup.specs.CachedPairs.{AreDirectoriesAtThesePathsCached};
 ghost use Rattle.lfs_lookup.specs.BytesAt.{IsFileSlotAtSpot};
 ghost use Rattle.lfs_lookup.specs.FileContents.{AreFileContentsOfStruct, AreContentsOfFileAtPathOrNone};
 ghost use Rattle.lfs_lookup.specs.Finds.{IsFoundNodeAtPath};
-ghost use Rattle.lfs_lookup.specs.Halves.{ReadsAtMostBinarySearchesOnPaths};
 ghost use Rattle.lfs_lookup.specs.Reading.{OnlyReadsThreadAndReportsErrors};
+ghost use Rattle.lfs_lookup.specs.Reads.{ReadsFewUncachedPairs};
+ghost use Rattle.lfs_lookup.specs.Searchable.{CanSearchFromRoot};
 
 use crate::by_path::{found_node_from_lookup_result, lookup_result_at_path};
 use crate::bytes::{read_inline_bytes_at, spot_and_storage_of_file};
@@ -78,14 +74,10 @@ pub fn find_file_contents_at_path<D: BlockDevice>(
     root: usize,
     path: &Path<'_>,
 ) -> Result<FoundFile, Error>
-    requires works { thread.old.failed ≡ false }
-    requires accepted { IsAcceptedImage thread.old.kept.disk thread.old.kept.pairs }
-    requires root { root ≡ pair_count_before_root thread.old.kept.pairs }
+    requires { CanSearchFromRoot thread.old root }
     ensures found { IfOk result (λ found. IsFoundNodeAtPath (tree_on_disk thread.old.kept.disk thread.old.kept.pairs) path.now found.finding) }
     ensures contents { IfOk result (λ found. AreContentsOfFileAtPathOrNone thread.old.kept path.now found.contents) }
-    ensures few { read_count_of_history thread.new.kept.history ≤ read_count_of_history thread.old.kept.history + sum_by (pair_count_of_directory_at thread.old.kept.pairs) (ancestor_paths_of_path path.now) }
-    ensures halves { gstate_of_pairs thread.old.kept.pairs ≡ zero_gstate → ReadsAtMostBinarySearchesOnPaths thread.old thread.new (ancestor_paths_of_path path.now) }
-    ensures kept { AreDirectoriesAtThesePathsCached thread.old (ancestor_paths_of_path path.now) → read_count_of_history thread.new.kept.history ≡ read_count_of_history thread.old.kept.history }
+    ensures reads { ReadsFewUncachedPairs (ancestor_paths_of_path path.now) thread.old thread.new }
     ensures reading { OnlyReadsThreadAndReportsErrors thread.old thread.new result }
 {
     let shown = lookup_result_at_path(alloc, thread, root, path)?;

@@ -1,17 +1,16 @@
 // The entries of the directory at a path, by name, kind and size.
 
-ghost use Rattle.std.specs.Prelude.{◌≡◌, ◌≤◌, ◌+◌, ◌++◌, ◌∷◌, [], IfOk, false, map, sum_by};
+ghost use Rattle.std.specs.Prelude.{◌≡◌, ◌≤◌, ◌+◌, ◌++◌, ◌∷◌, [], IfOk, map, sum_by};
 ghost use Rattle.lfs_model.specs.Frame.{pair_count_of_directory_at, ancestor_paths_of_path};
 ghost use Rattle.lfs_model.specs.History.{read_count_of_history};
 ghost use Rattle.lfs_model.specs.Effects.{directory_items_at_path};
-ghost use Rattle.lfs_model.specs.Thread.{pair_count_before_root};
-ghost use Rattle.lfs_model.specs.View.{IsAcceptedImage};
 ghost use Rattle.lfs_model.specs.Shown.{tree_on_disk};
 ghost use Rattle.lfs_lookup.specs.CachedPairs.{AreDirectoriesAtThesePathsCached};
 ghost use Rattle.lfs_lookup.specs.Finds.{IsFoundNodeAtPath, list_item_view};
 ghost use Rattle.lfs_lookup.specs.Items.{directory_item_view, directory_items_view, owned_struct_view};
 ghost use Rattle.lfs_lookup.specs.ListAt.{AreEntriesInNameAndInlineLimits, IsInlineStructShorterThanTagLength, IsEntryInNameAndInlineLimits, listed_item_of_entry, listed_size_of_struct_if_file};
 ghost use Rattle.lfs_lookup.specs.Reading.{OnlyReadsThreadAndReportsErrors};
+ghost use Rattle.lfs_lookup.specs.Searchable.{CanSearchFromRoot};
 
 use crate::by_path::{
     first_pair_of_lookup_result, found_node_from_lookup_result, lookup_result_at_path,
@@ -80,9 +79,7 @@ pub fn list_directory_at_path<D: BlockDevice>(
     root: usize,
     path: &Path<'_>,
 ) -> Result<Listing, Error>
-    requires works { thread.old.failed ≡ false }
-    requires accepted { IsAcceptedImage thread.old.kept.disk thread.old.kept.pairs }
-    requires root { root ≡ pair_count_before_root thread.old.kept.pairs }
+    requires { CanSearchFromRoot thread.old root }
     ensures found { IfOk result (λ listing. IsFoundNodeAtPath (tree_on_disk thread.old.kept.disk thread.old.kept.pairs) path.now listing.finding) }
     ensures items { IfOk result (λ listing. map list_item_view listing.items.items ≡ directory_items_at_path (tree_on_disk thread.old.kept.disk thread.old.kept.pairs) path.now) }
     ensures few { read_count_of_history thread.new.kept.history ≤ read_count_of_history thread.old.kept.history + sum_by (pair_count_of_directory_at thread.old.kept.pairs) (ancestor_paths_of_path path.now ++ path.now ∷ []) }

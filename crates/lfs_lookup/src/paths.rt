@@ -1,22 +1,21 @@
 // Paths, from the root down.
 
-ghost use Rattle.std.specs.Prelude.{◌≡◌, None, ◌<◌, ◌≤◌, ◌+◌, false, IfOk, map, sum_by, ◌++◌, ◌∷◌, [], drop};
+ghost use Rattle.std.specs.Prelude.{◌≡◌, None, ◌<◌, ◌≤◌, ◌+◌, IfOk, map, sum_by, ◌++◌, ◌∷◌, [], drop};
 ghost use Rattle.lfs_model.specs.Frame.{pair_count_of_directory_at, ancestor_paths_of_path};
 ghost use Rattle.lfs_model.specs.History.{read_count_of_history};
 ghost use Rattle.lfs_model.specs.InDirectory.{hard_tail_joined_pair_count};
 ghost use Rattle.lfs_model.specs.Slots.{zero_gstate};
 ghost use Rattle.lfs_model.specs.Tree.{Path};
 ghost use Rattle.lfs_model.specs.View.{IsAcceptedImage};
-ghost use Rattle.lfs_thread.specs.Steps.{IoMeantFaultNoMemoryWroteNothing, IsThreadOnlyRead};
 ghost use Rattle.lfs_tag.specs.FieldsView.{move_view};
-ghost use Rattle.lfs_lookup.specs.CachedPairs.{ReadsNothingAndKeepsPairsWhereAllCached, ReadsNothingAndKeepsDirectoriesWhereAllCached};
 ghost use Rattle.lfs_lookup.specs.AtPath.{IsLookupNotRefusedByParents};
 ghost use Rattle.lfs_lookup.specs.AttributeAt.{IsLogBlockOfFoundSlotCached};
 ghost use Rattle.lfs_lookup.specs.Halves.{ReadsAtMostBinarySearchesOnPaths, ReadsAtMostBinarySearchOfDirectory};
-ghost use Rattle.lfs_lookup.specs.Listed.{hard_tail_joined_pairs};
 ghost use Rattle.lfs_lookup.specs.Reading.{OnlyReadsThreadAndReportsErrors};
 ghost use Rattle.lfs_lookup.specs.Search.{HidesMovedSlotInPairsFromIndex};
-ghost use Rattle.lfs_lookup.specs.Paths.{PathLeadsToFirstPair, IsParentReachedByAllNamesOfPath, IsDirectoryFileOrNothingAtPath, HidesOnlyMovedSlot, IsAcceptedImageWithZeroGstate, IsEntryBelowRootWithSlotHidden, IsFoundEntryOfName, PathLeadsToLookupResult, IsLookupResultWithSlotHidden, refusal_of_parent};
+ghost use Rattle.lfs_lookup.specs.Paths.{PathLeadsToFirstPair, IsParentReachedByAllNamesOfPath, IsDirectoryFileOrNothingAtPath, IsEntryBelowRootWithSlotHidden, IsFoundEntryOfName, PathLeadsToLookupResult, IsLookupResultWithSlotHidden, refusal_of_parent};
+ghost use Rattle.lfs_lookup.specs.Reads.{ReadsFewPairsOfDirectory, ReadsFewPairsOnPaths};
+ghost use Rattle.lfs_lookup.specs.Searchable.{CanSearchRecoveredImage, CanSearchWithSlotHidden};
 
 use crate::entry::{FileOrDirectory, FileStorage};
 use crate::search::{NamePositionInDirectory, SlotPosition, find_name, find_name_with_slot_hidden};
@@ -115,13 +114,10 @@ fn find_subdirectory_by_name<D: BlockDevice>(
     name: &[u8],
     moved: Option<SlotPosition>,
 ) -> Result<Parent, Error>
-    requires works { thread.old.failed ≡ false }
-    requires hiding { HidesOnlyMovedSlot thread.old.kept moved }
+    requires can { CanSearchWithSlotHidden thread.old moved }
     requires reached { (path : Path) × PathLeadsToFirstPair thread.old.kept.pairs path first }
     ensures answer { IfOk result (λ parent. (path : Path) → PathLeadsToFirstPair thread.old.kept.pairs path first → IsDirectoryFileOrNothingAtPath thread.old.kept (path ++ name.now ∷ []) parent) }
-    ensures few { read_count_of_history thread.new.kept.history ≤ read_count_of_history thread.old.kept.history + hard_tail_joined_pair_count (drop first thread.old.kept.pairs) }
-    ensures halves { moved ≡ None → ReadsAtMostBinarySearchOfDirectory thread.old thread.new first }
-    ensures loads { ReadsNothingAndKeepsPairsWhereAllCached (hard_tail_joined_pairs (drop first thread.old.kept.pairs)) thread.old thread.new result }
+    ensures reads { ReadsFewPairsOfDirectory moved first thread.old thread.new result }
     ensures reading { OnlyReadsThreadAndReportsErrors thread.old thread.new result }
 {
     match find_name_with_slot_hidden(thread, first, name, moved)? {
@@ -145,13 +141,10 @@ pub(crate) fn find_directory_that_names_lead_to<D: BlockDevice>(
     path: &[&[u8]],
     moved: Option<SlotPosition>,
 ) -> Result<Parent, Error>
-    requires works { thread.old.failed ≡ false }
-    requires hiding { HidesOnlyMovedSlot thread.old.kept moved }
+    requires can { CanSearchWithSlotHidden thread.old moved }
     requires root { PathLeadsToFirstPair thread.old.kept.pairs [] root }
     ensures answer { IfOk result (IsParentReachedByAllNamesOfPath thread.old.kept (map (λ name. name.now) path.now)) }
-    ensures few { read_count_of_history thread.new.kept.history ≤ read_count_of_history thread.old.kept.history + sum_by (pair_count_of_directory_at thread.old.kept.pairs) (ancestor_paths_of_path (map (λ name. name.now) path.now)) }
-    ensures halves { moved ≡ None → ReadsAtMostBinarySearchesOnPaths thread.old thread.new (ancestor_paths_of_path (map (λ name. name.now) path.now)) }
-    ensures loads { ReadsNothingAndKeepsDirectoriesWhereAllCached (λ parent. refusal_of_parent parent ≡ None) (ancestor_paths_of_path (map (λ name. name.now) path.now)) thread.old thread.new result }
+    ensures reads { ReadsFewPairsOnPaths (moved ≡ None) (λ parent. refusal_of_parent parent ≡ None) (ancestor_paths_of_path (map (λ name. name.now) path.now)) thread.old thread.new result }
     ensures reading { OnlyReadsThreadAndReportsErrors thread.old thread.new result }
 {
     let mut first = root;
@@ -171,15 +164,12 @@ fn look_up_in_directory<D: BlockDevice>(
     parent: usize,
     name: &[u8],
 ) -> Result<PathLookup, Error>
-    requires works { thread.old.failed ≡ false }
-    requires settled { IsAcceptedImageWithZeroGstate thread.old.kept }
+    requires can { CanSearchRecoveredImage thread.old }
     requires reached { (above : Path) × PathLeadsToFirstPair thread.old.kept.pairs above parent }
     ensures answer { IfOk result (λ found. (above : Path) → PathLeadsToFirstPair thread.old.kept.pairs above parent → IsFoundEntryOfName thread.old.kept.disk.order thread.old.kept.pairs above name.now found) }
     ensures few { read_count_of_history thread.new.kept.history ≤ read_count_of_history thread.old.kept.history + hard_tail_joined_pair_count (drop parent thread.old.kept.pairs) }
     ensures halves { ReadsAtMostBinarySearchOfDirectory thread.old thread.new parent }
-    ensures only { IsThreadOnlyRead thread.old.kept thread.new.kept }
-    ensures works { thread.new.failed ≡ false }
-    ensures errors { IoMeantFaultNoMemoryWroteNothing thread.old.kept thread.new.kept result }
+    ensures reading { OnlyReadsThreadAndReportsErrors thread.old thread.new result }
 {
     match find_name(thread, parent, name)? {
         NamePositionInDirectory::Found(slot, FileOrDirectory::Directory(at)) => {
@@ -212,15 +202,12 @@ pub fn look_up<D: BlockDevice>(
     root: usize,
     path: &[&[u8]],
 ) -> Result<PathLookup, Error>
-    requires works { thread.old.failed ≡ false }
-    requires settled { IsAcceptedImageWithZeroGstate thread.old.kept }
+    requires can { CanSearchRecoveredImage thread.old }
     requires root { PathLeadsToFirstPair thread.old.kept.pairs [] root }
     ensures answer { IfOk result (PathLeadsToLookupResult thread.old.kept (map (λ name. name.now) path.now)) }
     ensures few { read_count_of_history thread.new.kept.history ≤ read_count_of_history thread.old.kept.history + sum_by (pair_count_of_directory_at thread.old.kept.pairs) (ancestor_paths_of_path (map (λ name. name.now) path.now)) }
     ensures halves { ReadsAtMostBinarySearchesOnPaths thread.old thread.new (ancestor_paths_of_path (map (λ name. name.now) path.now)) }
-    ensures only { IsThreadOnlyRead thread.old.kept thread.new.kept }
-    ensures works { thread.new.failed ≡ false }
-    ensures errors { IoMeantFaultNoMemoryWroteNothing thread.old.kept thread.new.kept result }
+    ensures reading { OnlyReadsThreadAndReportsErrors thread.old thread.new result }
 {
     let Some((name, above)) = path.split_last() else {
         return Ok(PathLookup::Root);
@@ -239,14 +226,11 @@ fn look_up_name_with_slot_hidden<D: BlockDevice>(
     name: &[u8],
     moved: Option<SlotPosition>,
 ) -> Result<VisiblePathLookup, Error>
-    requires works { thread.old.failed ≡ false }
-    requires hiding { HidesOnlyMovedSlot thread.old.kept moved }
+    requires can { CanSearchWithSlotHidden thread.old moved }
     requires reached { (above : Path) × PathLeadsToFirstPair thread.old.kept.pairs above parent }
     ensures answer { IfOk result (λ shown. (above : Path) → PathLeadsToFirstPair thread.old.kept.pairs above parent → IsEntryBelowRootWithSlotHidden thread.old.kept.pairs moved (above ++ name.now ∷ []) shown) }
     ensures cached_log { IfOk result (IsLogBlockOfFoundSlotCached thread.new) }
-    ensures few { read_count_of_history thread.new.kept.history ≤ read_count_of_history thread.old.kept.history + hard_tail_joined_pair_count (drop parent thread.old.kept.pairs) }
-    ensures halves { moved ≡ None → ReadsAtMostBinarySearchOfDirectory thread.old thread.new parent }
-    ensures loads { ReadsNothingAndKeepsPairsWhereAllCached (hard_tail_joined_pairs (drop parent thread.old.kept.pairs)) thread.old thread.new result }
+    ensures reads { ReadsFewPairsOfDirectory moved parent thread.old thread.new result }
     ensures reading { OnlyReadsThreadAndReportsErrors thread.old thread.new result }
 {
     match find_name_with_slot_hidden(thread, parent, name, moved)? {
@@ -273,14 +257,11 @@ pub(crate) fn look_up_with_moved_slot_hidden<D: BlockDevice>(
     path: &[&[u8]],
     moved: Option<SlotPosition>,
 ) -> Result<VisiblePathLookup, Error>
-    requires works { thread.old.failed ≡ false }
-    requires hiding { HidesOnlyMovedSlot thread.old.kept moved }
+    requires can { CanSearchWithSlotHidden thread.old moved }
     requires root { PathLeadsToFirstPair thread.old.kept.pairs [] root }
     ensures answer { IfOk result (IsLookupResultWithSlotHidden thread.old.kept moved (map (λ name. name.now) path.now)) }
     ensures cached_log { IfOk result (IsLogBlockOfFoundSlotCached thread.new) }
-    ensures few { read_count_of_history thread.new.kept.history ≤ read_count_of_history thread.old.kept.history + sum_by (pair_count_of_directory_at thread.old.kept.pairs) (ancestor_paths_of_path (map (λ name. name.now) path.now)) }
-    ensures halves { moved ≡ None → ReadsAtMostBinarySearchesOnPaths thread.old thread.new (ancestor_paths_of_path (map (λ name. name.now) path.now)) }
-    ensures loads { ReadsNothingAndKeepsDirectoriesWhereAllCached IsLookupNotRefusedByParents (ancestor_paths_of_path (map (λ name. name.now) path.now)) thread.old thread.new result }
+    ensures reads { ReadsFewPairsOnPaths (moved ≡ None) IsLookupNotRefusedByParents (ancestor_paths_of_path (map (λ name. name.now) path.now)) thread.old thread.new result }
     ensures reading { OnlyReadsThreadAndReportsErrors thread.old thread.new result }
 {
     let Some((name, above)) = path.split_last() else {

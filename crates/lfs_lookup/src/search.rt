@@ -9,8 +9,10 @@ ghost use Rattle.lfs_thread.specs.Steps.{thread_pair_at_index};
 ghost use Rattle.lfs_lookup.specs.CachedPairs.{ReadsNothingAndKeepsPairsWhereAllCached};
 ghost use Rattle.lfs_lookup.specs.Listed.{hard_tail_joined_pairs};
 ghost use Rattle.lfs_lookup.specs.Reading.{OnlyReadsThreadAndReportsErrors};
-ghost use Rattle.lfs_lookup.specs.Halves.{EndsWithoutHardTail, ReadsAtMostBinarySearchOfDirectory};
+ghost use Rattle.lfs_lookup.specs.Halves.{EndsWithoutHardTail};
 ghost use Rattle.lfs_lookup.specs.Search.{SearchFindsInDirectory, SearchFindsInPair, SearchFindsWithSlotHidden, HasLogWhoseSlotsHaveNameAndStruct, AreDirectoryNamesInOrder, IsPairCachedIfSlotFound, skipped_id_in_pair};
+ghost use Rattle.lfs_lookup.specs.Reads.{ReadsFewPairsOfDirectory};
+ghost use Rattle.lfs_lookup.specs.Searchable.{CanReadPair};
 
 use crate::entry::{FileOrDirectory, entry_of_struct};
 use lfs_device::{BlockDevice, Error};
@@ -67,8 +69,7 @@ fn find_name_in_pair<D: BlockDevice>(
     name: &[u8],
     skip: Option<u16>,
 ) -> Result<NamePositionInPair, Error>
-    requires works { thread.old.failed ≡ false }
-    requires below { pair < length thread.old.kept.pairs }
+    requires { CanReadPair thread.old pair }
     ensures answer { IfOk result (SearchFindsInPair thread.old.kept.disk.order skip (thread_pair_at_index thread.old.kept pair).content.slots name.now) }
     ensures cached_log { OnOk result (IsSome (cached_log thread.new pair)) }
     ensures few { read_count_of_history thread.new.kept.history ≤ read_count_of_history thread.old.kept.history + 1 }
@@ -130,14 +131,11 @@ pub(crate) fn find_name<D: BlockDevice>(
     first: usize,
     name: &[u8],
 ) -> Result<NamePositionInDirectory, Error>
-    requires works { thread.old.failed ≡ false }
-    requires below { first < length thread.old.kept.pairs }
+    requires can { CanReadPair thread.old first }
     requires entries { ArePairsWithoutSuperblock (drop (first + 1) thread.old.kept.pairs) }
     ensures answer { IfOk result (SearchFindsInDirectory thread.old.kept.disk.order thread.old.kept.pairs first name.now) }
     ensures cached_log { IfOk result (IsPairCachedIfSlotFound thread.new) }
-    ensures few { read_count_of_history thread.new.kept.history ≤ read_count_of_history thread.old.kept.history + hard_tail_joined_pair_count (drop first thread.old.kept.pairs) }
-    ensures halves { ReadsAtMostBinarySearchOfDirectory thread.old thread.new first }
-    ensures loads { ReadsNothingAndKeepsPairsWhereAllCached (hard_tail_joined_pairs (drop first thread.old.kept.pairs)) thread.old thread.new result }
+    ensures reads { ReadsFewPairsOfDirectory None first thread.old thread.new result }
     ensures reading { OnlyReadsThreadAndReportsErrors thread.old thread.new result }
 {
     let mut low = first;
@@ -181,8 +179,7 @@ fn find_name_along_hard_tails<D: BlockDevice>(
     name: &[u8],
     moved: Option<SlotPosition>,
 ) -> Result<Option<(SlotPosition, FileOrDirectory)>, Error>
-    requires works { thread.old.failed ≡ false }
-    requires below { first < length thread.old.kept.pairs }
+    requires { CanReadPair thread.old first }
     ensures answer { IfOk result (SearchFindsWithSlotHidden thread.old.kept.pairs moved first name.now) }
     ensures cached_log { IfOk result (λ found. IfSome found (λ f. IsSome (cached_log thread.new f.0.pair))) }
     ensures few { read_count_of_history thread.new.kept.history ≤ read_count_of_history thread.old.kept.history + hard_tail_joined_pair_count (drop first thread.old.kept.pairs) }
@@ -224,14 +221,11 @@ pub fn find_name_with_slot_hidden<D: BlockDevice>(
     name: &[u8],
     moved: Option<SlotPosition>,
 ) -> Result<Option<(SlotPosition, FileOrDirectory)>, Error>
-    requires works { thread.old.failed ≡ false }
-    requires below { first < length thread.old.kept.pairs }
+    requires can { CanReadPair thread.old first }
     requires in_order { moved ≡ None → AreDirectoryNamesInOrder thread.old.kept.disk.order thread.old.kept.pairs first }
     ensures answer { IfOk result (SearchFindsWithSlotHidden thread.old.kept.pairs moved first name.now) }
     ensures cached_log { IfOk result (λ found. IfSome found (λ f. IsSome (cached_log thread.new f.0.pair))) }
-    ensures few { read_count_of_history thread.new.kept.history ≤ read_count_of_history thread.old.kept.history + hard_tail_joined_pair_count (drop first thread.old.kept.pairs) }
-    ensures halves { moved ≡ None → ReadsAtMostBinarySearchOfDirectory thread.old thread.new first }
-    ensures loads { ReadsNothingAndKeepsPairsWhereAllCached (hard_tail_joined_pairs (drop first thread.old.kept.pairs)) thread.old thread.new result }
+    ensures reads { ReadsFewPairsOfDirectory moved first thread.old thread.new result }
     ensures reading { OnlyReadsThreadAndReportsErrors thread.old thread.new result }
 {
     match moved {

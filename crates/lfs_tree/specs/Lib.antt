@@ -20,3 +20,4 @@ pub mod RenamePaths
 pub mod ThreadContents
 pub mod SettledFiles
 pub mod StructChanges
+pub mod Working

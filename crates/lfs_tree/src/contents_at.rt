@@ -1,17 +1,17 @@
 // Files that get the contents of a writer, in a thread that has nothing to recover.
 
-ghost use Rattle.std.specs.Prelude.{◌≡◌, ◌∷◌, [], false, true, IfErr, OnOk};
+ghost use Rattle.std.specs.Prelude.{◌≡◌, false, true, OnOk};
 ghost use Rattle.lfs_tree.specs.ThreadContents.{ReportsFaultOrNoMemory};
 ghost use Rattle.lfs_model.specs.TreeEdits.{tree_after_change_of_node};
-ghost use Rattle.lfs_model.specs.History.{fault_count_of_history};
 ghost use Rattle.lfs_model.specs.Effects.{node_with_bytes};
 ghost use Rattle.lfs_model.specs.Shown.{tree_on_disk};
 ghost use Rattle.lfs_operations.specs.Changing.{WritesPairAndTwoFreeBlocks};
 ghost use Rattle.lfs_operations.specs.Storing.{HasStoredContentsOfFile, tree_with_contents_at};
-ghost use Rattle.lfs_tree.specs.TreeChanges.{HasFurtherDeviceCalls, CanChangeRecoveredImage, ChangesTreeOrFails, SurvivesWithOldOrNewTree, ReportsIoWithFaultOrNoMemory};
+ghost use Rattle.lfs_tree.specs.TreeChanges.{HasFurtherDeviceCalls, CanChangeRecoveredImage, ChangesTreeOrFails, SurvivesWithOldOrNewTree};
 ghost use Rattle.lfs_tree.specs.RootedThreads.{tree_state_of_kept_thread};
 ghost use Rattle.lfs_tree.specs.OpenContents.{CanStoreContentsAt, bytes_of_writer_contents};
 ghost use Rattle.lfs_tree.specs.Stores.{CanCommitContentsAtPath, CanPutFinishedContentsInSlot, HasCommittedBytesOfFile, StoresBytesKeepingOtherFilesOnThread, IsFileSlotOfFound, is_file_found, stored_skip_list_of_finished_contents, skip_list_in_file_storage, empty_stored_skip_list};
+ghost use Rattle.lfs_tree.specs.Working.{IsWorkingThreadWhere, WorksOrReportsFault};
 
 use crate::entries_at::{find_at_path, show_block_facts_to_proof};
 use crate::files::{finish_file, settle_file};
@@ -87,8 +87,7 @@ fn put_finished_contents_in_slot<D: BlockDevice>(
     spot: SlotPosition,
     contents: &WriterContents,
 ) -> Result<(), Error>
-    requires works { thread.old.failed ≡ false }
-    requires can { CanPutFinishedContentsInSlot thread.old.kept spot contents.now }
+    requires { IsWorkingThreadWhere thread.old (λ t. CanPutFinishedContentsInSlot t spot contents.now) }
     ensures stored { OnOk result ((can : CanPutFinishedContentsInSlot thread.old.kept spot contents.now)
         → HasStoredContentsOfFile thread.old.kept thread.new.kept can.can.path can.can.name (bytes_of_writer_contents thread.old.kept contents.now) can.come.gone can.come.come) }
     ensures works { OnOk result (thread.new.failed ≡ false) }
@@ -128,10 +127,8 @@ fn commit_contents_at_path<D: BlockDevice>(
     requires rests { CanChangeRecoveredImage thread.old root }
     requires can { CanCommitContentsAtPath thread.old.kept path.now contents }
     ensures done { OnOk result (HasCommittedBytesOfFile thread.old.kept path.now (bytes_of_writer_contents thread.old.kept contents) thread.new.kept) }
-    ensures works { OnOk result (thread.new.failed ≡ false) }
+    ensures reports { WorksOrReportsFault thread.old thread.new result }
     ensures called { HasFurtherDeviceCalls thread.old.kept thread.new.kept }
-    ensures no_fault { OnOk result (fault_count_of_history thread.new.kept.history ≡ fault_count_of_history thread.old.kept.history) }
-    ensures errors { IfErr result (ReportsIoWithFaultOrNoMemory thread.old.kept thread.new.kept) }
     ensures survives { SurvivesWithOldOrNewTree thread.old.kept thread.new.kept (tree_after_change_of_node path.now (node_with_bytes (bytes_of_writer_contents thread.old.kept contents)) (tree_on_disk thread.old.kept.disk thread.old.kept.pairs)) }
 {
     show_block_facts_to_proof(thread);

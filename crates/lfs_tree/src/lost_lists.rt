@@ -15,6 +15,7 @@ ghost use Rattle.lfs_thread.specs.Steps.{thread_pair_at_index};
 ghost use Rattle.lfs_tree.specs.LostLists.{CanFreeListsOfDroppedSlots, skip_lists_named_by_raw_struct, skip_lists_named_by_slots, skip_lists_named_by_raw_slots};
 ghost use Rattle.lfs_lookup.specs.Reading.{OnlyReadsThreadAndReportsErrors};
 ghost use Rattle.lfs_lookup.specs.Search.{HasLogWhoseSlotsHaveNameAndStruct};
+ghost use Rattle.lfs_tree.specs.Working.{IsWorkingThreadWhere};
 
 use crate::files::settle_file;
 use lfs_device::{BlockDevice, Error};
@@ -116,8 +117,7 @@ pub(crate) fn free_blocks_of_skip_lists<D: BlockDevice>(
     thread: &mut Thread<D>,
     lists: &[StoredList],
 ) -> Result<(), Error>
-    requires works { thread.old.failed ≡ false }
-    requires can { CanFreeListsOfDroppedSlots thread.old.kept lists.now }
+    requires { IsWorkingThreadWhere thread.old (λ t. CanFreeListsOfDroppedSlots t lists.now) }
     ensures ready { OnOk result (IsImageReadyForChange thread.new.kept) }
     ensures flying { OnOk result (HasSameBlocksInFlight thread.old.kept.map thread.new.kept.map) }
     ensures only { ChangesOnlyBlockMap thread.old.kept thread.new.kept }

@@ -1,16 +1,16 @@
 // How a recovery ends what a loss of power left.
 
-ghost use Rattle.std.specs.Prelude.{◌≡◌, false, true, IfErr, OnOk};
-ghost use Rattle.lfs_model.specs.History.{fault_count_of_history};
+ghost use Rattle.std.specs.Prelude.{◌≡◌, true, OnOk};
 ghost use Rattle.lfs_model.specs.Slots.{zero_gstate};
 ghost use Rattle.lfs_model.specs.Thread.{blocks_of_pairs, gstate_of_pairs, pair_count_before_root};
 ghost use Rattle.lfs_model.specs.Shown.{tree_on_disk};
 ghost use Rattle.lfs_operations.specs.Recovering.{CanDropUnreachedPairs, slots_of_numbered_pairs};
 ghost use Rattle.lfs_thread.specs.Steps.{ThreadChangesOnlyTheseBlocks};
-ghost use Rattle.lfs_tree.specs.TreeChanges.{HasFurtherDeviceCalls, ChangesTreeOrFails, SurvivesWithOldOrNewTree, ReportsIoWithFaultOrNoMemory};
+ghost use Rattle.lfs_tree.specs.TreeChanges.{HasFurtherDeviceCalls, ChangesTreeOrFails, SurvivesWithOldOrNewTree};
 ghost use Rattle.lfs_tree.specs.RootedThreads.{IsSoundThreadWithRootAtPairNumber};
 ghost use Rattle.lfs_tree.specs.LostLists.{skip_lists_named_by_slots};
 ghost use Rattle.lfs_tree.specs.Recoveries.{CanDropUnreachedDirectories, HasDroppedUnreachedDirectories, HasRecoveredFromPowerLoss};
+ghost use Rattle.lfs_tree.specs.Working.{IsWorkingThreadWhere, WorksOrReportsFault};
 
 use crate::entries_at::show_block_facts_to_proof;
 use crate::lost_lists::{free_blocks_of_skip_lists, skip_lists_of_pairs};
@@ -31,13 +31,10 @@ fn drop_unreached_pairs_and_lists<D: BlockDevice>(
     numbers: &[usize],
     lists: &[StoredList],
 ) -> Result<(), Error>
-    requires works { thread.old.failed ≡ false }
-    requires can { CanDropUnreachedPairs thread.old.kept numbers.now }
+    requires can { IsWorkingThreadWhere thread.old (λ t. CanDropUnreachedPairs t numbers.now) }
     requires lists { lists.now ≡ skip_lists_named_by_slots (slots_of_numbered_pairs thread.old.kept.pairs numbers.now) }
     ensures dropped { OnOk result (HasDroppedUnreachedDirectories thread.old.kept thread.new.kept) }
-    ensures works { OnOk result (thread.new.failed ≡ false) }
-    ensures no_fault { OnOk result (fault_count_of_history thread.new.kept.history ≡ fault_count_of_history thread.old.kept.history) }
-    ensures errors { IfErr result (ReportsIoWithFaultOrNoMemory thread.old.kept thread.new.kept) }
+    ensures reports { WorksOrReportsFault thread.old thread.new result }
     ensures device { ThreadChangesOnlyTheseBlocks (blocks_of_pairs thread.old.kept.pairs) thread.old.kept thread.new.kept }
     ensures survives { SurvivesWithOldOrNewTree thread.old.kept thread.new.kept (tree_on_disk thread.old.kept.disk thread.old.kept.pairs) }
 {
@@ -55,14 +52,11 @@ fn drop_unreached_directories<D: BlockDevice>(
     thread: &mut Thread<D>,
     root: usize,
 ) -> Result<(), Error>
-    requires works { thread.old.failed ≡ false }
-    requires can { CanDropUnreachedDirectories thread.old.kept }
+    requires can { IsWorkingThreadWhere thread.old CanDropUnreachedDirectories }
     requires root { root ≡ pair_count_before_root thread.old.kept.pairs }
     ensures dropped { OnOk result (HasDroppedUnreachedDirectories thread.old.kept thread.new.kept) }
-    ensures works { OnOk result (thread.new.failed ≡ false) }
+    ensures reports { WorksOrReportsFault thread.old thread.new result }
     ensures called { HasFurtherDeviceCalls thread.old.kept thread.new.kept }
-    ensures no_fault { OnOk result (fault_count_of_history thread.new.kept.history ≡ fault_count_of_history thread.old.kept.history) }
-    ensures errors { IfErr result (ReportsIoWithFaultOrNoMemory thread.old.kept thread.new.kept) }
     ensures survives { SurvivesWithOldOrNewTree thread.old.kept thread.new.kept (tree_on_disk thread.old.kept.disk thread.old.kept.pairs) }
 {
     show_block_facts_to_proof(thread);

@@ -1,18 +1,17 @@
 // The contents of files that are opened for writing.
 
-ghost use Rattle.std.specs.Prelude.{◌≡◌, [], false, length, true, IfErr, IfOk};
-ghost use Rattle.lfs_model.specs.TreeEdits.{file_bytes_of_node, is_file};
-ghost use Rattle.lfs_model.specs.BlockSets.{in_flight_block_count};
+ghost use Rattle.std.specs.Prelude.{◌≡◌, [], false, length, IfErr, IfOk};
+ghost use Rattle.lfs_model.specs.TreeEdits.{file_bytes_of_node};
 ghost use Rattle.lfs_model.specs.Slots.{Inline, Slot};
 ghost use Rattle.lfs_model.specs.Shown.{tree_on_disk};
 ghost use Rattle.lfs_thread.specs.Beside.{DiskHasGeometry};
-ghost use Rattle.lfs_tree.specs.RootedThreads.{IsSoundThreadWithRootAtPairNumber};
 ghost use Rattle.lfs_tree.specs.OpenContents.{IsFormOfOpenedContents, AreWriterContentsOverFileOnThread, bytes_of_writer_contents};
 ghost use Rattle.lfs_tree.specs.Openings.{CanOpenSlotFileWithNothingInFlight, AreOpenedContentsOfStruct, form_of_opened_storage};
 ghost use Rattle.lfs_lookup.specs.Reading.{OnlyReadsThreadAndReportsErrors};
 ghost use Rattle.lfs_lookup.specs.declared.entry.FileStorage.TheVariants as entry_contents;
 ghost use Rattle.lfs_lookup.specs.declared.search.SlotPosition.{SlotPosition as SpotSeen};
 ghost use Rattle.lfs_file.specs.Contents.{HasNoBlockInFlight, storage_form_of_contents};
+ghost use Rattle.lfs_tree.specs.Working.{CanOpenFileAtPath};
 ghost use Rattle.lfs_file.specs.Form as form;
 
 use lfs_device::{BlockDevice, Error, Geometry};
@@ -86,9 +85,7 @@ pub(crate) fn open_contents_at_path<D: BlockDevice>(
     root: usize,
     path: &Path<'_>,
 ) -> Result<WriterContents, Error>
-    requires held { IsSoundThreadWithRootAtPairNumber thread.old root true }
-    requires idle { in_flight_block_count thread.old.kept.map ≡ 0 }
-    requires file { is_file (tree_on_disk thread.old.kept.disk thread.old.kept.pairs path.now) ≡ true }
+    requires { CanOpenFileAtPath thread.old root path.now }
     ensures over { IfOk result (AreWriterContentsOverFileOnThread thread.new.kept path.now) }
     ensures bytes { IfOk result (λ c. bytes_of_writer_contents thread.new.kept c ≡ file_bytes_of_node (tree_on_disk thread.old.kept.disk thread.old.kept.pairs path.now)) }
     ensures form { IfOk result (λ c. IsFormOfOpenedContents thread.old.kept.disk.profile thread.old.kept.disk.block_size (length (file_bytes_of_node (tree_on_disk thread.old.kept.disk thread.old.kept.pairs path.now))) (storage_form_of_contents c)) }

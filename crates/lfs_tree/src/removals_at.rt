@@ -15,6 +15,7 @@ ghost use Rattle.lfs_tree.specs.Calls as call;
 ghost use Rattle.lfs_tree.specs.TreeChanges.{CanChangeRecoveredImage, AppliesCallOnThreadOrFails, SurvivesWithOldOrNewTree};
 ghost use Rattle.lfs_tree.specs.Removals.{CanFreeListOfFile, CanRemoveFoundEntry, CanRemoveFile, HasRemovedEntry, SparesOtherBlocksInRemoval};
 ghost use Rattle.lfs_tree.specs.RootedThreads.{tree_state_of_kept_thread};
+ghost use Rattle.lfs_tree.specs.Working.{IsWorkingThreadWhere};
 
 use crate::entries_at::{find_at_path, show_block_facts_to_proof};
 use crate::files::settle_file;
@@ -33,8 +34,7 @@ pub(crate) fn free_blocks_of_file_list<D: BlockDevice>(
     thread: &mut Thread<D>,
     contents: FileStorage,
 ) -> Result<(), Error>
-    requires works { thread.old.failed ≡ false }
-    requires can { CanFreeListOfFile thread.old.kept contents }
+    requires { IsWorkingThreadWhere thread.old (λ t. CanFreeListOfFile t contents) }
     ensures ready { OnOk result (IsImageReadyForChange thread.new.kept) }
     ensures flying { OnOk result (HasSameBlocksInFlight thread.old.kept.map thread.new.kept.map) }
     ensures only { ChangesOnlyBlockMap thread.old.kept thread.new.kept }
@@ -68,8 +68,7 @@ fn remove_file_and_list<D: BlockDevice>(
     slot: SlotPosition,
     contents: FileStorage,
 ) -> Result<(), Error>
-    requires works { thread.old.failed ≡ false }
-    requires can { (path : TreePath) × CanRemoveFile thread.old.kept path parent slot contents }
+    requires { IsWorkingThreadWhere thread.old (λ t. (path : TreePath) × CanRemoveFile t path parent slot contents) }
     ensures gone { OnOk result ((path : TreePath) → CanRemoveFile thread.old.kept path parent slot contents → HasRemovedEntry thread.old.kept path thread.new.kept) }
     ensures alone { OnOk result ((path : TreePath) → CanRemoveFile thread.old.kept path parent slot contents → SparesOtherBlocksInRemoval thread.old.kept path thread.new.kept) }
     ensures errors { ReportsErrorsOfCommitsTakingNoBlock thread.old thread.new result }
@@ -86,8 +85,7 @@ fn remove_found_entry<D: BlockDevice>(
     thread: &mut Thread<D>,
     found: PathLookup,
 ) -> Result<(), Error>
-    requires works { thread.old.failed ≡ false }
-    requires can { (path : TreePath) × CanRemoveFoundEntry thread.old.kept path found }
+    requires { IsWorkingThreadWhere thread.old (λ t. (path : TreePath) × CanRemoveFoundEntry t path found) }
     ensures gone { OnOk result ((path : TreePath) → CanRemoveFoundEntry thread.old.kept path found → HasRemovedEntry thread.old.kept path thread.new.kept) }
     ensures alone { OnOk result ((path : TreePath) → CanRemoveFoundEntry thread.old.kept path found → SparesOtherBlocksInRemoval thread.old.kept path thread.new.kept) }
     ensures errors { ReportsErrorsOfCommitsTakingNoBlock thread.old thread.new result }

@@ -1,4 +1,4 @@
-use Rattle.std.proofs.Common.{◌≡◌, ◌<◌, ◌∙◌, List, Some, ap, arith, length, slice_get, slice_index_or, subst, sym}
+use Rattle.std.proofs.Common.{◌≡◌, ◌<◌, ◌∙◌, List, Some, ap, arith, length, slice_get, slice_index_or, subst, sym, rules}
 use Rattle.std.specs.Prelude.{IfOk}
 use Rattle.lfs_model.specs.History.{read_count_of_history}
 use Rattle.lfs_model.specs.Thread.{Pair}
@@ -36,23 +36,31 @@ pub returns-in_default-clause-is : goal.returns-in_default-clause-is
 returns-in_default-clause-is g c =
     subst (λ a. IsAttributesSize a 0) (sym (no_slot c.args.thread.now.kept c.args.path.now c.in_ok-shown.shown c.in_ok-shown.ensures.shown (sym c.spot_of_entry_if_found.ensures ∙ c.in_default.is))) none_sized
 
-pub returns-clause-few : goal.returns-clause-few
-returns-clause-few g c =
-    let f = c.lookup_result_at_path.ensures.few in
-    let e = ap (λ (t : KeptThread). read_count_of_history t.history) c.attributes_size_of_slot.ensures.no_call in
-    omega (arith, f, e)
+pub returns-clause-reads : goal.returns-clause-reads
+returns-clause-reads g c = record {
+  few = (
+      let f = c.lookup_result_at_path.ensures.reads.few in
+      let e = ap (λ (t : KeptThread). read_count_of_history t.history) c.attributes_size_of_slot.ensures.no_call in
+      omega (arith, f, e)
+      );
+  halves = λ settled slots. (
+      let k = c.lookup_result_at_path.ensures.reads.halves settled slots in
+      let e = ap (λ (t : KeptThread). read_count_of_history t.history) c.attributes_size_of_slot.ensures.no_call in
+      omega (arith, k, e)
+      );
+  kept = λ there. ap (λ (t : KeptThread). read_count_of_history t.history) c.attributes_size_of_slot.ensures.no_call ∙ c.lookup_result_at_path.ensures.reads.loads.none there;
+}
 
-pub returns-in_err-shown-clause-kept : goal.returns-in_err-shown-clause-kept
-returns-in_err-shown-clause-kept g c = c.lookup_result_at_path.ensures.loads.none
+pub returns-in_err-shown-clause-reads : goal.returns-in_err-shown-clause-reads
+returns-in_err-shown-clause-reads g c = record {
+  few = search rules;
+  halves = search rules;
+  kept = c.lookup_result_at_path.ensures.reads.loads.none;
+}
 
-pub returns-in_default-clause-kept : goal.returns-in_default-clause-kept
-returns-in_default-clause-kept g c = c.lookup_result_at_path.ensures.loads.none
-
-pub returns-clause-kept : goal.returns-clause-kept
-returns-clause-kept g c = λ there. ap (λ (t : KeptThread). read_count_of_history t.history) c.attributes_size_of_slot.ensures.no_call ∙ c.lookup_result_at_path.ensures.loads.none there
-
-pub returns-clause-halves : goal.returns-clause-halves
-returns-clause-halves g c settled slots =
-    let k = c.lookup_result_at_path.ensures.halves settled slots in
-    let e = ap (λ (t : KeptThread). read_count_of_history t.history) c.attributes_size_of_slot.ensures.no_call in
-    omega (arith, k, e)
+pub returns-in_default-clause-reads : goal.returns-in_default-clause-reads
+returns-in_default-clause-reads g c = record {
+  few = search rules;
+  halves = search rules;
+  kept = c.lookup_result_at_path.ensures.reads.loads.none;
+}

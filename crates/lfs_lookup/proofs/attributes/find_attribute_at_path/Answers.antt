@@ -1,4 +1,4 @@
-use Rattle.std.proofs.Common.{◌∙◌, ap, refl, arith}
+use Rattle.std.proofs.Common.{◌∙◌, ap, refl, arith, rules}
 use Rattle.std.proofs.lemmas.Result.{err_from_is_err_and}
 use Rattle.lfs_model.specs.History.{read_count_of_history}
 use Rattle.lfs_model.specs.TreeEdits.{attributes_of_node}
@@ -10,12 +10,12 @@ use Rattle.lfs_lookup.proofs.Reading.{answered, answers, both, further, passed}
 use Rattle.lfs_lookup.proofs.ShownFindings.{found_shown, in_entry}
 use Rattle.lfs_lookup.proofs.attributes.find_attribute_at_path.Goals as goal
 
-pub attribute_of_optional_slot-requires-clause-below : goal.attribute_of_optional_slot-requires-clause-below
-attribute_of_optional_slot-requires-clause-below g c =
-    slot_within c.args.thread.now.kept c.args.path.now c.in_ok-shown.shown c.spot_of_entry_if_found.result c.lookup_result_at_path.new.thread.kept.pairs c.in_ok-shown.ensures.shown c.spot_of_entry_if_found.ensures c.lookup_result_at_path.ensures.reading.only.pairs
-
-pub attribute_of_optional_slot-requires-clause-cached_log : goal.attribute_of_optional_slot-requires-clause-cached_log
-attribute_of_optional_slot-requires-clause-cached_log g c = slot_is_cached c.lookup_result_at_path.new.thread c.in_ok-shown.shown c.spot_of_entry_if_found.result c.in_ok-shown.ensures.cached_log c.spot_of_entry_if_found.ensures
+pub attribute_of_optional_slot-requires : goal.attribute_of_optional_slot-requires
+attribute_of_optional_slot-requires g c = record {
+  works = c.lookup_result_at_path.ensures.reading.works;
+  below = slot_within c.args.thread.now.kept c.args.path.now c.in_ok-shown.shown c.spot_of_entry_if_found.result c.lookup_result_at_path.new.thread.kept.pairs c.in_ok-shown.ensures.shown c.spot_of_entry_if_found.ensures c.lookup_result_at_path.ensures.reading.only.pairs;
+  cached_log = slot_is_cached c.lookup_result_at_path.new.thread c.in_ok-shown.shown c.spot_of_entry_if_found.result c.in_ok-shown.ensures.cached_log c.spot_of_entry_if_found.ensures;
+}
 
 pub returns-in_err-bytes-clause-reading : goal.returns-in_err-bytes-clause-reading
 returns-in_err-bytes-clause-reading g c =
@@ -23,11 +23,20 @@ returns-in_err-bytes-clause-reading g c =
     passed _ _ c.attribute_of_optional_slot.result c.from_residual-in_err-bytes.result _ p.0 c.in_err-bytes.was p.1 p.2
     (further _ _ _ c.attribute_of_optional_slot.result (answered _ _ c.lookup_result_at_path.result c.in_ok-shown.shown c.in_ok-shown.was c.lookup_result_at_path.ensures.reading) c.attribute_of_optional_slot.ensures.reading)
 
-pub returns-in_err-bytes-clause-few : goal.returns-in_err-bytes-clause-few
-returns-in_err-bytes-clause-few g c =
-    let f = c.lookup_result_at_path.ensures.few in
-    let e = ap (λ (t : KeptThread). read_count_of_history t.history) c.attribute_of_optional_slot.ensures.no_call in
-    omega (arith, f, e)
+pub returns-in_err-bytes-clause-reads : goal.returns-in_err-bytes-clause-reads
+returns-in_err-bytes-clause-reads g c = record {
+  few = (
+      let f = c.lookup_result_at_path.ensures.reads.few in
+      let e = ap (λ (t : KeptThread). read_count_of_history t.history) c.attribute_of_optional_slot.ensures.no_call in
+      omega (arith, f, e)
+      );
+  halves = λ settled slots. (
+      let k = c.lookup_result_at_path.ensures.reads.halves settled slots in
+      let e = ap (λ (t : KeptThread). read_count_of_history t.history) c.attribute_of_optional_slot.ensures.no_call in
+      omega (arith, k, e)
+      );
+  kept = λ there. ap (λ (t : KeptThread). read_count_of_history t.history) c.attribute_of_optional_slot.ensures.no_call ∙ c.lookup_result_at_path.ensures.reads.loads.none there;
+}
 
 pub found_node_from_lookup_result-requires : goal.found_node_from_lookup_result-requires
 found_node_from_lookup_result-requires g c = in_entry c.args.thread.now.kept c.args.path.now c.in_ok-shown.shown c.in_ok-shown.ensures.shown
@@ -47,34 +56,29 @@ returns-clause-is g c =
     let held = are_held t c.args.path.now c.in_ok-shown.shown c.spot_of_entry_if_found.result c.in_ok-shown.ensures.shown c.spot_of_entry_if_found.ensures in
     c.in_ok-bytes.ensures.is (attributes_of_node (tree_on_disk t.disk t.pairs c.args.path.now)) (held_later t c.lookup_result_at_path.new.thread.kept c.spot_of_entry_if_found.result _ c.lookup_result_at_path.ensures.reading.only.pairs held)
 
-pub returns-clause-few : goal.returns-clause-few
-returns-clause-few g c =
-    let f = c.lookup_result_at_path.ensures.few in
-    let e = ap (λ (t : KeptThread). read_count_of_history t.history) c.attribute_of_optional_slot.ensures.no_call in
-    omega (arith, f, e)
+pub returns-clause-reads : goal.returns-clause-reads
+returns-clause-reads g c = record {
+  few = (
+      let f = c.lookup_result_at_path.ensures.reads.few in
+      let e = ap (λ (t : KeptThread). read_count_of_history t.history) c.attribute_of_optional_slot.ensures.no_call in
+      omega (arith, f, e)
+      );
+  halves = λ settled slots. (
+      let k = c.lookup_result_at_path.ensures.reads.halves settled slots in
+      let e = ap (λ (t : KeptThread). read_count_of_history t.history) c.attribute_of_optional_slot.ensures.no_call in
+      omega (arith, k, e)
+      );
+  kept = λ there. ap (λ (t : KeptThread). read_count_of_history t.history) c.attribute_of_optional_slot.ensures.no_call ∙ c.lookup_result_at_path.ensures.reads.loads.none there;
+}
 
 pub returns-clause-reading : goal.returns-clause-reading
 returns-clause-reading g c =
     answers _ _ _ _ refl (both _ _ _ (answered _ _ c.lookup_result_at_path.result c.in_ok-shown.shown c.in_ok-shown.was c.lookup_result_at_path.ensures.reading)
     (answered _ _ c.attribute_of_optional_slot.result c.in_ok-bytes.bytes c.in_ok-bytes.was c.attribute_of_optional_slot.ensures.reading))
 
-pub returns-in_err-shown-clause-kept : goal.returns-in_err-shown-clause-kept
-returns-in_err-shown-clause-kept g c = c.lookup_result_at_path.ensures.loads.none
-
-pub returns-in_err-bytes-clause-kept : goal.returns-in_err-bytes-clause-kept
-returns-in_err-bytes-clause-kept g c = λ there. ap (λ (t : KeptThread). read_count_of_history t.history) c.attribute_of_optional_slot.ensures.no_call ∙ c.lookup_result_at_path.ensures.loads.none there
-
-pub returns-clause-kept : goal.returns-clause-kept
-returns-clause-kept g c = λ there. ap (λ (t : KeptThread). read_count_of_history t.history) c.attribute_of_optional_slot.ensures.no_call ∙ c.lookup_result_at_path.ensures.loads.none there
-
-pub returns-clause-halves : goal.returns-clause-halves
-returns-clause-halves g c settled slots =
-    let k = c.lookup_result_at_path.ensures.halves settled slots in
-    let e = ap (λ (t : KeptThread). read_count_of_history t.history) c.attribute_of_optional_slot.ensures.no_call in
-    omega (arith, k, e)
-
-pub returns-in_err-bytes-clause-halves : goal.returns-in_err-bytes-clause-halves
-returns-in_err-bytes-clause-halves g c settled slots =
-    let k = c.lookup_result_at_path.ensures.halves settled slots in
-    let e = ap (λ (t : KeptThread). read_count_of_history t.history) c.attribute_of_optional_slot.ensures.no_call in
-    omega (arith, k, e)
+pub returns-in_err-shown-clause-reads : goal.returns-in_err-shown-clause-reads
+returns-in_err-shown-clause-reads g c = record {
+  few = search rules;
+  halves = search rules;
+  kept = c.lookup_result_at_path.ensures.reads.loads.none;
+}

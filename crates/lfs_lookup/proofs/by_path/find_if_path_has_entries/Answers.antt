@@ -44,14 +44,14 @@ returns-clause-reading g c =
 
 pub returns-in_err-shown-clause-few : goal.returns-in_err-shown-clause-few
 returns-in_err-shown-clause-few g c =
-    let f = c.lookup_result_at_path.ensures.few in
+    let f = c.lookup_result_at_path.ensures.reads.few in
     let s = few_own (pair_count_of_directory_at c.args.thread.now.kept.pairs) c.args.path.now in
     omega (arith, f, s)
 
 pub returns-in_err-has_entries-clause-few : goal.returns-in_err-has_entries-clause-few
 returns-in_err-has_entries-clause-few g c =
     let t = c.args.thread.now.kept in
-    let f = c.lookup_result_at_path.ensures.few in
+    let f = c.lookup_result_at_path.ensures.reads.few in
     let n = c.has_entries.ensures.few in
     let k = few_from t c.args.path.now c.requires.accepted c.lookup_result_at_path.new.thread.kept.pairs c.first_pair_of_lookup_result.result c.lookup_result_at_path.ensures.reading.only.pairs
     (first_at t c.args.path.now c.requires.accepted c.args.root c.in_ok-shown.shown c.first_pair_of_lookup_result.result c.requires.root c.in_ok-shown.ensures.shown c.first_pair_of_lookup_result.ensures) in
@@ -61,7 +61,7 @@ returns-in_err-has_entries-clause-few g c =
 pub returns-clause-few : goal.returns-clause-few
 returns-clause-few g c =
     let t = c.args.thread.now.kept in
-    let f = c.lookup_result_at_path.ensures.few in
+    let f = c.lookup_result_at_path.ensures.reads.few in
     let n = c.has_entries.ensures.few in
     let k = few_from t c.args.path.now c.requires.accepted c.lookup_result_at_path.new.thread.kept.pairs c.first_pair_of_lookup_result.result c.lookup_result_at_path.ensures.reading.only.pairs
     (first_at t c.args.path.now c.requires.accepted c.args.root c.in_ok-shown.shown c.first_pair_of_lookup_result.result c.requires.root c.in_ok-shown.ensures.shown c.first_pair_of_lookup_result.ensures) in

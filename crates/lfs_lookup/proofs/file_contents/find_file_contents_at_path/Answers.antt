@@ -1,4 +1,4 @@
-use Rattle.std.proofs.Common.{◌∙◌, ap, refl, sym, arith}
+use Rattle.std.proofs.Common.{◌∙◌, ap, refl, sym, arith, rules}
 use Rattle.std.proofs.lemmas.Result.{err_from_is_err_and}
 use Rattle.lfs_model.specs.History.{read_count_of_history}
 use Rattle.lfs_thread.specs.Kept.{KeptThread}
@@ -52,29 +52,49 @@ returns-in_default-clause-found g c =
     (g.D.BlockDevice.geometry device).valid.no_smaller (g.met.D.BlockDevice.shape device))
     c.in_ok-shown.ensures.shown c.found_node_from_lookup_result-finding.ensures
 
-pub returns-clause-few : goal.returns-clause-few
-returns-clause-few g c =
-    let f = c.lookup_result_at_path.ensures.few in
-    let e = ap (λ (t : KeptThread). read_count_of_history t.history) c.contents_of_slot.ensures.no_call in
-    omega (arith, f, e)
+pub returns-clause-reads : goal.returns-clause-reads
+returns-clause-reads g c = record {
+  few = (
+      let f = c.lookup_result_at_path.ensures.reads.few in
+      let e = ap (λ (t : KeptThread). read_count_of_history t.history) c.contents_of_slot.ensures.no_call in
+      omega (arith, f, e)
+      );
+  halves = λ settled slots. (
+      let k = c.lookup_result_at_path.ensures.reads.halves settled slots in
+      let e = ap (λ (t : KeptThread). read_count_of_history t.history) c.contents_of_slot.ensures.no_call in
+      omega (arith, k, e)
+      );
+  kept = λ there. ap (λ (t : KeptThread). read_count_of_history t.history) c.contents_of_slot.ensures.no_call ∙ c.lookup_result_at_path.ensures.reads.loads.none there;
+}
 
-pub returns-in_err-contents-clause-few : goal.returns-in_err-contents-clause-few
-returns-in_err-contents-clause-few g c =
-    let f = c.lookup_result_at_path.ensures.few in
-    let e = ap (λ (t : KeptThread). read_count_of_history t.history) c.contents_of_slot.ensures.no_call in
-    omega (arith, f, e)
+pub returns-in_err-contents-clause-reads : goal.returns-in_err-contents-clause-reads
+returns-in_err-contents-clause-reads g c = record {
+  few = (
+      let f = c.lookup_result_at_path.ensures.reads.few in
+      let e = ap (λ (t : KeptThread). read_count_of_history t.history) c.contents_of_slot.ensures.no_call in
+      omega (arith, f, e)
+      );
+  halves = λ settled slots. (
+      let k = c.lookup_result_at_path.ensures.reads.halves settled slots in
+      let e = ap (λ (t : KeptThread). read_count_of_history t.history) c.contents_of_slot.ensures.no_call in
+      omega (arith, k, e)
+      );
+  kept = λ there. ap (λ (t : KeptThread). read_count_of_history t.history) c.contents_of_slot.ensures.no_call ∙ c.lookup_result_at_path.ensures.reads.loads.none there;
+}
 
-pub returns-clause-kept : goal.returns-clause-kept
-returns-clause-kept g c = λ there. ap (λ (t : KeptThread). read_count_of_history t.history) c.contents_of_slot.ensures.no_call ∙ c.lookup_result_at_path.ensures.loads.none there
+pub returns-in_default-clause-reads : goal.returns-in_default-clause-reads
+returns-in_default-clause-reads g c = record {
+  few = search rules;
+  halves = search rules;
+  kept = c.lookup_result_at_path.ensures.reads.loads.none;
+}
 
-pub returns-in_default-clause-kept : goal.returns-in_default-clause-kept
-returns-in_default-clause-kept g c = c.lookup_result_at_path.ensures.loads.none
-
-pub returns-in_err-shown-clause-kept : goal.returns-in_err-shown-clause-kept
-returns-in_err-shown-clause-kept g c = c.lookup_result_at_path.ensures.loads.none
-
-pub returns-in_err-contents-clause-kept : goal.returns-in_err-contents-clause-kept
-returns-in_err-contents-clause-kept g c = λ there. ap (λ (t : KeptThread). read_count_of_history t.history) c.contents_of_slot.ensures.no_call ∙ c.lookup_result_at_path.ensures.loads.none there
+pub returns-in_err-shown-clause-reads : goal.returns-in_err-shown-clause-reads
+returns-in_err-shown-clause-reads g c = record {
+  few = search rules;
+  halves = search rules;
+  kept = c.lookup_result_at_path.ensures.reads.loads.none;
+}
 
 pub returns-clause-reading : goal.returns-clause-reading
 returns-clause-reading g c =
@@ -90,15 +110,3 @@ returns-in_err-contents-clause-reading g c =
     let p = err_from_is_err_and c.from_residual-in_err-contents.result c.from_residual-in_err-contents.ensures.1 in
     passed _ _ c.contents_of_slot.result c.from_residual-in_err-contents.result _ p.0 c.in_err-contents.was p.1 p.2
     (further _ _ _ c.contents_of_slot.result (answered _ _ c.lookup_result_at_path.result c.in_ok-shown.shown c.in_ok-shown.was c.lookup_result_at_path.ensures.reading) c.contents_of_slot.ensures.reading)
-
-pub returns-clause-halves : goal.returns-clause-halves
-returns-clause-halves g c settled slots =
-    let k = c.lookup_result_at_path.ensures.halves settled slots in
-    let e = ap (λ (t : KeptThread). read_count_of_history t.history) c.contents_of_slot.ensures.no_call in
-    omega (arith, k, e)
-
-pub returns-in_err-contents-clause-halves : goal.returns-in_err-contents-clause-halves
-returns-in_err-contents-clause-halves g c settled slots =
-    let k = c.lookup_result_at_path.ensures.halves settled slots in
-    let e = ap (λ (t : KeptThread). read_count_of_history t.history) c.contents_of_slot.ensures.no_call in
-    omega (arith, k, e)

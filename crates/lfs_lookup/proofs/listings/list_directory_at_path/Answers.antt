@@ -13,7 +13,7 @@ use Rattle.lfs_lookup.proofs.listings.list_directory_at_path.Goals as goal
 
 pub returns-in_err-shown-clause-few : goal.returns-in_err-shown-clause-few
 returns-in_err-shown-clause-few g c =
-    let f = c.lookup_result_at_path.ensures.few in
+    let f = c.lookup_result_at_path.ensures.reads.few in
     let s = few_own (pair_count_of_directory_at c.args.thread.now.kept.pairs) c.args.path.now in
     omega (arith, f, s)
 
@@ -32,7 +32,7 @@ returns-in_err-items-clause-reading g c =
 pub returns-in_err-items-clause-few : goal.returns-in_err-items-clause-few
 returns-in_err-items-clause-few g c =
     let t = c.args.thread.now.kept in
-    let f = c.lookup_result_at_path.ensures.few in
+    let f = c.lookup_result_at_path.ensures.reads.few in
     let n = c.items_of_directory_if_any.ensures.few in
     let k = few_from t c.args.path.now c.requires.accepted c.lookup_result_at_path.new.thread.kept.pairs c.first_pair_of_lookup_result.result c.lookup_result_at_path.ensures.reading.only.pairs
     (first_at t c.args.path.now c.requires.accepted c.args.root c.in_ok-shown.shown c.first_pair_of_lookup_result.result c.requires.root c.in_ok-shown.ensures.shown c.first_pair_of_lookup_result.ensures) in
@@ -56,7 +56,7 @@ returns-in_err-listed-clause-reading g c =
 pub returns-in_err-listed-clause-few : goal.returns-in_err-listed-clause-few
 returns-in_err-listed-clause-few g c =
     let t = c.args.thread.now.kept in
-    let f = c.lookup_result_at_path.ensures.few in
+    let f = c.lookup_result_at_path.ensures.reads.few in
     let n = c.items_of_directory_if_any.ensures.few in
     let k = few_from t c.args.path.now c.requires.accepted c.lookup_result_at_path.new.thread.kept.pairs c.first_pair_of_lookup_result.result c.lookup_result_at_path.ensures.reading.only.pairs
     (first_at t c.args.path.now c.requires.accepted c.args.root c.in_ok-shown.shown c.first_pair_of_lookup_result.result c.requires.root c.in_ok-shown.ensures.shown c.first_pair_of_lookup_result.ensures) in
@@ -88,7 +88,7 @@ returns-clause-items g c =
 pub returns-clause-few : goal.returns-clause-few
 returns-clause-few g c =
     let t = c.args.thread.now.kept in
-    let f = c.lookup_result_at_path.ensures.few in
+    let f = c.lookup_result_at_path.ensures.reads.few in
     let n = c.items_of_directory_if_any.ensures.few in
     let k = few_from t c.args.path.now c.requires.accepted c.lookup_result_at_path.new.thread.kept.pairs c.first_pair_of_lookup_result.result c.lookup_result_at_path.ensures.reading.only.pairs
     (first_at t c.args.path.now c.requires.accepted c.args.root c.in_ok-shown.shown c.first_pair_of_lookup_result.result c.requires.root c.in_ok-shown.ensures.shown c.first_pair_of_lookup_result.ensures) in
@@ -101,31 +101,31 @@ returns-clause-reading g c =
     (answered _ _ c.items_of_directory_if_any.result c.in_ok-items.items c.in_ok-items.was c.items_of_directory_if_any.ensures.reading))
 
 pub returns-in_err-shown-clause-kept : goal.returns-in_err-shown-clause-kept
-returns-in_err-shown-clause-kept g c = λ there. c.lookup_result_at_path.ensures.loads.none (on_hand_above c.args.thread.now c.args.path.now there)
+returns-in_err-shown-clause-kept g c = λ there. c.lookup_result_at_path.ensures.reads.loads.none (on_hand_above c.args.thread.now c.args.path.now there)
 
 pub returns-in_err-items-clause-kept : goal.returns-in_err-items-clause-kept
 returns-in_err-items-clause-kept g c = λ there.
     let t = c.args.thread.now.kept in
     let only = c.lookup_result_at_path.ensures.reading.only in
-    let stay = on_ok c.lookup_result_at_path.result c.in_ok-shown.shown _ c.in_ok-shown.was (c.lookup_result_at_path.ensures.loads.stay (on_hand_above c.args.thread.now c.args.path.now there)) in
+    let stay = on_ok c.lookup_result_at_path.result c.in_ok-shown.shown _ c.in_ok-shown.was (c.lookup_result_at_path.ensures.reads.loads.stay (on_hand_above c.args.thread.now c.args.path.now there)) in
     let at = first_at t c.args.path.now c.requires.accepted c.args.root c.in_ok-shown.shown c.first_pair_of_lookup_result.result c.requires.root c.in_ok-shown.ensures.shown c.first_pair_of_lookup_result.ensures in
     c.items_of_directory_if_any.ensures.kept (first_on_hand c.args.thread.now c.lookup_result_at_path.new.thread c.args.path.now c.requires.accepted only c.first_pair_of_lookup_result.result at stay there)
-    ∙ c.lookup_result_at_path.ensures.loads.none (on_hand_above c.args.thread.now c.args.path.now there)
+    ∙ c.lookup_result_at_path.ensures.reads.loads.none (on_hand_above c.args.thread.now c.args.path.now there)
 
 pub returns-in_err-listed-clause-kept : goal.returns-in_err-listed-clause-kept
 returns-in_err-listed-clause-kept g c = λ there.
     let t = c.args.thread.now.kept in
     let only = c.lookup_result_at_path.ensures.reading.only in
-    let stay = on_ok c.lookup_result_at_path.result c.in_ok-shown.shown _ c.in_ok-shown.was (c.lookup_result_at_path.ensures.loads.stay (on_hand_above c.args.thread.now c.args.path.now there)) in
+    let stay = on_ok c.lookup_result_at_path.result c.in_ok-shown.shown _ c.in_ok-shown.was (c.lookup_result_at_path.ensures.reads.loads.stay (on_hand_above c.args.thread.now c.args.path.now there)) in
     let at = first_at t c.args.path.now c.requires.accepted c.args.root c.in_ok-shown.shown c.first_pair_of_lookup_result.result c.requires.root c.in_ok-shown.ensures.shown c.first_pair_of_lookup_result.ensures in
     c.items_of_directory_if_any.ensures.kept (first_on_hand c.args.thread.now c.lookup_result_at_path.new.thread c.args.path.now c.requires.accepted only c.first_pair_of_lookup_result.result at stay there)
-    ∙ c.lookup_result_at_path.ensures.loads.none (on_hand_above c.args.thread.now c.args.path.now there)
+    ∙ c.lookup_result_at_path.ensures.reads.loads.none (on_hand_above c.args.thread.now c.args.path.now there)
 
 pub returns-clause-kept : goal.returns-clause-kept
 returns-clause-kept g c = λ there.
     let t = c.args.thread.now.kept in
     let only = c.lookup_result_at_path.ensures.reading.only in
-    let stay = on_ok c.lookup_result_at_path.result c.in_ok-shown.shown _ c.in_ok-shown.was (c.lookup_result_at_path.ensures.loads.stay (on_hand_above c.args.thread.now c.args.path.now there)) in
+    let stay = on_ok c.lookup_result_at_path.result c.in_ok-shown.shown _ c.in_ok-shown.was (c.lookup_result_at_path.ensures.reads.loads.stay (on_hand_above c.args.thread.now c.args.path.now there)) in
     let at = first_at t c.args.path.now c.requires.accepted c.args.root c.in_ok-shown.shown c.first_pair_of_lookup_result.result c.requires.root c.in_ok-shown.ensures.shown c.first_pair_of_lookup_result.ensures in
     c.items_of_directory_if_any.ensures.kept (first_on_hand c.args.thread.now c.lookup_result_at_path.new.thread c.args.path.now c.requires.accepted only c.first_pair_of_lookup_result.result at stay there)
-    ∙ c.lookup_result_at_path.ensures.loads.none (on_hand_above c.args.thread.now c.args.path.now there)
+    ∙ c.lookup_result_at_path.ensures.reads.loads.none (on_hand_above c.args.thread.now c.args.path.now there)

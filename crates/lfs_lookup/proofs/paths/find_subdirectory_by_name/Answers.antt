@@ -1,4 +1,4 @@
-use Rattle.std.proofs.Common.{ℕ, ◌≡◌, ◌++◌, ◌∷◌, [], Option, subst, false}
+use Rattle.std.proofs.Common.{ℕ, ◌≡◌, ◌++◌, ◌∷◌, [], Option, subst, false, rules}
 use Rattle.std.specs.Prelude.{IfSome}
 use Rattle.std.specs.List.{AllByRecursion}
 use Rattle.lfs_model.specs.InDirectory.{IsPairAtAddress}
@@ -17,10 +17,10 @@ unwrap-next-requires g c =
     let a = subst (SearchFindsWithSlotHidden t.pairs c.args.moved c.args.first c.args.name.now) c.in-Some-default-Directory.is c.in_ok-at.ensures.answer in
     let shows = subst (λ e. IsEntryOfStruct e a.stands.stands.slot.struct) c.in-Some-default-Directory.field-0-1-is a.shows in
     let path = c.requires.reached.0 in
-    let slot = shown_slot t c.args.moved c.requires.hiding path c.args.first c.requires.reached.1 c.args.name.now _ _ a in
+    let slot = shown_slot t c.args.moved c.requires.can.hiding path c.args.first c.requires.reached.1 c.args.name.now _ _ a in
     let leads = leads_by t (path ++ c.args.name.now ∷ []) a.stands.stands.slot slot (pair_address_of_array c.in-Some-default-Directory.at) shows in
     some_there c.pair_number_at_address.result _ (c.pair_number_at_address.ensures.nowhere)
-    (λ none. is_somewhere t c.requires.hiding.accepted (path ++ c.args.name.now ∷ []) (pair_address_of_array c.in-Some-default-Directory.at) leads
+    (λ none. is_somewhere t c.requires.can.hiding.accepted (path ++ c.args.name.now ∷ []) (pair_address_of_array c.in-Some-default-Directory.at) leads
     (subst (AllByRecursion (λ p. same_pair p.at (pair_address_of_array c.in-Some-default-Directory.at) ≡ false)) c.find_name_with_slot_hidden.ensures.reading.only.pairs none))
 
 pub returns-in-Some-default-Directory-clause-answer : goal.returns-in-Some-default-Directory-clause-answer
@@ -28,7 +28,7 @@ returns-in-Some-default-Directory-clause-answer g c path on =
     let t = c.args.thread.now.kept in
     let a = subst (SearchFindsWithSlotHidden t.pairs c.args.moved c.args.first c.args.name.now) c.in-Some-default-Directory.is c.in_ok-at.ensures.answer in
     let shows = subst (λ e. IsEntryOfStruct e a.stands.stands.slot.struct) c.in-Some-default-Directory.field-0-1-is a.shows in
-    let slot = shown_slot t c.args.moved c.requires.hiding path c.args.first on c.args.name.now _ _ a in
+    let slot = shown_slot t c.args.moved c.requires.can.hiding path c.args.first on c.args.name.now _ _ a in
     record {
       at = pair_address_of_array c.in-Some-default-Directory.at;
       leads = leads_by t (path ++ c.args.name.now ∷ []) a.stands.stands.slot slot (pair_address_of_array c.in-Some-default-Directory.at) shows;
@@ -41,28 +41,45 @@ returns-in-Some-default-File-clause-answer g c path on =
     let t = c.args.thread.now.kept in
     let a = subst (SearchFindsWithSlotHidden t.pairs c.args.moved c.args.first c.args.name.now) c.in-Some-default-File.is c.in_ok-at.ensures.answer in
     let shows = subst (λ e. IsEntryOfStruct e a.stands.stands.slot.struct) c.in-Some-default-File.field-0-1-is a.shows in
-    let slot = shown_slot t c.args.moved c.requires.hiding path c.args.first on c.args.name.now _ _ a in
+    let slot = shown_slot t c.args.moved c.requires.can.hiding path c.args.first on c.args.name.now _ _ a in
     file_by t (path ++ c.args.name.now ∷ []) a.stands.stands.slot slot _ shows
 
 pub returns-in-None-clause-answer : goal.returns-in-None-clause-answer
 returns-in-None-clause-answer g c path on =
     let t = c.args.thread.now.kept in
     let absent = subst (SearchFindsWithSlotHidden t.pairs c.args.moved c.args.first c.args.name.now) c.in-None.is c.in_ok-at.ensures.answer in
-    nothing_by t (path ++ c.args.name.now ∷ []) (no_slot t c.args.moved c.requires.hiding path c.args.first on c.args.name.now absent)
+    nothing_by t (path ++ c.args.name.now ∷ []) (no_slot t c.args.moved c.requires.can.hiding path c.args.first on c.args.name.now absent)
 
-pub returns-in_err-at-clause-loads : goal.returns-in_err-at-clause-loads
-returns-in_err-at-clause-loads g c =
-    let p = err_from_is_err_and c.from_residual.result c.from_residual.ensures.1 in
-    along_as _ _ _ c.find_name_with_slot_hidden.result c.from_residual.result (passes_none c.find_name_with_slot_hidden.result c.from_residual.result p.0 p.1) c.find_name_with_slot_hidden.ensures.loads
+pub returns-in_err-at-clause-reads : goal.returns-in_err-at-clause-reads
+returns-in_err-at-clause-reads g c = record {
+  few = search rules;
+  halves = search rules;
+  loads = (
+      let p = err_from_is_err_and c.from_residual.result c.from_residual.ensures.1 in
+      along_as _ _ _ c.find_name_with_slot_hidden.result c.from_residual.result (passes_none c.find_name_with_slot_hidden.result c.from_residual.result p.0 p.1) c.find_name_with_slot_hidden.ensures.reads.loads
+      );
+}
 
-pub returns-in-Some-default-Directory-clause-loads : goal.returns-in-Some-default-Directory-clause-loads
-returns-in-Some-default-Directory-clause-loads g c = along_as _ _ _ c.find_name_with_slot_hidden.result _ (λ P h. on_ok c.find_name_with_slot_hidden.result c.in_ok-at.field-0 P c.in_ok-at.was h) c.find_name_with_slot_hidden.ensures.loads
+pub returns-in-Some-default-Directory-clause-reads : goal.returns-in-Some-default-Directory-clause-reads
+returns-in-Some-default-Directory-clause-reads g c = record {
+  few = search rules;
+  halves = search rules;
+  loads = along_as _ _ _ c.find_name_with_slot_hidden.result _ (λ P h. on_ok c.find_name_with_slot_hidden.result c.in_ok-at.field-0 P c.in_ok-at.was h) c.find_name_with_slot_hidden.ensures.reads.loads;
+}
 
-pub returns-in-Some-default-File-clause-loads : goal.returns-in-Some-default-File-clause-loads
-returns-in-Some-default-File-clause-loads g c = along_as _ _ _ c.find_name_with_slot_hidden.result _ (λ P h. on_ok c.find_name_with_slot_hidden.result c.in_ok-at.field-0 P c.in_ok-at.was h) c.find_name_with_slot_hidden.ensures.loads
+pub returns-in-Some-default-File-clause-reads : goal.returns-in-Some-default-File-clause-reads
+returns-in-Some-default-File-clause-reads g c = record {
+  few = search rules;
+  halves = search rules;
+  loads = along_as _ _ _ c.find_name_with_slot_hidden.result _ (λ P h. on_ok c.find_name_with_slot_hidden.result c.in_ok-at.field-0 P c.in_ok-at.was h) c.find_name_with_slot_hidden.ensures.reads.loads;
+}
 
-pub returns-in-None-clause-loads : goal.returns-in-None-clause-loads
-returns-in-None-clause-loads g c = along_as _ _ _ c.find_name_with_slot_hidden.result _ (λ P h. on_ok c.find_name_with_slot_hidden.result c.in_ok-at.field-0 P c.in_ok-at.was h) c.find_name_with_slot_hidden.ensures.loads
+pub returns-in-None-clause-reads : goal.returns-in-None-clause-reads
+returns-in-None-clause-reads g c = record {
+  few = search rules;
+  halves = search rules;
+  loads = along_as _ _ _ c.find_name_with_slot_hidden.result _ (λ P h. on_ok c.find_name_with_slot_hidden.result c.in_ok-at.field-0 P c.in_ok-at.was h) c.find_name_with_slot_hidden.ensures.reads.loads;
+}
 
 pub find_name_with_slot_hidden-requires-clause-in_order : goal.find_name_with_slot_hidden-requires-clause-in_order
-find_name_with_slot_hidden-requires-clause-in_order g c = in_order_if c.args.thread.now.kept c.args.moved c.requires.reached.0 c.args.first c.requires.hiding c.requires.reached.1
+find_name_with_slot_hidden-requires-clause-in_order g c = in_order_if c.args.thread.now.kept c.args.moved c.requires.reached.0 c.args.first c.requires.can.hiding c.requires.reached.1

@@ -1,7 +1,7 @@
 use Rattle.std.proofs.Common.{refl, subst, arith}
 use Rattle.lfs_model.specs.Frame.{pair_count_of_directory_at}
 use Rattle.lfs_lookup.specs.Paths.{IsParentReachedByAllNamesOfPath}
-use Rattle.lfs_lookup.proofs.ReadOnly.{only_read, reported_behind}
+use Rattle.lfs_lookup.proofs.Reading.{answered, further}
 use Rattle.lfs_lookup.proofs.Descended.{names_are, sum_is, looked_in, leads_past_file, leads_past_nothing, few_same}
 use Rattle.lfs_lookup.proofs.Entered.{hiding_none}
 use Rattle.lfs_lookup.proofs.HalvedDown.{halved_last, halved_short}
@@ -11,7 +11,7 @@ pub returns-in_err-parent-clause-few : goal.returns-in_err-parent-clause-few
 returns-in_err-parent-clause-few g c =
     let is = names_are (λ name. name.now) c.args.path.now _ _ c.in-Some.ensures.cases.0 in
     let s = sum_is (pair_count_of_directory_at c.args.thread.now.kept.pairs) _ _ _ is in
-    let few = c.find_directory_that_names_lead_to.ensures.few in
+    let few = c.find_directory_that_names_lead_to.ensures.reads.few in
     omega (arith, s, few)
 
 pub returns-in-Directory-clause-answer : goal.returns-in-Directory-clause-answer
@@ -27,17 +27,14 @@ returns-in-Directory-clause-few g c =
     let is = names_are (λ name. name.now) c.args.path.now _ _ c.in-Some.ensures.cases.0 in
     let d = subst (IsParentReachedByAllNamesOfPath t _) c.in-Directory.is c.in_ok-parent.ensures.answer in
     let s = sum_is (pair_count_of_directory_at c.args.thread.now.kept.pairs) _ _ _ is in
-    let few = c.find_directory_that_names_lead_to.ensures.few in
+    let few = c.find_directory_that_names_lead_to.ensures.reads.few in
     let more = c.look_up_in_directory.ensures.few in
-    let same = few_same t c.find_directory_that_names_lead_to.new.thread.kept c.requires.settled.accepted c.find_directory_that_names_lead_to.ensures.reading.only _ c.in-Directory.parent d.begins in
+    let same = few_same t c.find_directory_that_names_lead_to.new.thread.kept c.requires.can.settled.accepted c.find_directory_that_names_lead_to.ensures.reading.only _ c.in-Directory.parent d.begins in
     omega (arith, s, few, more, same)
 
-pub returns-in-Directory-clause-only : goal.returns-in-Directory-clause-only
-returns-in-Directory-clause-only g c = only_read _ _ _ c.find_directory_that_names_lead_to.ensures.reading.only c.look_up_in_directory.ensures.only
-
-pub returns-in-Directory-clause-errors : goal.returns-in-Directory-clause-errors
-returns-in-Directory-clause-errors g c =
-    reported_behind _ _ _ c.look_up_in_directory.result c.find_directory_that_names_lead_to.ensures.reading.only (c.in_ok-parent.ensures.reading.reported.no_fault (λ e. absurd (let k : _ = e in cc))) c.look_up_in_directory.ensures.only c.look_up_in_directory.ensures.errors
+pub returns-in-Directory-clause-reading : goal.returns-in-Directory-clause-reading
+returns-in-Directory-clause-reading g c =
+    further _ _ _ c.look_up_in_directory.result (answered _ _ c.find_directory_that_names_lead_to.result c.in_ok-parent.field-0 c.in_ok-parent.was c.find_directory_that_names_lead_to.ensures.reading) c.look_up_in_directory.ensures.reading
 
 pub returns-in-File-clause-answer : goal.returns-in-File-clause-answer
 returns-in-File-clause-answer g c =
@@ -49,7 +46,7 @@ pub returns-in-File-clause-few : goal.returns-in-File-clause-few
 returns-in-File-clause-few g c =
     let is = names_are (λ name. name.now) c.args.path.now _ _ c.in-Some.ensures.cases.0 in
     let s = sum_is (pair_count_of_directory_at c.args.thread.now.kept.pairs) _ _ _ is in
-    let few = c.find_directory_that_names_lead_to.ensures.few in
+    let few = c.find_directory_that_names_lead_to.ensures.reads.few in
     omega (arith, s, few)
 
 pub returns-in-Nothing-clause-answer : goal.returns-in-Nothing-clause-answer
@@ -62,30 +59,30 @@ pub returns-in-Nothing-clause-few : goal.returns-in-Nothing-clause-few
 returns-in-Nothing-clause-few g c =
     let is = names_are (λ name. name.now) c.args.path.now _ _ c.in-Some.ensures.cases.0 in
     let s = sum_is (pair_count_of_directory_at c.args.thread.now.kept.pairs) _ _ _ is in
-    let few = c.find_directory_that_names_lead_to.ensures.few in
+    let few = c.find_directory_that_names_lead_to.ensures.reads.few in
     omega (arith, s, few)
 
-pub find_directory_that_names_lead_to-requires-clause-hiding : goal.find_directory_that_names_lead_to-requires-clause-hiding
-find_directory_that_names_lead_to-requires-clause-hiding g c = hiding_none c.args.thread.now.kept c.requires.settled
+pub find_directory_that_names_lead_to-requires-clause-can : goal.find_directory_that_names_lead_to-requires-clause-can
+find_directory_that_names_lead_to-requires-clause-can g c = record { works = c.requires.can.works; hiding = hiding_none c.args.thread.now.kept c.requires.can.settled }
 
 pub returns-in_err-parent-clause-halves : goal.returns-in_err-parent-clause-halves
 returns-in_err-parent-clause-halves g c =
     let is = names_are (λ name. name.now) c.args.path.now _ _ c.in-Some.ensures.cases.0 in
-    halved_short c.args.thread.now c.find_directory_that_names_lead_to.new.thread _ _ _ is (c.find_directory_that_names_lead_to.ensures.halves refl)
+    halved_short c.args.thread.now c.find_directory_that_names_lead_to.new.thread _ _ _ is (c.find_directory_that_names_lead_to.ensures.reads.halves refl)
 
 pub returns-in-File-clause-halves : goal.returns-in-File-clause-halves
 returns-in-File-clause-halves g c =
     let is = names_are (λ name. name.now) c.args.path.now _ _ c.in-Some.ensures.cases.0 in
-    halved_short c.args.thread.now c.find_directory_that_names_lead_to.new.thread _ _ _ is (c.find_directory_that_names_lead_to.ensures.halves refl)
+    halved_short c.args.thread.now c.find_directory_that_names_lead_to.new.thread _ _ _ is (c.find_directory_that_names_lead_to.ensures.reads.halves refl)
 
 pub returns-in-Nothing-clause-halves : goal.returns-in-Nothing-clause-halves
 returns-in-Nothing-clause-halves g c =
     let is = names_are (λ name. name.now) c.args.path.now _ _ c.in-Some.ensures.cases.0 in
-    halved_short c.args.thread.now c.find_directory_that_names_lead_to.new.thread _ _ _ is (c.find_directory_that_names_lead_to.ensures.halves refl)
+    halved_short c.args.thread.now c.find_directory_that_names_lead_to.new.thread _ _ _ is (c.find_directory_that_names_lead_to.ensures.reads.halves refl)
 
 pub returns-in-Directory-clause-halves : goal.returns-in-Directory-clause-halves
 returns-in-Directory-clause-halves g c =
     let t = c.args.thread.now.kept in
     let is = names_are (λ name. name.now) c.args.path.now _ _ c.in-Some.ensures.cases.0 in
     let d = subst (IsParentReachedByAllNamesOfPath t _) c.in-Directory.is c.in_ok-parent.ensures.answer in
-    halved_last c.args.thread.now c.find_directory_that_names_lead_to.new.thread _ _ _ is (c.find_directory_that_names_lead_to.ensures.halves refl) c.look_up_in_directory.new.thread c.in-Directory.parent c.requires.settled.accepted c.find_directory_that_names_lead_to.ensures.reading.only d.begins c.look_up_in_directory.ensures.halves
+    halved_last c.args.thread.now c.find_directory_that_names_lead_to.new.thread _ _ _ is (c.find_directory_that_names_lead_to.ensures.reads.halves refl) c.look_up_in_directory.new.thread c.in-Directory.parent c.requires.can.settled.accepted c.find_directory_that_names_lead_to.ensures.reading.only d.begins c.look_up_in_directory.ensures.halves

@@ -12,12 +12,25 @@ use Rattle.lfs_model.specs.Shown.{tree_on_disk}
 use Rattle.lfs_lookup.proofs.HalvedDown.{halved_last, halved_short}
 use Rattle.lfs_lookup.proofs.paths.look_up_with_moved_slot_hidden.Goals as goal
 
-pub returns-in_err-parent-clause-few : goal.returns-in_err-parent-clause-few
-returns-in_err-parent-clause-few g c =
-    let is = names_are (λ name. name.now) c.args.path.now _ _ c.in-Some.ensures.cases.0 in
-    let s = sum_is (pair_count_of_directory_at c.args.thread.now.kept.pairs) _ _ _ is in
-    let few = c.find_directory_that_names_lead_to.ensures.few in
-    omega (arith, s, few)
+pub returns-in_err-parent-clause-reads : goal.returns-in_err-parent-clause-reads
+returns-in_err-parent-clause-reads g c = record {
+  few = (
+      let is = names_are (λ name. name.now) c.args.path.now _ _ c.in-Some.ensures.cases.0 in
+      let s = sum_is (pair_count_of_directory_at c.args.thread.now.kept.pairs) _ _ _ is in
+      let few = c.find_directory_that_names_lead_to.ensures.reads.few in
+      omega (arith, s, few)
+      );
+  halves = λ none. (
+      let is = names_are (λ name. name.now) c.args.path.now _ _ c.in-Some.ensures.cases.0 in
+      halved_short c.args.thread.now c.find_directory_that_names_lead_to.new.thread _ _ _ is (c.find_directory_that_names_lead_to.ensures.reads.halves none)
+      );
+  loads = (
+      let is = names_are (λ name. name.now) c.args.path.now _ _ c.in-Some.ensures.cases.0 in
+      let p = err_from_is_err_and c.from_residual.result c.from_residual.ensures.1 in
+      down_short (λ q. refusal_of_parent q ≡ None) IsLookupNotRefusedByParents c.args.thread.now c.find_directory_that_names_lead_to.new.thread _ _ _ c.find_directory_that_names_lead_to.result c.from_residual.result is
+      (passes_none c.find_directory_that_names_lead_to.result c.from_residual.result p.0 p.1) (stops_none IsLookupNotRefusedByParents c.from_residual.result p.0 p.1) c.find_directory_that_names_lead_to.ensures.reads.loads
+      );
+}
 
 pub returns-in-Directory-clause-answer : goal.returns-in-Directory-clause-answer
 returns-in-Directory-clause-answer g c =
@@ -26,25 +39,33 @@ returns-in-Directory-clause-answer g c =
     let d = subst (IsParentReachedByAllNamesOfPath t _) c.in-Directory.is c.in_ok-parent.ensures.answer in
     showed_in t c.find_directory_that_names_lead_to.new.thread.kept c.args.moved c.find_directory_that_names_lead_to.ensures.reading.only _ _ c.in-Directory.parent c.look_up_name_with_slot_hidden.result d.begins c.look_up_name_with_slot_hidden.ensures.answer _ is (d.fault _)
 
-pub returns-in-Directory-clause-few : goal.returns-in-Directory-clause-few
-returns-in-Directory-clause-few g c =
-    let t = c.args.thread.now.kept in
-    let is = names_are (λ name. name.now) c.args.path.now _ _ c.in-Some.ensures.cases.0 in
-    let d = subst (IsParentReachedByAllNamesOfPath t _) c.in-Directory.is c.in_ok-parent.ensures.answer in
-    let s = sum_is (pair_count_of_directory_at c.args.thread.now.kept.pairs) _ _ _ is in
-    let few = c.find_directory_that_names_lead_to.ensures.few in
-    let more = c.look_up_name_with_slot_hidden.ensures.few in
-    let same = few_same t c.find_directory_that_names_lead_to.new.thread.kept c.requires.hiding.accepted c.find_directory_that_names_lead_to.ensures.reading.only _ c.in-Directory.parent d.begins in
-    omega (arith, s, few, more, same)
-
-pub returns-in-Directory-clause-loads : goal.returns-in-Directory-clause-loads
-returns-in-Directory-clause-loads g c =
-    let t = c.args.thread.now.kept in
-    let is = names_are (λ name. name.now) c.args.path.now _ _ c.in-Some.ensures.cases.0 in
-    let d = subst (IsParentReachedByAllNamesOfPath t _) c.in-Directory.is c.in_ok-parent.ensures.answer in
-    down_last (λ q. refusal_of_parent q ≡ None) IsLookupNotRefusedByParents c.args.thread.now c.find_directory_that_names_lead_to.new.thread c.look_up_name_with_slot_hidden.new.thread _ _ _ c.in_ok-parent.field-0 c.look_up_name_with_slot_hidden.result _ is c.in_ok-parent.ensures.loads
-    (ap refusal_of_parent c.in-Directory.is) c.find_directory_that_names_lead_to.ensures.reading.only.disk
-    (run_same t c.find_directory_that_names_lead_to.new.thread.kept _ c.in-Directory.parent c.requires.hiding.accepted c.find_directory_that_names_lead_to.ensures.reading.only d.begins) c.look_up_name_with_slot_hidden.ensures.loads
+pub returns-in-Directory-clause-reads : goal.returns-in-Directory-clause-reads
+returns-in-Directory-clause-reads g c = record {
+  few = (
+      let t = c.args.thread.now.kept in
+      let is = names_are (λ name. name.now) c.args.path.now _ _ c.in-Some.ensures.cases.0 in
+      let d = subst (IsParentReachedByAllNamesOfPath t _) c.in-Directory.is c.in_ok-parent.ensures.answer in
+      let s = sum_is (pair_count_of_directory_at c.args.thread.now.kept.pairs) _ _ _ is in
+      let few = c.find_directory_that_names_lead_to.ensures.reads.few in
+      let more = c.look_up_name_with_slot_hidden.ensures.reads.few in
+      let same = few_same t c.find_directory_that_names_lead_to.new.thread.kept c.requires.can.hiding.accepted c.find_directory_that_names_lead_to.ensures.reading.only _ c.in-Directory.parent d.begins in
+      omega (arith, s, few, more, same)
+      );
+  halves = λ none. (
+      let t = c.args.thread.now.kept in
+      let is = names_are (λ name. name.now) c.args.path.now _ _ c.in-Some.ensures.cases.0 in
+      let d = subst (IsParentReachedByAllNamesOfPath t _) c.in-Directory.is c.in_ok-parent.ensures.answer in
+      halved_last c.args.thread.now c.find_directory_that_names_lead_to.new.thread _ _ _ is (c.find_directory_that_names_lead_to.ensures.reads.halves none) c.look_up_name_with_slot_hidden.new.thread c.in-Directory.parent c.requires.can.hiding.accepted c.find_directory_that_names_lead_to.ensures.reading.only d.begins (c.look_up_name_with_slot_hidden.ensures.reads.halves none)
+      );
+  loads = (
+      let t = c.args.thread.now.kept in
+      let is = names_are (λ name. name.now) c.args.path.now _ _ c.in-Some.ensures.cases.0 in
+      let d = subst (IsParentReachedByAllNamesOfPath t _) c.in-Directory.is c.in_ok-parent.ensures.answer in
+      down_last (λ q. refusal_of_parent q ≡ None) IsLookupNotRefusedByParents c.args.thread.now c.find_directory_that_names_lead_to.new.thread c.look_up_name_with_slot_hidden.new.thread _ _ _ c.in_ok-parent.field-0 c.look_up_name_with_slot_hidden.result _ is c.in_ok-parent.ensures.reads.loads
+      (ap refusal_of_parent c.in-Directory.is) c.find_directory_that_names_lead_to.ensures.reading.only.disk
+      (run_same t c.find_directory_that_names_lead_to.new.thread.kept _ c.in-Directory.parent c.requires.can.hiding.accepted c.find_directory_that_names_lead_to.ensures.reading.only d.begins) c.look_up_name_with_slot_hidden.ensures.reads.loads
+      );
+}
 
 pub returns-in-Directory-clause-reading : goal.returns-in-Directory-clause-reading
 returns-in-Directory-clause-reading g c =
@@ -62,12 +83,24 @@ returns-in-File-clause-answer g c =
     let d = subst (IsParentReachedByAllNamesOfPath t _) c.in-File.is c.in_ok-parent.ensures.answer in
     ap (refusal_unless_parents_are_directories (tree_on_disk t.disk t.pairs) []) is ∙ d.fault _
 
-pub returns-in-File-clause-few : goal.returns-in-File-clause-few
-returns-in-File-clause-few g c =
-    let is = names_are (λ name. name.now) c.args.path.now _ _ c.in-Some.ensures.cases.0 in
-    let s = sum_is (pair_count_of_directory_at c.args.thread.now.kept.pairs) _ _ _ is in
-    let few = c.find_directory_that_names_lead_to.ensures.few in
-    omega (arith, s, few)
+pub returns-in-File-clause-reads : goal.returns-in-File-clause-reads
+returns-in-File-clause-reads g c = record {
+  few = (
+      let is = names_are (λ name. name.now) c.args.path.now _ _ c.in-Some.ensures.cases.0 in
+      let s = sum_is (pair_count_of_directory_at c.args.thread.now.kept.pairs) _ _ _ is in
+      let few = c.find_directory_that_names_lead_to.ensures.reads.few in
+      omega (arith, s, few)
+      );
+  halves = λ none. (
+      let is = names_are (λ name. name.now) c.args.path.now _ _ c.in-Some.ensures.cases.0 in
+      halved_short c.args.thread.now c.find_directory_that_names_lead_to.new.thread _ _ _ is (c.find_directory_that_names_lead_to.ensures.reads.halves none)
+      );
+  loads = (
+      let is = names_are (λ name. name.now) c.args.path.now _ _ c.in-Some.ensures.cases.0 in
+      down_short (λ q. refusal_of_parent q ≡ None) IsLookupNotRefusedByParents c.args.thread.now c.find_directory_that_names_lead_to.new.thread _ _ _ c.find_directory_that_names_lead_to.result _ is
+      (λ P h. on_ok c.find_directory_that_names_lead_to.result c.in_ok-parent.field-0 P c.in_ok-parent.was h) (λ Q e. absurd (let k : _ = e in cc)) c.find_directory_that_names_lead_to.ensures.reads.loads
+      );
+}
 
 pub returns-in-Nothing-clause-answer : goal.returns-in-Nothing-clause-answer
 returns-in-Nothing-clause-answer g c =
@@ -76,53 +109,24 @@ returns-in-Nothing-clause-answer g c =
     let d = subst (IsParentReachedByAllNamesOfPath t _) c.in-Nothing.is c.in_ok-parent.ensures.answer in
     ap (refusal_unless_parents_are_directories (tree_on_disk t.disk t.pairs) []) is ∙ d.fault _
 
-pub returns-in-Nothing-clause-few : goal.returns-in-Nothing-clause-few
-returns-in-Nothing-clause-few g c =
-    let is = names_are (λ name. name.now) c.args.path.now _ _ c.in-Some.ensures.cases.0 in
-    let s = sum_is (pair_count_of_directory_at c.args.thread.now.kept.pairs) _ _ _ is in
-    let few = c.find_directory_that_names_lead_to.ensures.few in
-    omega (arith, s, few)
+pub returns-in-Nothing-clause-reads : goal.returns-in-Nothing-clause-reads
+returns-in-Nothing-clause-reads g c = record {
+  few = (
+      let is = names_are (λ name. name.now) c.args.path.now _ _ c.in-Some.ensures.cases.0 in
+      let s = sum_is (pair_count_of_directory_at c.args.thread.now.kept.pairs) _ _ _ is in
+      let few = c.find_directory_that_names_lead_to.ensures.reads.few in
+      omega (arith, s, few)
+      );
+  halves = λ none. (
+      let is = names_are (λ name. name.now) c.args.path.now _ _ c.in-Some.ensures.cases.0 in
+      halved_short c.args.thread.now c.find_directory_that_names_lead_to.new.thread _ _ _ is (c.find_directory_that_names_lead_to.ensures.reads.halves none)
+      );
+  loads = (
+      let is = names_are (λ name. name.now) c.args.path.now _ _ c.in-Some.ensures.cases.0 in
+      down_short (λ q. refusal_of_parent q ≡ None) IsLookupNotRefusedByParents c.args.thread.now c.find_directory_that_names_lead_to.new.thread _ _ _ c.find_directory_that_names_lead_to.result _ is
+      (λ P h. on_ok c.find_directory_that_names_lead_to.result c.in_ok-parent.field-0 P c.in_ok-parent.was h) (λ Q e. absurd (let k : _ = e in cc)) c.find_directory_that_names_lead_to.ensures.reads.loads
+      );
+}
 
-pub look_up_name_with_slot_hidden-requires-clause-hiding : goal.look_up_name_with_slot_hidden-requires-clause-hiding
-look_up_name_with_slot_hidden-requires-clause-hiding g c = hiding_same c.args.thread.now.kept c.find_directory_that_names_lead_to.new.thread.kept c.args.moved c.find_directory_that_names_lead_to.ensures.reading.only c.requires.hiding
-
-pub returns-in_err-parent-clause-loads : goal.returns-in_err-parent-clause-loads
-returns-in_err-parent-clause-loads g c =
-    let is = names_are (λ name. name.now) c.args.path.now _ _ c.in-Some.ensures.cases.0 in
-    let p = err_from_is_err_and c.from_residual.result c.from_residual.ensures.1 in
-    down_short (λ q. refusal_of_parent q ≡ None) IsLookupNotRefusedByParents c.args.thread.now c.find_directory_that_names_lead_to.new.thread _ _ _ c.find_directory_that_names_lead_to.result c.from_residual.result is
-    (passes_none c.find_directory_that_names_lead_to.result c.from_residual.result p.0 p.1) (stops_none IsLookupNotRefusedByParents c.from_residual.result p.0 p.1) c.find_directory_that_names_lead_to.ensures.loads
-
-pub returns-in-File-clause-loads : goal.returns-in-File-clause-loads
-returns-in-File-clause-loads g c =
-    let is = names_are (λ name. name.now) c.args.path.now _ _ c.in-Some.ensures.cases.0 in
-    down_short (λ q. refusal_of_parent q ≡ None) IsLookupNotRefusedByParents c.args.thread.now c.find_directory_that_names_lead_to.new.thread _ _ _ c.find_directory_that_names_lead_to.result _ is
-    (λ P h. on_ok c.find_directory_that_names_lead_to.result c.in_ok-parent.field-0 P c.in_ok-parent.was h) (λ Q e. absurd (let k : _ = e in cc)) c.find_directory_that_names_lead_to.ensures.loads
-
-pub returns-in-Nothing-clause-loads : goal.returns-in-Nothing-clause-loads
-returns-in-Nothing-clause-loads g c =
-    let is = names_are (λ name. name.now) c.args.path.now _ _ c.in-Some.ensures.cases.0 in
-    down_short (λ q. refusal_of_parent q ≡ None) IsLookupNotRefusedByParents c.args.thread.now c.find_directory_that_names_lead_to.new.thread _ _ _ c.find_directory_that_names_lead_to.result _ is
-    (λ P h. on_ok c.find_directory_that_names_lead_to.result c.in_ok-parent.field-0 P c.in_ok-parent.was h) (λ Q e. absurd (let k : _ = e in cc)) c.find_directory_that_names_lead_to.ensures.loads
-
-pub returns-in_err-parent-clause-halves : goal.returns-in_err-parent-clause-halves
-returns-in_err-parent-clause-halves g c none =
-    let is = names_are (λ name. name.now) c.args.path.now _ _ c.in-Some.ensures.cases.0 in
-    halved_short c.args.thread.now c.find_directory_that_names_lead_to.new.thread _ _ _ is (c.find_directory_that_names_lead_to.ensures.halves none)
-
-pub returns-in-File-clause-halves : goal.returns-in-File-clause-halves
-returns-in-File-clause-halves g c none =
-    let is = names_are (λ name. name.now) c.args.path.now _ _ c.in-Some.ensures.cases.0 in
-    halved_short c.args.thread.now c.find_directory_that_names_lead_to.new.thread _ _ _ is (c.find_directory_that_names_lead_to.ensures.halves none)
-
-pub returns-in-Nothing-clause-halves : goal.returns-in-Nothing-clause-halves
-returns-in-Nothing-clause-halves g c none =
-    let is = names_are (λ name. name.now) c.args.path.now _ _ c.in-Some.ensures.cases.0 in
-    halved_short c.args.thread.now c.find_directory_that_names_lead_to.new.thread _ _ _ is (c.find_directory_that_names_lead_to.ensures.halves none)
-
-pub returns-in-Directory-clause-halves : goal.returns-in-Directory-clause-halves
-returns-in-Directory-clause-halves g c none =
-    let t = c.args.thread.now.kept in
-    let is = names_are (λ name. name.now) c.args.path.now _ _ c.in-Some.ensures.cases.0 in
-    let d = subst (IsParentReachedByAllNamesOfPath t _) c.in-Directory.is c.in_ok-parent.ensures.answer in
-    halved_last c.args.thread.now c.find_directory_that_names_lead_to.new.thread _ _ _ is (c.find_directory_that_names_lead_to.ensures.halves none) c.look_up_name_with_slot_hidden.new.thread c.in-Directory.parent c.requires.hiding.accepted c.find_directory_that_names_lead_to.ensures.reading.only d.begins (c.look_up_name_with_slot_hidden.ensures.halves none)
+pub look_up_name_with_slot_hidden-requires-clause-can : goal.look_up_name_with_slot_hidden-requires-clause-can
+look_up_name_with_slot_hidden-requires-clause-can g c = record { works = c.find_directory_that_names_lead_to.ensures.reading.works; hiding = hiding_same c.args.thread.now.kept c.find_directory_that_names_lead_to.new.thread.kept c.args.moved c.find_directory_that_names_lead_to.ensures.reading.only c.requires.can.hiding }

@@ -22,10 +22,10 @@ pub loop-low-init : goal.loop-low-init
 loop-low-init g c =
     let ps = c.args.thread.now.kept.pairs in
     let e = c.end_of_directory_pairs-high.ensures.count in
-    let one = run_some ps c.args.first c.requires.below in
+    let one = run_some ps c.args.first c.requires.can.below in
     let size : hard_tail_joined_pair_count (drop c.args.first ps) ≡ c.end_of_directory_pairs-high.result - c.args.first = omega (arith, e) in
     record {
-      read = has_read_nothing c.args.thread.now c.requires.works;
+      read = has_read_nothing c.args.thread.now c.requires.can.works;
       from = omega arith;
       meets = omega (arith, e);
       end = omega (arith, e);
@@ -75,17 +75,14 @@ overflow_add-low-in-loop-low g c =
     let l = w.1 in
     omega (arith, fits, l)
 
-pub find_name_in_pair-requires-clause-works : goal.find_name_in_pair-requires-clause-works
-find_name_in_pair-requires-clause-works g c = c.loop-low.invariant.read.works
-
-pub find_name_in_pair-requires-clause-below : goal.find_name_in_pair-requires-clause-below
-find_name_in_pair-requires-clause-below g c =
+pub find_name_in_pair-requires : goal.find_name_in_pair-requires
+find_name_in_pair-requires g c =
     let inv = c.loop-low.invariant in
     let within = inv.within in
     let e = ap (λ (qs : List Pair). length qs) inv.read.only.pairs in
     let w = c.middle_pair_number-pair.ensures.within in
     let l = w.1 in
-    omega (arith, within, e, l)
+    record { works = inv.read.works; below = omega (arith, within, e, l) }
 
 pub loop-low-preserved-then-pair-first : goal.loop-low-preserved-then-pair-first
 loop-low-preserved-then-pair-first g c =
@@ -117,28 +114,29 @@ loop-low-preserved-then-pair-first g c =
       greater = inv.greater;
     }
 
-pub returns-in_err-id-clause-few : goal.returns-in_err-id-clause-few
-returns-in_err-id-clause-few g c =
-    let few = c.loop-low.invariant.few in
-    let once = c.find_name_in_pair.ensures.few in
-    let some = c.loop-low-test.true in
-    omega (arith, few, once, some)
-
-pub returns-in_err-id-clause-halves : goal.returns-in_err-id-clause-halves
-returns-in_err-id-clause-halves g c slots =
-    let some = c.loop-low-test.true in
-    halved_to_here _ _ _ _ _ (c.loop-low.invariant.halves slots) (omega (arith, some)) c.find_name_in_pair.ensures.few
-
-pub returns-in_err-id-clause-loads : goal.returns-in_err-id-clause-loads
-returns-in_err-id-clause-loads g c =
-    let inv = c.loop-low.invariant in
-    let ps = c.args.thread.now.kept.pairs in
-    let w = c.middle_pair_number-pair.ensures.within in
-    let some = c.loop-low-test.true in
-    let a = at_run ps c.args.first c.middle_pair_number-pair.result empty_pair_at_anchor (let f = inv.from in let l = w.0 in omega (arith, f, l)) (let e = inv.end in let l = w.1 in omega (arith, e, l)) in
-    let b = subst (λ (qs : List Pair). ReadsNothingAndKeepsPairsWhereAllCached (slice_index_or qs c.middle_pair_number-pair.result empty_pair_at_anchor ∷ []) c.loop-low.thread c.find_name_in_pair.new.thread c.find_name_in_pair.result) inv.read.only.pairs c.find_name_in_pair.ensures.loads in
-    let p = err_from_is_err_and c.from_residual.result c.from_residual.ensures.1 in
-    loads_here (hard_tail_joined_pairs (drop c.args.first ps)) c.args.first c.loop-low.low c.loop-low.high c.middle_pair_number-pair.result (slice_index_or ps c.middle_pair_number-pair.result empty_pair_at_anchor) c.args.thread.now c.loop-low.thread c.find_name_in_pair.new.thread c.find_name_in_pair.result a inv.loaded some b c.from_residual.result (passes_none c.find_name_in_pair.result c.from_residual.result p.0 p.1)
+pub returns-in_err-id-clause-reads : goal.returns-in_err-id-clause-reads
+returns-in_err-id-clause-reads g c = record {
+  few = (
+      let few = c.loop-low.invariant.few in
+      let once = c.find_name_in_pair.ensures.few in
+      let some = c.loop-low-test.true in
+      omega (arith, few, once, some)
+      );
+  halves = λ none slots. (
+      let some = c.loop-low-test.true in
+      halved_to_here _ _ _ _ _ (c.loop-low.invariant.halves slots) (omega (arith, some)) c.find_name_in_pair.ensures.few
+      );
+  loads = (
+      let inv = c.loop-low.invariant in
+      let ps = c.args.thread.now.kept.pairs in
+      let w = c.middle_pair_number-pair.ensures.within in
+      let some = c.loop-low-test.true in
+      let a = at_run ps c.args.first c.middle_pair_number-pair.result empty_pair_at_anchor (let f = inv.from in let l = w.0 in omega (arith, f, l)) (let e = inv.end in let l = w.1 in omega (arith, e, l)) in
+      let b = subst (λ (qs : List Pair). ReadsNothingAndKeepsPairsWhereAllCached (slice_index_or qs c.middle_pair_number-pair.result empty_pair_at_anchor ∷ []) c.loop-low.thread c.find_name_in_pair.new.thread c.find_name_in_pair.result) inv.read.only.pairs c.find_name_in_pair.ensures.loads in
+      let p = err_from_is_err_and c.from_residual.result c.from_residual.ensures.1 in
+      loads_here (hard_tail_joined_pairs (drop c.args.first ps)) c.args.first c.loop-low.low c.loop-low.high c.middle_pair_number-pair.result (slice_index_or ps c.middle_pair_number-pair.result empty_pair_at_anchor) c.args.thread.now c.loop-low.thread c.find_name_in_pair.new.thread c.find_name_in_pair.result a inv.loaded some b c.from_residual.result (passes_none c.find_name_in_pair.result c.from_residual.result p.0 p.1)
+      );
+}
 
 pub returns-in_err-id-clause-reading : goal.returns-in_err-id-clause-reading
 returns-in_err-id-clause-reading g c =
@@ -154,29 +152,30 @@ returns-in-Found-clause-answer g c =
     let a = at_run ps c.args.first c.middle_pair_number-pair.result empty_pair_at_anchor (let f = inv.from in let l = w.0 in omega (arith, f, l)) (let e = inv.end in let l = w.1 in omega (arith, e, l)) in
     let answer = subst (λ o. SearchFindsInPair c.loop-low.thread.kept.disk.order None (thread_pair_at_index c.loop-low.thread.kept c.middle_pair_number-pair.result).content.slots c.args.name.now o) c.in-Found.is c.in_ok-id.ensures.answer in
     let (s, shows) = subst (λ (qs : List Pair). (s : HasEntryOfNameAtId (slice_index_or qs c.middle_pair_number-pair.result empty_pair_at_anchor).content.slots c.args.name.now c.in-Found.id) × IsEntryOfStruct c.in-Found.entry s.slot.struct) inv.read.only.pairs (answer.stands, answer.shows) in
-    stands_at c.args.thread.now.kept.disk.order ps c.args.first c.args.name.now c.middle_pair_number-pair.result (slice_index_or ps c.middle_pair_number-pair.result empty_pair_at_anchor) a c.requires.below c.in-Found.id c.in-Found.entry s shows
+    stands_at c.args.thread.now.kept.disk.order ps c.args.first c.args.name.now c.middle_pair_number-pair.result (slice_index_or ps c.middle_pair_number-pair.result empty_pair_at_anchor) a c.requires.can.below c.in-Found.id c.in-Found.entry s shows
 
-pub returns-in-Found-clause-few : goal.returns-in-Found-clause-few
-returns-in-Found-clause-few g c =
-    let few = c.loop-low.invariant.few in
-    let once = c.find_name_in_pair.ensures.few in
-    let some = c.loop-low-test.true in
-    omega (arith, few, once, some)
-
-pub returns-in-Found-clause-halves : goal.returns-in-Found-clause-halves
-returns-in-Found-clause-halves g c slots =
-    let some = c.loop-low-test.true in
-    halved_to_here _ _ _ _ _ (c.loop-low.invariant.halves slots) (omega (arith, some)) c.find_name_in_pair.ensures.few
-
-pub returns-in-Found-clause-loads : goal.returns-in-Found-clause-loads
-returns-in-Found-clause-loads g c =
-    let inv = c.loop-low.invariant in
-    let ps = c.args.thread.now.kept.pairs in
-    let w = c.middle_pair_number-pair.ensures.within in
-    let some = c.loop-low-test.true in
-    let a = at_run ps c.args.first c.middle_pair_number-pair.result empty_pair_at_anchor (let f = inv.from in let l = w.0 in omega (arith, f, l)) (let e = inv.end in let l = w.1 in omega (arith, e, l)) in
-    let b = subst (λ (qs : List Pair). ReadsNothingAndKeepsPairsWhereAllCached (slice_index_or qs c.middle_pair_number-pair.result empty_pair_at_anchor ∷ []) c.loop-low.thread c.find_name_in_pair.new.thread c.find_name_in_pair.result) inv.read.only.pairs c.find_name_in_pair.ensures.loads in
-    loads_here (hard_tail_joined_pairs (drop c.args.first ps)) c.args.first c.loop-low.low c.loop-low.high c.middle_pair_number-pair.result (slice_index_or ps c.middle_pair_number-pair.result empty_pair_at_anchor) c.args.thread.now c.loop-low.thread c.find_name_in_pair.new.thread c.find_name_in_pair.result a inv.loaded some b _ (λ P h. on_ok c.find_name_in_pair.result c.in_ok-id.field-0 P c.in_ok-id.was h)
+pub returns-in-Found-clause-reads : goal.returns-in-Found-clause-reads
+returns-in-Found-clause-reads g c = record {
+  few = (
+      let few = c.loop-low.invariant.few in
+      let once = c.find_name_in_pair.ensures.few in
+      let some = c.loop-low-test.true in
+      omega (arith, few, once, some)
+      );
+  halves = λ none slots. (
+      let some = c.loop-low-test.true in
+      halved_to_here _ _ _ _ _ (c.loop-low.invariant.halves slots) (omega (arith, some)) c.find_name_in_pair.ensures.few
+      );
+  loads = (
+      let inv = c.loop-low.invariant in
+      let ps = c.args.thread.now.kept.pairs in
+      let w = c.middle_pair_number-pair.ensures.within in
+      let some = c.loop-low-test.true in
+      let a = at_run ps c.args.first c.middle_pair_number-pair.result empty_pair_at_anchor (let f = inv.from in let l = w.0 in omega (arith, f, l)) (let e = inv.end in let l = w.1 in omega (arith, e, l)) in
+      let b = subst (λ (qs : List Pair). ReadsNothingAndKeepsPairsWhereAllCached (slice_index_or qs c.middle_pair_number-pair.result empty_pair_at_anchor ∷ []) c.loop-low.thread c.find_name_in_pair.new.thread c.find_name_in_pair.result) inv.read.only.pairs c.find_name_in_pair.ensures.loads in
+      loads_here (hard_tail_joined_pairs (drop c.args.first ps)) c.args.first c.loop-low.low c.loop-low.high c.middle_pair_number-pair.result (slice_index_or ps c.middle_pair_number-pair.result empty_pair_at_anchor) c.args.thread.now c.loop-low.thread c.find_name_in_pair.new.thread c.find_name_in_pair.result a inv.loaded some b _ (λ P h. on_ok c.find_name_in_pair.result c.in_ok-id.field-0 P c.in_ok-id.was h)
+      );
+}
 
 pub returns-in-Found-clause-reading : goal.returns-in-Found-clause-reading
 returns-in-Found-clause-reading g c =
@@ -200,29 +199,30 @@ returns-then-from-count-clause-answer g c =
       | else-id-eq0-via-then-id-eq0+else-count-gt0 v ↦ absurd (let k = v.if-count-gt0.false in omega (arith, k, inside, count))
       | else-id-eq0-via-else-id-eq0 v ↦ (let k = v.if-id-eq0.false in omega (arith, k))
     ] in
-    belongs_inside c.args.thread.now.kept.disk.order ps c.args.first c.args.name.now c.middle_pair_number-pair.result (slice_index_or ps c.middle_pair_number-pair.result empty_pair_at_anchor) a c.requires.below c.requires.entries c.in-Place.id place (inr other) inside
+    belongs_inside c.args.thread.now.kept.disk.order ps c.args.first c.args.name.now c.middle_pair_number-pair.result (slice_index_or ps c.middle_pair_number-pair.result empty_pair_at_anchor) a c.requires.can.below c.requires.entries c.in-Place.id place (inr other) inside
 
-pub returns-then-from-count-clause-few : goal.returns-then-from-count-clause-few
-returns-then-from-count-clause-few g c =
-    let few = c.loop-low.invariant.few in
-    let once = c.find_name_in_pair.ensures.few in
-    let some = c.loop-low-test.true in
-    omega (arith, few, once, some)
-
-pub returns-then-from-count-clause-halves : goal.returns-then-from-count-clause-halves
-returns-then-from-count-clause-halves g c slots =
-    let some = c.loop-low-test.true in
-    halved_to_here _ _ _ _ _ (c.loop-low.invariant.halves slots) (omega (arith, some)) c.find_name_in_pair.ensures.few
-
-pub returns-then-from-count-clause-loads : goal.returns-then-from-count-clause-loads
-returns-then-from-count-clause-loads g c =
-    let inv = c.loop-low.invariant in
-    let ps = c.args.thread.now.kept.pairs in
-    let w = c.middle_pair_number-pair.ensures.within in
-    let some = c.loop-low-test.true in
-    let a = at_run ps c.args.first c.middle_pair_number-pair.result empty_pair_at_anchor (let f = inv.from in let l = w.0 in omega (arith, f, l)) (let e = inv.end in let l = w.1 in omega (arith, e, l)) in
-    let b = subst (λ (qs : List Pair). ReadsNothingAndKeepsPairsWhereAllCached (slice_index_or qs c.middle_pair_number-pair.result empty_pair_at_anchor ∷ []) c.loop-low.thread c.find_name_in_pair.new.thread c.find_name_in_pair.result) inv.read.only.pairs c.find_name_in_pair.ensures.loads in
-    loads_here (hard_tail_joined_pairs (drop c.args.first ps)) c.args.first c.loop-low.low c.loop-low.high c.middle_pair_number-pair.result (slice_index_or ps c.middle_pair_number-pair.result empty_pair_at_anchor) c.args.thread.now c.loop-low.thread c.find_name_in_pair.new.thread c.find_name_in_pair.result a inv.loaded some b _ (λ P h. on_ok c.find_name_in_pair.result c.in_ok-id.field-0 P c.in_ok-id.was h)
+pub returns-then-from-count-clause-reads : goal.returns-then-from-count-clause-reads
+returns-then-from-count-clause-reads g c = record {
+  few = (
+      let few = c.loop-low.invariant.few in
+      let once = c.find_name_in_pair.ensures.few in
+      let some = c.loop-low-test.true in
+      omega (arith, few, once, some)
+      );
+  halves = λ none slots. (
+      let some = c.loop-low-test.true in
+      halved_to_here _ _ _ _ _ (c.loop-low.invariant.halves slots) (omega (arith, some)) c.find_name_in_pair.ensures.few
+      );
+  loads = (
+      let inv = c.loop-low.invariant in
+      let ps = c.args.thread.now.kept.pairs in
+      let w = c.middle_pair_number-pair.ensures.within in
+      let some = c.loop-low-test.true in
+      let a = at_run ps c.args.first c.middle_pair_number-pair.result empty_pair_at_anchor (let f = inv.from in let l = w.0 in omega (arith, f, l)) (let e = inv.end in let l = w.1 in omega (arith, e, l)) in
+      let b = subst (λ (qs : List Pair). ReadsNothingAndKeepsPairsWhereAllCached (slice_index_or qs c.middle_pair_number-pair.result empty_pair_at_anchor ∷ []) c.loop-low.thread c.find_name_in_pair.new.thread c.find_name_in_pair.result) inv.read.only.pairs c.find_name_in_pair.ensures.loads in
+      loads_here (hard_tail_joined_pairs (drop c.args.first ps)) c.args.first c.loop-low.low c.loop-low.high c.middle_pair_number-pair.result (slice_index_or ps c.middle_pair_number-pair.result empty_pair_at_anchor) c.args.thread.now c.loop-low.thread c.find_name_in_pair.new.thread c.find_name_in_pair.result a inv.loaded some b _ (λ P h. on_ok c.find_name_in_pair.result c.in_ok-id.field-0 P c.in_ok-id.was h)
+      );
+}
 
 pub returns-then-from-count-clause-reading : goal.returns-then-from-count-clause-reading
 returns-then-from-count-clause-reading g c =
@@ -322,21 +322,18 @@ returns-clause-answer g c =
     let inv = c.loop-low.invariant in
     let past = c.loop-low-test.false in
     let meets = inv.meets in
-    belongs_between c.args.thread.now.kept.disk.order c.args.thread.now.kept.pairs c.args.first c.args.name.now c.requires.below c.end_of_directory_pairs-high.ensures.soft c.loop-low.spot.pair c.loop-low.spot.id c.loop-low.low c.loop-low.high inv.lesser inv.greater
+    belongs_between c.args.thread.now.kept.disk.order c.args.thread.now.kept.pairs c.args.first c.args.name.now c.requires.can.below c.end_of_directory_pairs-high.ensures.soft c.loop-low.spot.pair c.loop-low.spot.id c.loop-low.low c.loop-low.high inv.lesser inv.greater
     (omega (arith, past, meets))
 
-pub returns-clause-few : goal.returns-clause-few
-returns-clause-few g c =
-    let few = c.loop-low.invariant.few in
-    omega (arith, few)
-
-pub returns-clause-halves : goal.returns-clause-halves
-returns-clause-halves g c slots =
-    halved_all _ _ _ _ (c.loop-low.invariant.halves slots)
-
-pub returns-clause-loads : goal.returns-clause-loads
-returns-clause-loads g c =
-    loads_all (hard_tail_joined_pairs (drop c.args.first c.args.thread.now.kept.pairs)) c.args.first c.loop-low.low c.loop-low.high c.args.thread.now c.loop-low.thread _ _ refl c.loop-low.invariant.loaded c.loop-low-test.false
+pub returns-clause-reads : goal.returns-clause-reads
+returns-clause-reads g c = record {
+  few = (
+      let few = c.loop-low.invariant.few in
+      omega (arith, few)
+      );
+  halves = λ none slots. halved_all _ _ _ _ (c.loop-low.invariant.halves slots);
+  loads = loads_all (hard_tail_joined_pairs (drop c.args.first c.args.thread.now.kept.pairs)) c.args.first c.loop-low.low c.loop-low.high c.args.thread.now c.loop-low.thread _ _ refl c.loop-low.invariant.loaded c.loop-low-test.false;
+}
 
 pub returns-clause-reading : goal.returns-clause-reading
 returns-clause-reading g c = answers _ _ _ _ refl c.loop-low.invariant.read

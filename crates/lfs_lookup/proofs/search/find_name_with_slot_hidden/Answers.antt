@@ -1,4 +1,4 @@
-use Rattle.std.proofs.Common.{subst}
+use Rattle.std.proofs.Common.{subst, rules}
 use Rattle.std.proofs.lemmas.Result.{err_from_is_err_and}
 use Rattle.lfs_lookup.specs.Search.{IsPairCachedIfSlotFound, SearchFindsInDirectory}
 use Rattle.lfs_lookup.proofs.InOrder.{found_shown, nothing_shown}
@@ -23,13 +23,26 @@ returns-in-Place-clause-answer g c =
     nothing_shown t.disk.order t.pairs c.args.moved c.args.first c.args.name.now c.in-Place.field-0 c.in-None.is (c.requires.in_order c.in-None.is)
     (subst (SearchFindsInDirectory t.disk.order t.pairs c.args.first c.args.name.now) c.in-Place.is c.in_ok-spot-in-None.ensures.answer)
 
-pub returns-in_err-spot-in-None-clause-loads : goal.returns-in_err-spot-in-None-clause-loads
-returns-in_err-spot-in-None-clause-loads g c =
-    let p = err_from_is_err_and c.from_residual.result c.from_residual.ensures.1 in
-    along_as _ _ _ c.find_name.result c.from_residual.result (passes_none c.find_name.result c.from_residual.result p.0 p.1) c.find_name.ensures.loads
+pub returns-in_err-spot-in-None-clause-reads : goal.returns-in_err-spot-in-None-clause-reads
+returns-in_err-spot-in-None-clause-reads g c = record {
+  few = search rules;
+  halves = search rules;
+  loads = (
+      let p = err_from_is_err_and c.from_residual.result c.from_residual.ensures.1 in
+      along_as _ _ _ c.find_name.result c.from_residual.result (passes_none c.find_name.result c.from_residual.result p.0 p.1) c.find_name.ensures.reads.loads
+      );
+}
 
-pub returns-in-Found-clause-loads : goal.returns-in-Found-clause-loads
-returns-in-Found-clause-loads g c = along_as _ _ _ c.find_name.result _ (λ P h. on_ok c.find_name.result c.in_ok-spot-in-None.field-0 P c.in_ok-spot-in-None.was h) c.find_name.ensures.loads
+pub returns-in-Found-clause-reads : goal.returns-in-Found-clause-reads
+returns-in-Found-clause-reads g c = record {
+  few = search rules;
+  halves = search rules;
+  loads = along_as _ _ _ c.find_name.result _ (λ P h. on_ok c.find_name.result c.in_ok-spot-in-None.field-0 P c.in_ok-spot-in-None.was h) c.find_name.ensures.reads.loads;
+}
 
-pub returns-in-Place-clause-loads : goal.returns-in-Place-clause-loads
-returns-in-Place-clause-loads g c = along_as _ _ _ c.find_name.result _ (λ P h. on_ok c.find_name.result c.in_ok-spot-in-None.field-0 P c.in_ok-spot-in-None.was h) c.find_name.ensures.loads
+pub returns-in-Place-clause-reads : goal.returns-in-Place-clause-reads
+returns-in-Place-clause-reads g c = record {
+  few = search rules;
+  halves = search rules;
+  loads = along_as _ _ _ c.find_name.result _ (λ P h. on_ok c.find_name.result c.in_ok-spot-in-None.field-0 P c.in_ok-spot-in-None.was h) c.find_name.ensures.reads.loads;
+}

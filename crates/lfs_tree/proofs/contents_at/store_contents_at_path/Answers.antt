@@ -29,13 +29,13 @@ returns g c =
     let quiet = c.finish_file.ensures.reports.no_fault (λ e. absurd (let k = sym c.in_ok-finished.was ∙ e in cc)) in
     let called = called_then _ _ _ (called_beside_image _ _ c.finish_file.ensures.leaves) c.commit_contents_at_path.ensures.called in
     let done = all_stored c.args.thread.now c.args.root c.requires.rests c.args.path.now c.args.contents c.requires.can c.finish_file.new.thread c.finish_file.ensures.works c.finish_file.ensures.leaves
-    c.in_ok-finished.finished c.in_ok-finished.ensures.finished c.in_ok-finished.ensures.owned c.commit_contents_at_path.new.thread.kept c.commit_contents_at_path.result called quiet c.commit_contents_at_path.ensures.no_fault c.commit_contents_at_path.ensures.done in
+    c.in_ok-finished.finished c.in_ok-finished.ensures.finished c.in_ok-finished.ensures.owned c.commit_contents_at_path.new.thread.kept c.commit_contents_at_path.result called quiet c.commit_contents_at_path.ensures.reports.no_fault c.commit_contents_at_path.ensures.done in
     record {
       done = done;
-      works = c.commit_contents_at_path.ensures.works;
+      works = c.commit_contents_at_path.ensures.reports.works;
       stands = ok_both c.commit_contents_at_path.result _ _ _ (λ k committed. record { sound = k.sound; fits = k.fits; root = committed.root ∙ ap pair_count_before_root c.finish_file.ensures.leaves.pairs; shows = k.shows; no_fault = k.no_fault }) done c.commit_contents_at_path.ensures.done;
       called = called;
-      errors = errors_then c.args.thread.now.kept c.finish_file.new.thread.kept c.commit_contents_at_path.new.thread.kept c.commit_contents_at_path.result quiet c.commit_contents_at_path.ensures.errors;
+      errors = errors_then c.args.thread.now.kept c.finish_file.new.thread.kept c.commit_contents_at_path.new.thread.kept c.commit_contents_at_path.result quiet c.commit_contents_at_path.ensures.reports.errors;
       survives = survives_then_commit c.args.thread.now c.args.root c.requires.rests c.args.path.now c.args.contents c.requires.can c.finish_file.new.thread c.finish_file.ensures.works c.finish_file.ensures.leaves
           c.in_ok-finished.finished c.in_ok-finished.ensures.finished c.in_ok-finished.ensures.owned c.commit_contents_at_path.new.thread.kept c.commit_contents_at_path.ensures.called c.commit_contents_at_path.ensures.survives;
     }

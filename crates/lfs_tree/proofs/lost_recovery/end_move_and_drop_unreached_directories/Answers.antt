@@ -23,12 +23,12 @@ returns g c =
     let new = c.drop_unreached_directories.new.thread.kept in
     let quiet = c.end_move.ensures.errors.no_fault (λ io. let z = sym c.in_ok-end_move.was ∙ io in absurd (cc)) in
     let done = ok_both c.drop_unreached_directories.result _ _ _ (λ dropped same. settled_whole t.kept mid new c.requires.left c.in_ok-end_move.ensures.ended dropped
-    (recovered_whole t c.args.root mid new c.requires.rooted c.requires.left c.in_ok-end_move.ensures.ended c.end_move.ensures.device dropped c.drop_unreached_directories.ensures.called (same ∙ quiet))) c.drop_unreached_directories.ensures.dropped c.drop_unreached_directories.ensures.no_fault in
+    (recovered_whole t c.args.root mid new c.requires.rooted c.requires.left c.in_ok-end_move.ensures.ended c.end_move.ensures.device dropped c.drop_unreached_directories.ensures.called (same ∙ quiet))) c.drop_unreached_directories.ensures.dropped c.drop_unreached_directories.ensures.reports.no_fault in
     record {
       done = done;
-      works = c.drop_unreached_directories.ensures.works;
+      works = c.drop_unreached_directories.ensures.reports.works;
       stands = ok_both c.drop_unreached_directories.result _ _ _ (λ k dropped. settled_stands t.kept new k (dropped.root ∙ c.in_ok-end_move.ensures.ended.root)) done c.drop_unreached_directories.ensures.dropped;
       called = called_then _ _ _ (called_writing _ _ _ c.end_move.ensures.device) c.drop_unreached_directories.ensures.called;
-      errors = errors_then t.kept mid new c.drop_unreached_directories.result quiet c.drop_unreached_directories.ensures.errors;
+      errors = errors_then t.kept mid new c.drop_unreached_directories.result quiet c.drop_unreached_directories.ensures.reports.errors;
       survives = end_survives t.kept mid new.history c.end_move.ensures.device c.in_ok-end_move.ensures.ended.taken.follows.shows c.drop_unreached_directories.ensures.called.calls c.drop_unreached_directories.ensures.called.called c.end_move.ensures.survives c.drop_unreached_directories.ensures.survives;
     }

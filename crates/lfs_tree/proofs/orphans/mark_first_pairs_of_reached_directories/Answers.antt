@@ -31,16 +31,16 @@ loop-first-init g c = record {
       (subst₂ (λ m p. MarksPairsAndAddsNewlyMarkedToPending (λ n. n ≡ c.args.root) m p c.mark_pair_as_reached.new.marks.items c.mark_pair_as_reached.new.pending.items) c.in_ok-marks.ensures c.new-pending.ensures.items c.in_ok-mark_pair_as_reached.ensures);
 }
 
-pub directory_items_under_gstate-requires-clause-works : goal.directory_items_under_gstate-requires-clause-works
-directory_items_under_gstate-requires-clause-works g c = c.loop-first.invariant.read.works
-
-pub directory_items_under_gstate-requires-clause-below : goal.directory_items_under_gstate-requires-clause-below
-directory_items_under_gstate-requires-clause-below g c =
+pub directory_items_under_gstate-requires-clause-can : goal.directory_items_under_gstate-requires-clause-can
+directory_items_under_gstate-requires-clause-can g c =
     let inv = c.loop-first.invariant in
     let ps = c.args.thread.now.kept.pairs in
-    subst (λ (qs : List Pair). c.in-Some.first < length qs) (sym inv.read.only.pairs)
-    (marked_within ps c.loop-first.marks.items c.loop-first.pending.items c.in-Some.first inv.marking
-    (next_marked ps c.loop-first.marks.items c.loop-first.pending.items c.pop.new.self.items c.in-Some.first c.in-Some.ensures.items inv.marking))
+    record {
+      works = inv.read.works;
+      below = subst (λ (qs : List Pair). c.in-Some.first < length qs) (sym inv.read.only.pairs)
+          (marked_within ps c.loop-first.marks.items c.loop-first.pending.items c.in-Some.first inv.marking
+          (next_marked ps c.loop-first.marks.items c.loop-first.pending.items c.pop.new.self.items c.in-Some.first c.in-Some.ensures.items inv.marking));
+    }
 
 pub directory_items_under_gstate-requires-clause-state : goal.directory_items_under_gstate-requires-clause-state
 directory_items_under_gstate-requires-clause-state g c = c.state-state.ensures ∙ ap gstate_of_pairs (sym c.loop-first.invariant.read.only.pairs)

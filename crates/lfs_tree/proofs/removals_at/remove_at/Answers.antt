@@ -12,16 +12,21 @@ use Rattle.lfs_tree.proofs.Operated.{only_read_change, works_reported}
 use Rattle.lfs_lookup.proofs.Reading.{answered, passed}
 use Rattle.lfs_tree.proofs.removals_at.remove_at.Goals as goal
 
-pub remove_found_entry-requires-clause-can : goal.remove_found_entry-requires-clause-can
-remove_found_entry-requires-clause-can g c =
+pub remove_found_entry-requires : goal.remove_found_entry-requires
+remove_found_entry-requires g c =
     let t = c.args.thread.now in
     let mid = c.find_at_path.new.thread in
     let found = c.in_ok-target.target.found in
-    let entry = entry_on t.kept c.args.path.now found (entry_to_remove t.kept c.args.path.now c.requires.can) c.in_ok-target.ensures.target.leads in (
-      c.args.path.now,
-      subst (λ k. CanRemoveFoundEntry k c.args.path.now found) (sym (read_is t.kept mid.kept c.find_at_path.ensures.reading.only))
-          (can_go t c.args.root c.requires.rests c.args.path.now c.show_block_facts_to_proof.ensures.large c.show_block_facts_to_proof.ensures.bytes c.requires.can mid.kept.history found entry),
-    )
+    record {
+      works = c.find_at_path.ensures.reading.works;
+      can = (
+          let entry = entry_on t.kept c.args.path.now found (entry_to_remove t.kept c.args.path.now c.requires.can) c.in_ok-target.ensures.target.leads in (
+            c.args.path.now,
+            subst (λ k. CanRemoveFoundEntry k c.args.path.now found) (sym (read_is t.kept mid.kept c.find_at_path.ensures.reading.only))
+                (can_go t c.args.root c.requires.rests c.args.path.now c.show_block_facts_to_proof.ensures.large c.show_block_facts_to_proof.ensures.bytes c.requires.can mid.kept.history found entry),
+          )
+          );
+    }
 
 pub returns-in_err-target : goal.returns-in_err-target
 returns-in_err-target g c =

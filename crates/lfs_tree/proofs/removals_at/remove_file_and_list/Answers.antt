@@ -1,4 +1,4 @@
-use Rattle.std.proofs.Common.{ap, sym, ◌∙◌, Err}
+use Rattle.std.proofs.Common.{ap, sym, ◌∙◌, Err, rules}
 use Rattle.std.proofs.lemmas.Result.{err_from_is_err_and}
 use Rattle.lfs_model.specs.Tree.{Path}
 use Rattle.lfs_operations.specs.Dropping.{HasSameBlocksInFlight}
@@ -13,15 +13,18 @@ use Rattle.lfs_tree.proofs.removals_at.remove_file_and_list.Goals as goal
 pub remove_file-requires-clause-can : goal.remove_file-requires-clause-can
 remove_file-requires-clause-can g c = c.requires.can.1.take
 
-pub free_blocks_of_file_list-requires-clause-can : goal.free_blocks_of_file_list-requires-clause-can
-free_blocks_of_file_list-requires-clause-can g c =
+pub free_blocks_of_file_list-requires : goal.free_blocks_of_file_list-requires
+free_blocks_of_file_list-requires g c =
     let t = c.args.thread.now.kept in
     let mid = c.remove_file.new.thread.kept in
     let s = c.args.slot in
     let take = c.requires.can.1 in
     let w = c.remove_file.ensures.device in
     let is = c.in_ok-remove_file.ensures.is_removed take.take in
-    can_free t mid s.pair s.id take.take.can c.args.contents take.shows (shape_geometry t mid w.shape) (files_stay t mid s.pair s.id c.args.parent take.take.can w) is.now.ready is.once
+    record {
+      works = search rules;
+      can = can_free t mid s.pair s.id take.take.can c.args.contents take.shows (shape_geometry t mid w.shape) (files_stay t mid s.pair s.id c.args.parent take.take.can w) is.now.ready is.once;
+    }
 
 pub returns-in_err-remove_file-clause-errors : goal.returns-in_err-remove_file-clause-errors
 returns-in_err-remove_file-clause-errors g c =

@@ -12,23 +12,19 @@ use Rattle.lfs_tree.proofs.Asking.{rooted}
 use Rattle.lfs_tree.proofs.RenamePaths.{few_since, same_tree, sum_of_rename}
 use Rattle.lfs_tree.proofs.rename_paths.look_up_rename_before_recovery.Goals as goal
 
-pub find_if_path_has_entries-requires-clause-accepted : goal.find_if_path_has_entries-requires-clause-accepted
-find_if_path_has_entries-requires-clause-accepted g c = (rooted c.args.thread.now c.find_node_at_path.new.thread c.args.root true c.requires c.find_node_at_path.result c.find_node_at_path.ensures.reading).sound.accepted
+pub find_if_path_has_entries-requires : goal.find_if_path_has_entries-requires
+find_if_path_has_entries-requires g c =
+    let held = rooted c.args.thread.now c.find_node_at_path.new.thread c.args.root true c.requires c.find_node_at_path.result c.find_node_at_path.ensures.reading in
+    record { works = held.works; accepted = held.sound.accepted; root = held.root_is }
 
-pub find_if_path_has_entries-requires-clause-root : goal.find_if_path_has_entries-requires-clause-root
-find_if_path_has_entries-requires-clause-root g c = (rooted c.args.thread.now c.find_node_at_path.new.thread c.args.root true c.requires c.find_node_at_path.result c.find_node_at_path.ensures.reading).root_is
-
-pub find_total_size_of_attributes_at_path-requires-clause-accepted : goal.find_total_size_of_attributes_at_path-requires-clause-accepted
-find_total_size_of_attributes_at_path-requires-clause-accepted g c =
-    (rooted c.find_node_at_path.new.thread c.find_if_path_has_entries.new.thread c.args.root true (rooted c.args.thread.now c.find_node_at_path.new.thread c.args.root true c.requires c.find_node_at_path.result c.find_node_at_path.ensures.reading) c.find_if_path_has_entries.result c.find_if_path_has_entries.ensures.reading).sound.accepted
-
-pub find_total_size_of_attributes_at_path-requires-clause-root : goal.find_total_size_of_attributes_at_path-requires-clause-root
-find_total_size_of_attributes_at_path-requires-clause-root g c =
-    (rooted c.find_node_at_path.new.thread c.find_if_path_has_entries.new.thread c.args.root true (rooted c.args.thread.now c.find_node_at_path.new.thread c.args.root true c.requires c.find_node_at_path.result c.find_node_at_path.ensures.reading) c.find_if_path_has_entries.result c.find_if_path_has_entries.ensures.reading).root_is
+pub find_total_size_of_attributes_at_path-requires : goal.find_total_size_of_attributes_at_path-requires
+find_total_size_of_attributes_at_path-requires g c =
+    let held = rooted c.find_node_at_path.new.thread c.find_if_path_has_entries.new.thread c.args.root true (rooted c.args.thread.now c.find_node_at_path.new.thread c.args.root true c.requires c.find_node_at_path.result c.find_node_at_path.ensures.reading) c.find_if_path_has_entries.result c.find_if_path_has_entries.ensures.reading in
+    record { works = held.works; accepted = held.sound.accepted; root = held.root_is }
 
 pub returns-in_err-entry-clause-few : goal.returns-in_err-entry-clause-few
 returns-in_err-entry-clause-few g c =
-    let one = c.find_node_at_path.ensures.few in
+    let one = c.find_node_at_path.ensures.reads.few in
     let k = sum_of_rename (pair_count_of_directory_at c.args.thread.now.kept.pairs) c.args.from.now c.args.to.now in
     omega (arith, one, k)
 
@@ -36,7 +32,7 @@ pub returns-in_err-target-clause-few : goal.returns-in_err-target-clause-few
 returns-in_err-target-clause-few g c =
     let t = c.args.thread.now.kept in
     let count = pair_count_of_directory_at t.pairs in
-    let one = c.find_node_at_path.ensures.few in
+    let one = c.find_node_at_path.ensures.reads.few in
     let two = few_since t c.find_node_at_path.new.thread.kept (ancestor_paths_of_path c.args.to.now ++ c.args.to.now ∷ []) _ c.find_node_at_path.ensures.reading.only c.find_if_path_has_entries.ensures.few in
     let s = sum_by-append count (ancestor_paths_of_path c.args.to.now) (c.args.to.now ∷ []) in
     let own = sum_by-cons count c.args.to.now [] in
@@ -47,9 +43,9 @@ pub returns-in_err-attributes_size-clause-few : goal.returns-in_err-attributes_s
 returns-in_err-attributes_size-clause-few g c =
     let t = c.args.thread.now.kept in
     let count = pair_count_of_directory_at t.pairs in
-    let one = c.find_node_at_path.ensures.few in
+    let one = c.find_node_at_path.ensures.reads.few in
     let two = few_since t c.find_node_at_path.new.thread.kept (ancestor_paths_of_path c.args.to.now ++ c.args.to.now ∷ []) _ c.find_node_at_path.ensures.reading.only c.find_if_path_has_entries.ensures.few in
-    let three = few_since t c.find_if_path_has_entries.new.thread.kept (ancestor_paths_of_path c.args.from.now) _ (only_read t c.find_node_at_path.new.thread.kept c.find_if_path_has_entries.new.thread.kept c.find_node_at_path.ensures.reading.only c.find_if_path_has_entries.ensures.reading.only) c.find_total_size_of_attributes_at_path.ensures.few in
+    let three = few_since t c.find_if_path_has_entries.new.thread.kept (ancestor_paths_of_path c.args.from.now) _ (only_read t c.find_node_at_path.new.thread.kept c.find_if_path_has_entries.new.thread.kept c.find_node_at_path.ensures.reading.only c.find_if_path_has_entries.ensures.reading.only) c.find_total_size_of_attributes_at_path.ensures.reads.few in
     let s = sum_by-append count (ancestor_paths_of_path c.args.to.now) (c.args.to.now ∷ []) in
     let own = sum_by-cons count c.args.to.now [] in
     let k = sum_of_rename count c.args.from.now c.args.to.now in
@@ -87,9 +83,9 @@ pub returns-clause-few : goal.returns-clause-few
 returns-clause-few g c =
     let t = c.args.thread.now.kept in
     let count = pair_count_of_directory_at t.pairs in
-    let one = c.find_node_at_path.ensures.few in
+    let one = c.find_node_at_path.ensures.reads.few in
     let two = few_since t c.find_node_at_path.new.thread.kept (ancestor_paths_of_path c.args.to.now ++ c.args.to.now ∷ []) _ c.find_node_at_path.ensures.reading.only c.find_if_path_has_entries.ensures.few in
-    let three = few_since t c.find_if_path_has_entries.new.thread.kept (ancestor_paths_of_path c.args.from.now) _ (only_read t c.find_node_at_path.new.thread.kept c.find_if_path_has_entries.new.thread.kept c.find_node_at_path.ensures.reading.only c.find_if_path_has_entries.ensures.reading.only) c.find_total_size_of_attributes_at_path.ensures.few in
+    let three = few_since t c.find_if_path_has_entries.new.thread.kept (ancestor_paths_of_path c.args.from.now) _ (only_read t c.find_node_at_path.new.thread.kept c.find_if_path_has_entries.new.thread.kept c.find_node_at_path.ensures.reading.only c.find_if_path_has_entries.ensures.reading.only) c.find_total_size_of_attributes_at_path.ensures.reads.few in
     let s = sum_by-append count (ancestor_paths_of_path c.args.to.now) (c.args.to.now ∷ []) in
     let own = sum_by-cons count c.args.to.now [] in
     let k = sum_of_rename count c.args.from.now c.args.to.now in

@@ -14,11 +14,10 @@ use Rattle.lfs_tree.proofs.RenamePaths.{few_since, leads_since, own_since, same_
 use Rattle.lfs_tree.proofs.Shifted.{rests_still}
 use Rattle.lfs_tree.proofs.rename_paths.look_up_rename_without_recovery.Goals as goal
 
-pub find_total_size_of_attributes_at_path-requires-clause-accepted : goal.find_total_size_of_attributes_at_path-requires-clause-accepted
-find_total_size_of_attributes_at_path-requires-clause-accepted g c = (rests_still c.args.thread.now c.find_rename_targets.new.thread c.args.root c.requires c.find_rename_targets.ensures.reading.only c.find_rename_targets.ensures.reading.works).held.sound.accepted
-
-pub find_total_size_of_attributes_at_path-requires-clause-root : goal.find_total_size_of_attributes_at_path-requires-clause-root
-find_total_size_of_attributes_at_path-requires-clause-root g c = (rests_still c.args.thread.now c.find_rename_targets.new.thread c.args.root c.requires c.find_rename_targets.ensures.reading.only c.find_rename_targets.ensures.reading.works).held.root_is
+pub find_total_size_of_attributes_at_path-requires : goal.find_total_size_of_attributes_at_path-requires
+find_total_size_of_attributes_at_path-requires g c =
+    let held = (rests_still c.args.thread.now c.find_rename_targets.new.thread c.args.root c.requires c.find_rename_targets.ensures.reading.only c.find_rename_targets.ensures.reading.works).held in
+    record { works = held.works; accepted = held.sound.accepted; root = held.root_is }
 
 pub node_and_emptiness_of_lookup_result-requires-clause-rests : goal.node_and_emptiness_of_lookup_result-requires-clause-rests
 node_and_emptiness_of_lookup_result-requires-clause-rests g c =
@@ -45,7 +44,7 @@ returns-in_err-attributes_size-clause-few g c =
     let t = c.args.thread.now.kept in
     let count = pair_count_of_directory_at t.pairs in
     let one = c.find_rename_targets.ensures.few in
-    let two = few_since t c.find_rename_targets.new.thread.kept (ancestor_paths_of_path c.args.from.now) _ c.find_rename_targets.ensures.reading.only c.find_total_size_of_attributes_at_path.ensures.few in
+    let two = few_since t c.find_rename_targets.new.thread.kept (ancestor_paths_of_path c.args.from.now) _ c.find_rename_targets.ensures.reading.only c.find_total_size_of_attributes_at_path.ensures.reads.few in
     let s = sum_by-append count (ancestor_paths_of_path c.args.from.now) (ancestor_paths_of_path c.args.to.now) in
     let k = sum_of_rename count c.args.from.now c.args.to.now in
     omega (arith, one, two, s, k)
@@ -55,7 +54,7 @@ returns-in_err-target-clause-few g c =
     let t = c.args.thread.now.kept in
     let count = pair_count_of_directory_at t.pairs in
     let one = c.find_rename_targets.ensures.few in
-    let two = few_since t c.find_rename_targets.new.thread.kept (ancestor_paths_of_path c.args.from.now) _ c.find_rename_targets.ensures.reading.only c.find_total_size_of_attributes_at_path.ensures.few in
+    let two = few_since t c.find_rename_targets.new.thread.kept (ancestor_paths_of_path c.args.from.now) _ c.find_rename_targets.ensures.reading.only c.find_total_size_of_attributes_at_path.ensures.reads.few in
     let three = own_since t c.find_total_size_of_attributes_at_path.new.thread.kept c.args.to.now _ (only_read t c.find_rename_targets.new.thread.kept c.find_total_size_of_attributes_at_path.new.thread.kept c.find_rename_targets.ensures.reading.only c.find_total_size_of_attributes_at_path.ensures.reading.only) c.node_and_emptiness_of_lookup_result.ensures.few in
     let s = sum_by-append count (ancestor_paths_of_path c.args.from.now) (ancestor_paths_of_path c.args.to.now) in
     let k = sum_of_rename count c.args.from.now c.args.to.now in
@@ -105,7 +104,7 @@ returns-clause-few g c =
     let t = c.args.thread.now.kept in
     let count = pair_count_of_directory_at t.pairs in
     let one = c.find_rename_targets.ensures.few in
-    let two = few_since t c.find_rename_targets.new.thread.kept (ancestor_paths_of_path c.args.from.now) _ c.find_rename_targets.ensures.reading.only c.find_total_size_of_attributes_at_path.ensures.few in
+    let two = few_since t c.find_rename_targets.new.thread.kept (ancestor_paths_of_path c.args.from.now) _ c.find_rename_targets.ensures.reading.only c.find_total_size_of_attributes_at_path.ensures.reads.few in
     let three = own_since t c.find_total_size_of_attributes_at_path.new.thread.kept c.args.to.now _ (only_read t c.find_rename_targets.new.thread.kept c.find_total_size_of_attributes_at_path.new.thread.kept c.find_rename_targets.ensures.reading.only c.find_total_size_of_attributes_at_path.ensures.reading.only) c.node_and_emptiness_of_lookup_result.ensures.few in
     let s = sum_by-append count (ancestor_paths_of_path c.args.from.now) (ancestor_paths_of_path c.args.to.now) in
     let k = sum_of_rename count c.args.from.now c.args.to.now in

@@ -1,4 +1,4 @@
-use Rattle.std.proofs.Common.{ap, sym, ◌∙◌, Err}
+use Rattle.std.proofs.Common.{ap, sym, ◌∙◌, Err, rules}
 use Rattle.std.proofs.lemmas.Result.{err_from_is_err_and}
 use Rattle.lfs_model.specs.Tree.{Path}
 use Rattle.lfs_operations.specs.Dropping.{HasSameBlocksInFlight}
@@ -8,8 +8,12 @@ use Rattle.lfs_tree.proofs.CarryFreed.{ok_both}
 use Rattle.lfs_tree.proofs.ShiftedFiles.{apart_then, onto_done, onto_survives, reported_of, reported_then}
 use Rattle.lfs_tree.proofs.renames_at.move_onto_file.Goals as goal
 
-pub free_blocks_of_file_list-requires-clause-can : goal.free_blocks_of_file_list-requires-clause-can
-free_blocks_of_file_list-requires-clause-can g c = let can = c.requires.can in (c.in_ok-replace_file_leaving_its_blocks_used.ensures.shifted can.0 can.1 can.2).free
+pub free_blocks_of_file_list-requires : goal.free_blocks_of_file_list-requires
+free_blocks_of_file_list-requires g c =
+    record {
+      works = search rules;
+      can = let can = c.requires.can in (c.in_ok-replace_file_leaving_its_blocks_used.ensures.shifted can.0 can.1 can.2).free;
+    }
 
 pub returns-in_err-replace_file_leaving_its_blocks_used-clause-errors : goal.returns-in_err-replace_file_leaving_its_blocks_used-clause-errors
 returns-in_err-replace_file_leaving_its_blocks_used-clause-errors g c =

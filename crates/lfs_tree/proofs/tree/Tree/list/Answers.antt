@@ -6,6 +6,11 @@ use Rattle.lfs_thread.specs.Kept.{ThreadView}
 use Rattle.lfs_tree.proofs.Asking.{asking, held, rooted_held}
 use Rattle.lfs_tree.proofs.tree.Tree.list.Goals as goal
 
+pub list_directory_at_path-listing-requires : goal.list_directory_at_path-listing-requires
+list_directory_at_path-listing-requires g c =
+    let held = rooted_held c.self.inside.thread c.self.inside.root c.self.inside.is_writable c.args.self.now c.self.invariant c.self.view_is c.requires in
+    record { works = held.works; accepted = held.sound.accepted; root = held.root_is }
+
 pub invariant_of-self : goal.invariant_of-self
 invariant_of-self g c =
     held c.self.inside.thread c.list_directory_at_path-listing.new.thread c.self.inside.root c.self.inside.is_writable (rooted_held c.self.inside.thread c.self.inside.root c.self.inside.is_writable c.args.self.now c.self.invariant c.self.view_is c.requires) c.list_directory_at_path-listing.result c.mark_thread_failed_on_error.new.thread c.mark_thread_failed_on_error.ensures c.list_directory_at_path-listing.ensures.reading

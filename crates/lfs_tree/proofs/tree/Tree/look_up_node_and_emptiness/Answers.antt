@@ -7,6 +7,11 @@ use Rattle.lfs_thread.specs.Kept.{ThreadView}
 use Rattle.lfs_tree.proofs.Asking.{asking, held, rooted_held}
 use Rattle.lfs_tree.proofs.tree.Tree.look_up_node_and_emptiness.Goals as goal
 
+pub find_if_path_has_entries-inside-requires : goal.find_if_path_has_entries-inside-requires
+find_if_path_has_entries-inside-requires g c =
+    let held = rooted_held c.self.inside.thread c.self.inside.root c.self.inside.is_writable c.args.self.now c.self.invariant c.self.view_is c.requires in
+    record { works = held.works; accepted = held.sound.accepted; root = held.root_is }
+
 pub invariant_of-self : goal.invariant_of-self
 invariant_of-self g c =
     held c.self.inside.thread c.find_if_path_has_entries-inside.new.thread c.self.inside.root c.self.inside.is_writable (rooted_held c.self.inside.thread c.self.inside.root c.self.inside.is_writable c.args.self.now c.self.invariant c.self.view_is c.requires) c.find_if_path_has_entries-inside.result c.mark_thread_failed_on_error.new.thread c.mark_thread_failed_on_error.ensures c.find_if_path_has_entries-inside.ensures.reading

@@ -32,8 +32,8 @@ impl<'a> Host<'a> {
         self.rt.alloc()
     }
 
-    // Notes the error of a call at a path. A call that a signal interrupted has none.
-    fn note_error<T>(self, path: &str, called: &io::Result<T>) {
+    /// Notes the error of a call at a path. A call that a signal interrupted has none.
+    pub(crate) fn note_error<T>(self, path: &str, called: &io::Result<T>) {
         if let Err(error) = called {
             if error.kind() != ErrorKind::Interrupted {
                 self.log.note(self.alloc(), path.as_bytes(), error);

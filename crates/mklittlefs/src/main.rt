@@ -10,6 +10,7 @@ mod files;
 mod json;
 mod leftovers;
 mod limit_watch;
+mod lists;
 mod parts;
 mod path_words;
 mod progress;

@@ -4,13 +4,15 @@ use crate::cat::cat_file;
 use crate::change::change_image;
 use crate::explain::write_explanation;
 use crate::files::{Host, NotedWriter};
-use crate::json::{check_as_json, list_as_json};
+use crate::json::{check_as_json, json_of_list};
+use crate::lists::list_lines;
 use crate::parts::{ImagePart, count_bytes_behind, open_part};
 use crate::progress::progress_at_terminal;
 use lfs_device::{Error, Geometry};
 use lfs_tool::{
     Extras, Fault, ImageLayout, Line, LineError, Mode, Request, ToolError, ToolOutput,
-    WatchedStream, check, create, geometry_of_image_sizes, list, read_request, report, unpack,
+    WatchedStream, check, create, geometry_of_image_sizes, read_request, report, unpack,
+    write_bytes_and_flush,
 };
 use lfs_tool_folders::{Folder, FolderRules, Links, Target, TargetError, TargetFolder};
 use std::io;
@@ -129,12 +131,11 @@ fn run_mode<W: ToolOutput>(
 ) -> Result<bool, ToolError> {
     match line.mode {
         Mode::List => {
-            let ImagePart { mut stream, layout } = open_part(host, line)?;
+            let mut lines = list_lines(host, line)?;
             if json {
-                list_as_json(host, &mut stream, layout, out)?;
-            } else {
-                list(host.alloc(), &mut stream, layout, out)?;
+                lines = json_of_list(host.alloc(), lines.as_slice())?;
             }
+            write_bytes_and_flush(out, lines.as_slice())?;
         }
         Mode::Check if json => return check_as_json(host, line, out),
         Mode::Check => return check_image(host, line, out),

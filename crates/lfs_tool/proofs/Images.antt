@@ -1,12 +1,46 @@
--- What was read of an image.
-use Rattle.std.proofs.Common.{◌≡◌, ◌∙◌, ◌<◌, ℕ, List, Option, Some, None, ap, arith, length, subst, sym, take}
+-- What was found of an image, and what was read of it.
+use Rattle.std.proofs.Common.{◌≡◌, ◌∙◌, ◌<◌, ◌*◌, ◌/◌, ℕ, List, Option, Some, None, inl, inr, ap, arith, length, refl, subst, sym, take}
 use Rattle.std.specs.Prelude.{IfSome}
 use Rattle.std.proofs.lemmas.List.{length-take, take_all}
 use Rattle.lfs_tool.specs.declared.image_layout.ImageLayout.{ImageLayout}
-use Rattle.lfs_model.specs.Disk.{IsImageOfWholeBlocks}
+use Rattle.lfs_model.specs.Disk.{Disk, IsImageOfWholeBlocks, disk_in_order, disk_of_image}
+use Rattle.lfs_model.specs.View.{IsAcceptedImage}
+use Rattle.lfs_model.specs.declared.order.NameOrder.{NameOrder}
+use Rattle.lfs_model.specs.declared.order.NameOrder.TheVariants.{LongerFirst}
+use Rattle.lfs_model.proofs.Cuts.{HasBlocksOfCountAndSize-cut}
+use Rattle.lfs_tool.specs.KnownBytes.{IsListingRefusal}
+use Rattle.lfs_tool.proofs.Walked.{HasSizes, listed_from}
 use Rattle.lfs_device.specs.declared.error.Error.{Error}
 use Rattle.lfs_device.specs.declared.error.Error.TheVariants.{Corrupt, Invalid, NoMemory}
-use Rattle.lfs_tool.specs.Listings.{IsImageAcceptedInNeitherNameOrder, IsListingTextOfImage, RefusesToList}
+use Rattle.lfs_tool.specs.Listings.{IsImageAcceptedInNeitherNameOrder, IsListingTextOfDisk, IsListingTextOfImage, IsMountErrorOfDisk, RefusesToList}
+
+-- ---- of its disk
+
+sizes_of_image : (layout : ImageLayout) (order : NameOrder) (image : List ℕ) → IsImageOfWholeBlocks layout.block_size layout.page image → HasSizes (disk_of_image layout.block_size layout.page layout.profile order image)
+sizes_of_image layout order image is =
+    let some : 0 < layout.block_size = omega (arith, is.geometry.no_smaller) in
+    let whole : length image ≡ layout.block_size * (length image / layout.block_size) = omega (arith, is.whole) in
+    record { enough = is.geometry.no_smaller; count = length image / layout.block_size; divided = HasBlocksOfCountAndSize-cut layout.block_size (length image / layout.block_size) image whole }
+
+pub lists_image : (layout : ImageLayout) (image : List ℕ) (disk : Disk) (text : List ℕ) (order : NameOrder) → IsImageOfWholeBlocks layout.block_size layout.page image
+    → disk ≡ disk_of_image layout.block_size layout.page layout.profile LongerFirst image → IsListingTextOfDisk (disk_in_order order disk) text → IsListingTextOfImage layout image text
+lists_image layout image disk text order is same lines =
+    let (view, (shows, listing)) = listed_from (disk_of_image layout.block_size layout.page layout.profile order image) text (sizes_of_image layout order image is) (subst (λ d. IsListingTextOfDisk (disk_in_order order d) text) same lines) in
+    (is, (view, ((order, shows), listing)))
+
+pub refuses_image : (layout : ImageLayout) (image : List ℕ) (disk : Disk) (e : Error) → IsImageOfWholeBlocks layout.block_size layout.page image
+    → disk ≡ disk_of_image layout.block_size layout.page layout.profile LongerFirst image → IsMountErrorOfDisk disk e → RefusesToList layout image e
+refuses_image layout image disk Corrupt is same wrong = (is, λ view (order, (ps, (accepted, shows))). wrong order ps (subst (λ d. IsAcceptedImage (disk_in_order order d) ps) (sym same) accepted))
+refuses_image layout image disk NoMemory is same wrong = tt
+refuses_image layout image disk e is same wrong = absurd wrong
+
+pub kind_refused : (layout : ImageLayout) (image : List ℕ) (e : Error) → RefusesToList layout image e → IsListingRefusal e
+kind_refused layout image Invalid h = inr (inl refl)
+kind_refused layout image NoMemory h = inl refl
+kind_refused layout image Corrupt h = inr (inr refl)
+kind_refused layout image e h = absurd h
+
+-- ---- of what was read
 
 abbrev pub most : ℕ
 most = 268435457
@@ -39,6 +73,11 @@ pub refuses_read : (known : Option (List ℕ)) (layout : ImageLayout) (items : L
     → IfSome known (λ bytes. RefusesToList layout bytes e)
 refuses_read None layout items e read h = tt
 refuses_read (Some bytes) layout items e read h = refuses_bytes layout bytes items e read h
+
+pub lists_read : (known : Option (List ℕ)) (layout : ImageLayout) (items text : List ℕ) → IfSome known (λ bytes. items ≡ take most bytes) → IsListingTextOfImage layout items text
+    → IfSome known (λ bytes. IsListingTextOfImage layout bytes text)
+lists_read None layout items text read h = tt
+lists_read (Some bytes) layout items text read h = subst (λ (i : List ℕ). IsListingTextOfImage layout i text) (all_read layout.block_size layout.page bytes items read h.0) h
 
 -- what was written of the lines
 pub with_lines : (known : Option (List ℕ)) (layout : ImageLayout) (text : List ℕ) (P : List ℕ → Type 0) → IfSome known (λ bytes. IsListingTextOfImage layout bytes text) → P text

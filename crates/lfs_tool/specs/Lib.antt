@@ -2,14 +2,12 @@ pub mod WrongNumbers
 pub mod ImageSummaries
 pub mod Verdict
 pub mod RunEnds
-pub mod Excerpt
-pub mod ExcerptBlocks
-pub mod ExcerptView
-pub mod ExcerptShape
+pub mod LoadedBlocks
+pub mod SparseView
+pub mod LoadedShape
 pub mod WatchedStreams
 pub mod Reports
 pub mod KnownBytes
-pub mod Blocks
 pub mod EitherOrder
 pub mod Errors
 pub mod ExitStatus

@@ -1,6 +1,6 @@
 // Images as devices.
 
-ghost use Rattle.std.specs.Prelude.{◌≡◌, ◌<◌, ◌/◌, ◌%◌, ◌^◌, [], List, IfErr, IfOk, OnOk, length};
+ghost use Rattle.std.specs.Prelude.{◌≡◌, ◌⊎◌, ◌<◌, ◌/◌, ◌%◌, ◌^◌, [], Err, List, IfErr, IfOk, OnOk, length};
 ghost use Rattle.lfs_device.specs.RamDevice.{ram_blocks, geometry_of_ram_device, history_of_ram_device};
 ghost use Rattle.lfs_device.specs.Shown.{disk_of_geometry_and_blocks as shown};
 ghost use Rattle.lfs_model.specs.Disk.{disk_in_order, IsImageOfWholeBlocks, disk_of_image};
@@ -9,17 +9,15 @@ ghost use Rattle.lfs_model.specs.Thread.{Pair};
 ghost use Rattle.lfs_model.specs.View.{IsAcceptedImage};
 ghost use Rattle.lfs_model.specs.declared.order.NameOrder.{NameOrder};
 ghost use Rattle.lfs_model.specs.declared.order.NameOrder.TheVariants.{LongerFirst};
-ghost use Rattle.lfs_tool.specs.ExcerptBlocks.{AreExcerptsOfBlocksWithSize};
-ghost use Rattle.lfs_tool.specs.ExcerptView as excerpt;
 ghost use Rattle.lfs_mount.specs.Accepted.{IsMountedThread};
 ghost use Rattle.lfs_mount.specs.Device.{IsIoCorruptOrNoMemory};
 ghost use Rattle.lfs_thread.specs.Device.{GivesDeviceBackOnlyReadWithError};
 ghost use Rattle.lfs_thread.specs.Kept.{disk_of_device};
-ghost use Rattle.lfs_tool.specs.Blocks.{DeviceOfExcerptHasTheseBlocksAndSizes};
+ghost use Rattle.lfs_tool.specs.SparseView.{geometry_of_sparse_device};
 ghost use Rattle.lfs_tool.specs.Listings.{IsThreadWithEntriesOfTreeWalk, IsMountErrorOfDisk};
 ghost use Rattle.lfs_lookup.specs.Walk.{tree_items_view};
 
-use crate::{BlockExcerpt, ExcerptDevice, ImageLayout, excerpt_is_read_without_fault};
+use crate::{ImageLayout, SparseDevice};
 use lfs_device::{BlockDevice, Error, Geometry, RamDevice};
 use lfs_lookup::{TreeItem, walk_tree};
 use lfs_mount::mount;
@@ -56,20 +54,23 @@ pub fn ram_device_of_image(image: Vec<u8>, layout: ImageLayout) -> Result<RamDev
     RamDevice::from_bytes(geometry, image)
 }
 
-// Makes the device of an excerpt of an image. Returns `Invalid` exactly where there are no images
-// of such blocks.
-pub(crate) fn excerpt_device_of_blocks(
-    blocks: Vec<BlockExcerpt>,
+/// Makes a device of an image of so many bytes, of which nothing is loaded.
+///
+/// # Errors
+/// - `Invalid` where no image has so many bytes.
+/// - `NoMemory` where memory for a word a block isn't granted.
+pub fn sparse_device_of_image(
+    alloc: Global,
+    len: u32,
     layout: ImageLayout,
-) -> Result<ExcerptDevice, Error>
-    requires many { length blocks.items < 2 ^ 32 }
-    requires sizes { AreExcerptsOfBlocksWithSize layout.block_size blocks.items }
-    ensures geometry { OnOk result (IsValidGeometry layout.block_size layout.page (length blocks.items)) }
-    ensures shown { IfOk result (λ e. DeviceOfExcerptHasTheseBlocksAndSizes layout blocks.items e) }
-    ensures err { IfErr result (λ e. (e ≡ Error.Invalid) × (¬ IsValidGeometry layout.block_size layout.page (length blocks.items))) }
+) -> Result<SparseDevice, Error>
+    ensures sizes { IfOk result (λ d. let g = geometry_of_sparse_device d in (g.block_size ≡ layout.block_size) × (g.page ≡ layout.page) × (g.profile ≡ layout.profile)) }
+    ensures count { IfOk result (λ d. ((geometry_of_sparse_device d).block_count ≡ len / layout.block_size) × (len % layout.block_size ≡ 0)) }
+    ensures invalid { result ≡ Err Error.Invalid → len % layout.block_size ≡ 0 → ¬ IsValidGeometry layout.block_size layout.page (len / layout.block_size) }
+    ensures errors { IfErr result (λ e. (e ≡ Error.Invalid) ⊎ (e ≡ Error.NoMemory)) }
 {
-    let geometry = Geometry::new(layout.block_size, layout.page, blocks.len() as u32)?;
-    Ok(ExcerptDevice::new(geometry.with_profile(layout.profile), blocks))
+    let geometry = geometry_of_image_length(len as usize, layout)?;
+    SparseDevice::new(alloc, geometry)
 }
 
 // Mounts the image of a device. Which rule it breaks isn't handed on.
@@ -100,23 +101,6 @@ pub(crate) fn tree_items_of_device<D: BlockDevice>(
     match walk_tree(alloc, &mut thread) {
         Ok(items) => Ok((thread, items)),
         Err(error) => Err((thread.into_device(), error)),
-    }
-}
-
-// Returns the thread and the entries of an excerpt.
-pub(crate) fn tree_items_of_excerpt(
-    alloc: Global,
-    device: ExcerptDevice,
-) -> Result<(Thread<ExcerptDevice>, Vec<TreeItem>), Error>
-    ensures items { IfOk result (λ found. IsThreadWithEntriesOfTreeWalk (shown (excerpt.geometry_of_excerpt_device device) (excerpt.blocks_of_excerpt_filled_up device)) found.0 (tree_items_view found.1.items)) }
-    ensures err { IfErr result (IsMountErrorOfDisk (shown (excerpt.geometry_of_excerpt_device device) (excerpt.blocks_of_excerpt_filled_up device))) }
-{
-    match tree_items_of_device(alloc, device) {
-        Ok(found) => Ok(found),
-        Err((_device, error)) => {
-            excerpt_is_read_without_fault();
-            Err(error)
-        }
     }
 }
 

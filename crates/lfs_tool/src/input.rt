@@ -1,6 +1,6 @@
 // Whole images from readers.
 
-ghost use Rattle.std.specs.Prelude.{◌≡◌, ◌+◌, ◌≤◌, IfErr, IfOk, IfSome, OnOk, length, suc, take};
+ghost use Rattle.std.specs.Prelude.{◌≡◌, ◌+◌, ◌≤◌, IfErr, IfOk, IfSome, OnOk, length, take};
 ghost use Rattle.lfs_tool.specs.KnownBytes.{IsErrorOfReaderFaultOrNoMemory};
 ghost use Rattle.lfs_tool.specs.Reports.{IsReadToEndOrPastImageLimit};
 
@@ -38,23 +38,4 @@ pub fn read_image<R: ImageInput>(alloc: Global, image: &mut R) -> Result<Vec<u8>
         }
     }
     Ok(bytes)
-}
-
-// Reads as far, but keeps nothing.
-pub(crate) fn read_image_without_keeping<R: ImageInput>(image: &mut R) -> Result<(), ToolError>
-    ensures read { OnOk result (IsReadToEndOrPastImageLimit (R.remaining image.old) (R.remaining image.new)) }
-    ensures kept { OnOk result (R.faults image.new ≡ R.faults image.old) }
-    ensures err { IfErr result (λ e. (e ≡ ToolError.Input) × (R.faults image.new ≡ suc (R.faults image.old))) }
-{
-    let mut len = 0;
-    let mut buffer = [0u8; 65536];
-    while len <= IMAGE_MAX {
-        let room = (IMAGE_MAX + 1 - len).min(65536);
-        match image.read(&mut buffer[..room]) {
-            Ok(0) => break,
-            Ok(n) => len += n,
-            Err(_) => return Err(ToolError::Input),
-        }
-    }
-    Ok(())
 }

@@ -3,18 +3,13 @@
 //! made of a tree of files.
 #![tactic(auto)]
 
-mod block_excerpt;
-mod blocks;
 mod check_result;
 mod checked_lines;
 mod creation;
-mod cutter;
 mod entry_lines;
 mod error_lines;
 mod errors;
 mod examination;
-mod excerpt;
-mod excerpt_laws;
 mod image_checks;
 mod image_devices;
 mod image_layout;
@@ -24,6 +19,7 @@ mod line_text;
 mod lines;
 mod list_lines;
 mod listings;
+mod loaded_block;
 mod output;
 mod owned_pairs;
 mod pair_lines;
@@ -32,6 +28,7 @@ mod progress;
 mod reader;
 mod sizes;
 mod source_entries;
+mod sparse;
 mod summaries;
 mod superblock_lines;
 mod superblocks;
@@ -42,18 +39,14 @@ mod watched_stream;
 mod writer;
 mod wrong_number;
 
-pub use block_excerpt::BlockExcerpt;
 pub use check_result::{CheckResult, GivenSizes, RefusalReason};
 pub use checked_lines::lines_of_check_result;
 pub use creation::{create, new_image_of_entries};
-pub use cutter::ExcerptMaker;
 pub use error_lines::report;
 pub use errors::{Fault, ToolError};
 pub use examination::check_result_of_image;
-pub use excerpt::ExcerptDevice;
-pub use excerpt_laws::{excerpt_is_listed_like_its_disk, excerpt_is_read_without_fault};
 pub use image_checks::check;
-pub use image_devices::ram_device_of_image;
+pub use image_devices::{ram_device_of_image, sparse_device_of_image};
 pub use image_layout::ImageLayout;
 pub use input::read_image;
 pub use judgement::judge_image_on_device;
@@ -61,11 +54,13 @@ pub use lfs_lookup::push_escaped_path;
 pub use lfs_tool_line::{
     Extras, Limit, Line, LineError, Misuse, Mode, Request, read_line, read_request,
 };
-pub use listings::list;
+pub use listings::{list, listing_lines_of_device};
+pub use loaded_block::LoadedBlock;
 pub use output::write_bytes_and_flush;
 pub use progress::{FilesAndBytes, FollowsProgress};
 pub use reader::ImageInput;
 pub use sizes::geometry_of_image_sizes;
+pub use sparse::{MissingBytes, SparseDevice};
 pub use superblocks::{superblock_in_image, wrong_superblock_number_in_image};
 pub use unpacked_images::unpack;
 pub use verdict::{AcceptedOrders, BrokenRule, ImageSummary, ImageVerdict};

@@ -1,65 +1,75 @@
-ghost use Rattle.std.specs.Prelude.{◌≡◌, ◌<◌, ◌^◌, List, ℕ, IfErr, IfOk, IfSome, IsErrOf, OnOk, length};
+ghost use Rattle.std.specs.Prelude.{◌≡◌, ◌<◌, ◌^◌, List, IfErr, IfOk, IfSome, IsErrOf, OnOk, length};
 ghost use Rattle.std.specs.Io.KnownBytes.{Appends};
-ghost use Rattle.lfs_tool.specs.ExcerptBlocks.{AreExcerptsOfBlocksWithSize};
-ghost use Rattle.lfs_tool.specs.ExcerptView.{blocks_of_excerpt_filled_up, geometry_of_excerpt_device};
+ghost use Rattle.lfs_device.specs.RamDevice.{ram_blocks, geometry_of_ram_device};
 ghost use Rattle.lfs_device.specs.Shown.{disk_of_geometry_and_blocks as shown};
-ghost use Rattle.lfs_model.specs.Disk.{disk_in_order, IsImageOfWholeBlocks};
-ghost use Rattle.lfs_model.specs.Geometry.{IsValidGeometry};
+ghost use Rattle.lfs_model.specs.Disk.{disk_in_order};
+ghost use Rattle.lfs_model.specs.History.{fault_count_of_history};
+ghost use Rattle.lfs_model.specs.Thread.{Pair};
+ghost use Rattle.lfs_model.specs.View.{IsAcceptedImage};
 ghost use Rattle.lfs_model.specs.declared.order.NameOrder.{NameOrder};
-ghost use Rattle.lfs_tool.specs.Blocks.{AreExcerptsOfAllBlocksOfImageBytes};
+ghost use Rattle.lfs_mount.specs.Device.{IsIoCorruptOrNoMemory};
+ghost use Rattle.lfs_thread.specs.Kept.{disk_of_device};
 ghost use Rattle.lfs_tool.specs.KnownBytes.{AppendsBeginningOfBytes, IsErrorOfReaderFaultOrListingRefusal, IsListingRefusal};
 ghost use Rattle.lfs_tool.specs.Reports.{IsReadToEndOrPastImageLimit, IsThisErrorExactlyIfOneCallFailed, ReportsWriterFaults};
 ghost use Rattle.lfs_tool.specs.Listings.{IsListingTextOfDisk, IsMountErrorOfDisk, IsListingTextOfImage, RefusesToList};
 
-use crate::blocks::read_block_excerpts;
-use crate::image_devices::{excerpt_device_of_blocks, tree_items_of_excerpt};
-use crate::input::read_image_without_keeping;
+use crate::image_devices::{ram_device_of_image, tree_items_of_device};
+use crate::input::read_image;
 use crate::lines::listing_lines_of_tree_items;
 use crate::output::write_bytes_and_flush;
-use crate::{
-    BlockExcerpt, ExcerptDevice, ImageInput, ImageLayout, ToolError, ToolOutput,
-    excerpt_is_listed_like_its_disk,
-};
-use lfs_device::{Error, Geometry};
+use crate::{ImageInput, ImageLayout, ToolError, ToolOutput};
+use lfs_device::{BlockDevice, Error, RamDevice};
 use std::alloc::Global;
 
-// Returns the lines of an excerpt.
-fn listing_lines_of_excerpt(alloc: Global, device: ExcerptDevice) -> Result<Vec<u8>, Error>
-    ensures lines { IfOk result (λ text. (order : NameOrder) × IsListingTextOfDisk (disk_in_order order (shown (geometry_of_excerpt_device device) (blocks_of_excerpt_filled_up device))) text.items) }
-    ensures err { IfErr result (IsMountErrorOfDisk (shown (geometry_of_excerpt_device device) (blocks_of_excerpt_filled_up device))) }
-{
-    let (_thread, items) = tree_items_of_excerpt(alloc, device)?;
-    let text = listing_lines_of_tree_items(alloc, &items)?;
-    Ok(text)
-}
-
-// Returns the lines of an image whose blocks were read.
-fn listing_lines_of_tree_in_block_excerpts(
+/// Returns the lines of the tree that a device shows, as `list` writes them. Of a device that is a part of an image only
+/// what was read counts.
+///
+/// # Errors
+/// Each comes with the device.
+/// - `Io` where a read failed.
+/// - `NoMemory` where memory isn't granted.
+/// - `Corrupt` where the image is accepted in neither order of names.
+pub fn listing_lines_of_device<D: BlockDevice + Drop>(
     alloc: Global,
-    blocks: Vec<BlockExcerpt>,
-    layout: ImageLayout,
-) -> Result<Vec<u8>, Error>
-    requires many { length blocks.items < 2 ^ 32 }
-    requires sizes { AreExcerptsOfBlocksWithSize layout.block_size blocks.items }
-    ensures ok { IfOk result (λ text. (bytes : List ℕ) → AreExcerptsOfAllBlocksOfImageBytes layout.block_size bytes blocks.items → IsListingTextOfImage layout bytes text.items) }
-    ensures err { IfErr result (λ e. (bytes : List ℕ) → AreExcerptsOfAllBlocksOfImageBytes layout.block_size bytes blocks.items → RefusesToList layout bytes e) }
-    ensures kinds { IfErr result IsListingRefusal }
+    device: D,
+) -> Result<Vec<u8>, (D, Error)>
+    ensures lines { IfOk result (λ text. (order : NameOrder) × IsListingTextOfDisk (disk_in_order order (disk_of_device D.BlockDevice device)) text.items) }
+    ensures corrupt { IfErr result (λ e. e.1 ≡ Error.Corrupt → (order : NameOrder) (ps : List Pair) → ¬ IsAcceptedImage (disk_in_order order (disk_of_device D.BlockDevice device)) ps) }
+    ensures errors { IfErr result (λ e. IsIoCorruptOrNoMemory e.1) }
+    ensures fault { IfErr result (λ e. e.1 ≡ Error.Io → fault_count_of_history (D.history device) < fault_count_of_history (D.history e.0)) }
 {
-    excerpt_is_listed_like_its_disk();
-    match excerpt_device_of_blocks(blocks, layout) {
-        Ok(excerpt) => listing_lines_of_excerpt(alloc, excerpt),
-        Err(error) => Err(error),
+    let (thread, items) = tree_items_of_device(alloc, device)?;
+    match listing_lines_of_tree_items(alloc, &items) {
+        Ok(text) => Ok(text),
+        Err(_) => Err((thread.into_device(), Error::NoMemory)),
     }
 }
 
-// Returns `Invalid` where no image has blocks and pages of these sizes: the least image has two
-// blocks.
-fn check_block_and_page_size(block_size: u32, page: u32) -> Result<(), Error>
-    ensures ok { OnOk result (IsValidGeometry block_size page 2) }
-    ensures err { IfErr result (λ e. (e ≡ Error.Invalid) × ((bytes : List ℕ) → ¬ IsImageOfWholeBlocks block_size page bytes)) }
+// Returns the lines of a device in memory.
+fn listing_lines_of_ram_device(alloc: Global, device: RamDevice) -> Result<Vec<u8>, Error>
+    ensures lines { IfOk result (λ text. (order : NameOrder) × IsListingTextOfDisk (disk_in_order order (shown (geometry_of_ram_device device) (ram_blocks device))) text.items) }
+    ensures err { IfErr result (IsMountErrorOfDisk (shown (geometry_of_ram_device device) (ram_blocks device))) }
 {
-    Geometry::new(block_size, page, 2)?;
-    Ok(())
+    match listing_lines_of_device(alloc, device) {
+        Ok(text) => Ok(text),
+        Err((_device, error)) => Err(error),
+    }
+}
+
+// Returns the lines of the bytes of an image.
+fn listing_lines_of_image(
+    alloc: Global,
+    image: Vec<u8>,
+    layout: ImageLayout,
+) -> Result<Vec<u8>, Error>
+    requires { length image.items < 2 ^ 32 }
+    ensures ok { IfOk result (λ text. IsListingTextOfImage layout image.items text.items) }
+    ensures err { IfErr result (RefusesToList layout image.items) }
+{
+    match ram_device_of_image(image, layout) {
+        Ok(device) => listing_lines_of_ram_device(alloc, device),
+        Err(error) => Err(error),
+    }
 }
 
 // Returns the lines of an image.
@@ -74,15 +84,11 @@ fn read_image_as_listing_lines<R: ImageInput>(
     ensures failed { IfErr result (λ e. IsErrorOfReaderFaultOrListingRefusal e (R.faults image.old) (R.faults image.new)) }
     ensures read { ¬ IsErrOf result ToolError.Input → ¬ IsErrOf result (ToolError.Fs Error.NoMemory) → IsReadToEndOrPastImageLimit (R.remaining image.old) (R.remaining image.new) }
 {
-    if let Err(error) = check_block_and_page_size(layout.block_size, layout.page) {
-        read_image_without_keeping(image)?;
-        return Err(ToolError::Fs(error));
+    let bytes = read_image(alloc, image)?;
+    match listing_lines_of_image(alloc, bytes, layout) {
+        Ok(text) => Ok(text),
+        Err(error) => Err(ToolError::Fs(error)),
     }
-    let Some(blocks) = read_block_excerpts(alloc, image, layout.block_size)? else {
-        return Err(ToolError::Fs(Error::Invalid));
-    };
-    let text = listing_lines_of_tree_in_block_excerpts(alloc, blocks, layout)?;
-    Ok(text)
 }
 
 /// Writes a line for each file and directory of an image, depth first and in name order. A
@@ -93,10 +99,8 @@ fn read_image_as_listing_lines<R: ImageInput>(
 /// The image may have its names in either order. Of two names of which one begins the other, the lines
 /// have the shorter first.
 ///
-/// The image is read first, to its end, or at most a block past the largest image's size of
-/// 268,435,456 bytes. So it is also where a size of the layout is out of range. Of
-/// each block only what a listing needs is kept, which is mostly the first 132 bytes. Nothing is
-/// written before the image is known to be good. The writer is flushed at the end.
+/// The image is read first, to its end, or to the byte past the largest image's size of 268,435,456
+/// bytes. Nothing is written before the image is known to be good. The writer is flushed at the end.
 ///
 /// # Errors
 /// - `Input` where the reader failed.

@@ -1,12 +1,9 @@
 // The lines of a list and of a check as JSON.
 
 use crate::files::Host;
-use crate::parts::OldImage;
 use crate::run::check_image;
 use lfs_device::Error;
-use lfs_tool::{
-    ImageLayout, Line, ToolError, ToolOutput, WatchedStream, list, write_bytes_and_flush,
-};
+use lfs_tool::{Line, ToolError, ToolOutput, WatchedStream, write_bytes_and_flush};
 use std::alloc::{AllocError, Global};
 use std::io::Write;
 
@@ -103,8 +100,8 @@ fn push_entry(alloc: Global, text: &mut Vec<u8>, line: &[u8]) -> Result<(), Allo
     text.extend_from_slice(b"}\n")
 }
 
-// Returns an object for each line of a list, a line each.
-fn json_of_list(alloc: Global, lines: &[u8]) -> Result<Vec<u8>, AllocError> {
+/// Returns an object for each line of a list, a line each.
+pub(crate) fn json_of_list(alloc: Global, lines: &[u8]) -> Result<Vec<u8>, AllocError> {
     let mut text = Vec::new(alloc);
     for line in lines.split(|byte| *byte == b'\n') {
         if !line.is_empty() {
@@ -171,25 +168,12 @@ fn json_of_check(alloc: Global, lines: &[u8]) -> Result<Vec<u8>, AllocError> {
     Ok(text)
 }
 
-// Returns the answer of a work that writes lines to memory, where only memory can fail.
-fn memory_answer<T>(answer: Result<T, ToolError>) -> Result<T, ToolError> {
+/// Returns the answer of a work that writes lines to memory, where only memory can fail.
+pub(crate) fn memory_answer<T>(answer: Result<T, ToolError>) -> Result<T, ToolError> {
     match answer {
         Err(ToolError::Output) => Err(ToolError::Fs(Error::NoMemory)),
         other => other,
     }
-}
-
-/// Lists an image, an object a line.
-pub(crate) fn list_as_json<W: ToolOutput>(
-    host: Host<'_>,
-    image: &mut OldImage<'_>,
-    layout: ImageLayout,
-    out: &mut W,
-) -> Result<(), ToolError> {
-    let mut lines = WatchedStream::new(Vec::new(host.alloc()));
-    memory_answer(list(host.alloc(), image, layout, &mut lines))?;
-    let text = json_of_list(host.alloc(), lines.inner().as_slice())?;
-    write_bytes_and_flush(out, text.as_slice())
 }
 
 /// Checks an image, and writes one object. Returns whether the image is accepted.

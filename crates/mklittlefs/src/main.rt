@@ -7,6 +7,7 @@ mod explain;
 mod files;
 mod json;
 mod leftovers;
+mod lists;
 mod parts;
 mod path_words;
 mod progress;

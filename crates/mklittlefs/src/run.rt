@@ -3,7 +3,8 @@
 use crate::blocks::{fit_size, image_of_entries, read_folder};
 use crate::explain::write_explanation;
 use crate::files::{Host, NotedWriter};
-use crate::json::{check_as_json, list_as_json};
+use crate::json::{check_as_json, json_of_list};
+use crate::lists::list_lines;
 use crate::parts::{ImagePart, count_bytes_behind, open_part};
 use crate::progress::progress_at_terminal;
 use crate::session::{cat_file, change_image};
@@ -11,7 +12,7 @@ use crate::times::set_times;
 use lfs_device::{Error, Geometry};
 use lfs_tool::{
     Extras, Fault, ImageInput, ImageLayout, Line, LineError, Mode, Request, ToolError, ToolOutput,
-    WatchedStream, check, create, geometry_of_image_sizes, list, ram_device_of_image, read_image,
+    WatchedStream, check, create, geometry_of_image_sizes, ram_device_of_image, read_image,
     read_request, report, unpack, write_bytes_and_flush,
 };
 use lfs_tool_folders::{Folder, FolderRules, Links, Target, TargetError, TargetFolder};
@@ -146,12 +147,11 @@ fn run_mode<W: ToolOutput>(
 ) -> Result<bool, ToolError> {
     match line.mode {
         Mode::List => {
-            let ImagePart { mut stream, layout } = open_part(host, line)?;
+            let mut lines = list_lines(host, line)?;
             if json {
-                list_as_json(host, &mut stream, layout, out)?;
-            } else {
-                list(host.alloc(), &mut stream, layout, out)?;
+                lines = json_of_list(host.alloc(), lines.as_slice())?;
             }
+            write_bytes_and_flush(out, lines.as_slice())?;
         }
         Mode::Check if json => return check_as_json(host, line, out),
         Mode::Check => return check_image(host, line, out),

@@ -1,4 +1,4 @@
-use Rattle.std.proofs.Common.{List, ap, ◌≡◌, ◌∙◌, subst, sym}
+use Rattle.std.proofs.Common.{List, ◌≡◌, ◌∙◌, subst, sym}
 use Rattle.std.proofs.lemmas.Result.{IfOk-weaker}
 use Rattle.lfs_tool_folders.specs.declared.entries.SourceEntry.{SourceEntry}
 use Rattle.lfs_device.specs.RamDevice.{ram_bytes}

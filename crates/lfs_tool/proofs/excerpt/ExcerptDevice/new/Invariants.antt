@@ -1,5 +1,0 @@
-use Rattle.std.proofs.Common.{[]}
-use Rattle.lfs_tool.proofs.excerpt.ExcerptDevice.new.Given as goal
-
-abbrev pub ghost-with_history_chosen_by_proof : goal.ghost-with_history_chosen_by_proof
-ghost-with_history_chosen_by_proof a = []

@@ -1,0 +1,239 @@
+// The lines of a list. Of an image in a file only what a list needs is read.
+
+use crate::files::{Host, is_standard_stream};
+use crate::json::memory_answer;
+use crate::parts::{ImagePart, open_part};
+use lfs_device::{BlockDevice, Error};
+use lfs_file::blocks_for;
+use lfs_tag::{Content, Log, Struct, is_revision_later_than};
+use lfs_tool::{
+    ImageLayout, Line, SparseDevice, ToolError, WatchedStream, list, listing_lines_of_device,
+    sparse_device_of_image,
+};
+use std::alloc::{AllocError, Global};
+use std::fs::File;
+use std::io;
+use std::io::{Read, Seek, SeekFrom};
+
+// How often a read may miss what isn't loaded before the whole image is read.
+const MISSES_MAX: u32 = 64;
+
+// The most bytes of a block that are pointers of a list.
+const POINTERS_MAX: u32 = 128;
+
+// An image in a file.
+#[derive(Drop)]
+struct ImageFile<'a> {
+    host: Host<'a>,
+    path: &'a str,
+    file: File,
+    // Where it begins in the file.
+    start: u64,
+    block_size: u32,
+}
+
+impl ImageFile<'_> {
+    fn read_at(&mut self, at: u64, buf: &mut [u8]) -> io::Result<()> {
+        self.file.seek(SeekFrom::Start(at))?;
+        self.file.read_exact(buf)
+    }
+
+    // Reads the beginning of a block.
+    fn read_block(&mut self, block: u32, len: u32) -> Result<Vec<u8>, ToolError> {
+        let before = u64::from(block).saturating_mul(u64::from(self.block_size));
+        let mut bytes = Vec::from_elem(self.host.alloc(), 0u8, len as usize)?;
+        let read = self.read_at(self.start.saturating_add(before), &mut bytes);
+        self.host.note_error(self.path, &read);
+        match read {
+            Ok(()) => Ok(bytes),
+            Err(_) => Err(ToolError::Input),
+        }
+    }
+}
+
+// What a pair names: its files' lists, by head and size, and the next pair.
+#[derive(Drop)]
+struct NamedBlocks {
+    lists: Vec<(u32, u32)>,
+    tail: Option<[u32; 2]>,
+}
+
+// Returns what the log of a block names, if it has one.
+fn blocks_named_in_log(alloc: Global, block: &[u8]) -> Result<Option<NamedBlocks>, AllocError> {
+    let log = Log::read(block);
+    if !log.has_commit() {
+        return Ok(None);
+    }
+    let Ok(content) = Content::read(alloc, &log) else {
+        return Ok(None);
+    };
+    let mut lists = Vec::new(alloc);
+    for slot in content.slots.iter() {
+        if let Some(part) = &slot.structure {
+            if let Some(Struct::Ctz { head, size }) = Struct::of(part) {
+                lists.push((head, size))?;
+            }
+        }
+    }
+    let tail = match content.tail {
+        Some(tail) => Some(tail.pair),
+        None => None,
+    };
+    Ok(Some(NamedBlocks { lists, tail }))
+}
+
+// The word at the beginning of bytes: a revision, or a pointer.
+fn first_word(bytes: &[u8]) -> u32 {
+    match bytes {
+        [a, b, c, d, ..] => u32::from_le_bytes([*a, *b, *c, *d]),
+        _ => 0,
+    }
+}
+
+// Loads the pointers of a file's list, up to a block that is loaded.
+fn load_list(
+    image: &mut ImageFile<'_>,
+    device: SparseDevice,
+    list: (u32, u32),
+) -> Result<SparseDevice, ToolError> {
+    let (mut block, size) = list;
+    let mut device = device;
+    let count = device.geometry().block_count;
+    if image.block_size < 1024 {
+        return Ok(device);
+    }
+    for _ in 1..blocks_for(image.block_size, size).min(count) {
+        if block >= count || !device.loaded(block).is_empty() {
+            break;
+        }
+        let bytes = image.read_block(block, POINTERS_MAX)?;
+        let before = first_word(&bytes);
+        device = device.load(block, bytes);
+        block = before;
+    }
+    Ok(device)
+}
+
+// Loads the blocks of a pair as far as they are read, and returns what it names.
+fn load_pair(
+    image: &mut ImageFile<'_>,
+    device: SparseDevice,
+    pair: [u32; 2],
+) -> Result<(SparseDevice, Option<NamedBlocks>), ToolError> {
+    let alloc = image.host.alloc();
+    let [first, second] = pair;
+    let one = image.read_block(first, 4)?;
+    let two = image.read_block(second, 4)?;
+    let (later, other, rest) = if is_revision_later_than(first_word(&one), first_word(&two)) {
+        (second, first, one)
+    } else {
+        (first, second, two)
+    };
+    let bytes = image.read_block(later, image.block_size)?;
+    let named = blocks_named_in_log(alloc, &bytes)?;
+    let device = device.load(later, bytes);
+    if named.is_some() {
+        return Ok((device.load(other, rest), named));
+    }
+    let bytes = image.read_block(other, image.block_size)?;
+    let named = blocks_named_in_log(alloc, &bytes)?;
+    Ok((device.load(other, bytes), named))
+}
+
+// Loads the pairs along their tails, and the pointers of their files' lists.
+fn load_thread(image: &mut ImageFile<'_>, device: SparseDevice) -> Result<SparseDevice, ToolError> {
+    let mut device = device;
+    let mut next = Some([0, 1]);
+    let count = device.geometry().block_count;
+    for _ in 0..count {
+        let Some(pair) = next else {
+            break;
+        };
+        let [first, second] = pair;
+        if first >= count || second >= count || !device.loaded(first).is_empty() {
+            break;
+        }
+        let (loaded, named) = load_pair(image, device, pair)?;
+        device = loaded;
+        let Some(NamedBlocks { lists, tail }) = named else {
+            break;
+        };
+        for list in lists.iter() {
+            device = load_list(image, device, *list)?;
+        }
+        next = tail;
+    }
+    Ok(device)
+}
+
+// Opens the image of a line as a file of which parts are read, and tells how many bytes it has. What is no file has no
+// such parts.
+fn open_image_file<'a>(
+    host: Host<'a>,
+    line: &Line<'a>,
+    layout: ImageLayout,
+    most: u64,
+) -> Option<(ImageFile<'a>, u64)> {
+    if is_standard_stream(line.image) {
+        return None;
+    }
+    let file = File::open(host.rt, line.image).ok()?;
+    let metadata = file.metadata().ok()?;
+    if !metadata.is_file() {
+        return None;
+    }
+    let start = u64::from(line.offset);
+    let len = metadata.len().saturating_sub(start).min(most);
+    let image = ImageFile {
+        host,
+        path: line.image,
+        file,
+        start,
+        block_size: layout.block_size,
+    };
+    Some((image, len))
+}
+
+// Returns the lines of an image in a file. A read that misses what isn't loaded is made good, and all begins again. After
+// too many there are no lines.
+fn list_lines_of_file(
+    image: &mut ImageFile<'_>,
+    layout: ImageLayout,
+    len: u64,
+) -> Result<Option<Vec<u8>>, ToolError> {
+    let alloc = image.host.alloc();
+    let Ok(len) = u32::try_from(len) else {
+        return Err(ToolError::Fs(Error::Invalid));
+    };
+    let blank = sparse_device_of_image(alloc, len, layout)?;
+    let mut device = load_thread(image, blank)?;
+    for _ in 0..MISSES_MAX {
+        let (back, error) = match listing_lines_of_device(alloc, device) {
+            Ok(lines) => return Ok(Some(lines)),
+            Err(failed) => failed,
+        };
+        let Some(missing) = back.missing() else {
+            return Err(ToolError::Fs(error));
+        };
+        if error != Error::Io {
+            return Err(ToolError::Fs(error));
+        }
+        let bytes = image.read_block(missing.block, missing.len)?;
+        device = back.load(missing.block, bytes);
+    }
+    Ok(None)
+}
+
+/// Returns the lines that list the image of a line. They are proved to list what is loaded of it: that all that was read
+/// of it was loaded, and is what the file has, is read in the code here and tested.
+pub(crate) fn list_lines(host: Host<'_>, line: &Line<'_>) -> Result<Vec<u8>, ToolError> {
+    let ImagePart { mut stream, layout } = open_part(host, line)?;
+    if let Some((mut image, len)) = open_image_file(host, line, layout, stream.inner().limit()) {
+        if let Some(lines) = list_lines_of_file(&mut image, layout, len)? {
+            return Ok(lines);
+        }
+    }
+    let mut lines = WatchedStream::new(Vec::new(host.alloc()));
+    memory_answer(list(host.alloc(), &mut stream, layout, &mut lines))?;
+    Ok(lines.into_inner())
+}

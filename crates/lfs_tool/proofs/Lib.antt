@@ -1,4 +1,3 @@
-pub mod HeldSlots
 pub mod Counts
 pub mod NoWrongNumbers
 mod Decimals

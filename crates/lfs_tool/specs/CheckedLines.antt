@@ -1,51 +1,44 @@
 -- The lines of a check.
-use Rattle.std.specs.Prelude.{ℕ, ◌-◌, ◌/◌, ◌%◌, ◌++◌, Bool, true, false, List, Option, Some, None, codes}
+use Rattle.std.specs.Prelude.{ℕ, ◌-◌, ◌/◌, ◌%◌, ◌==◌, ◌++◌, if◌then◌else◌, Bool, true, false, List, [], Option, Some, None, codes}
 use Rattle.std.specs.Fmt.{decimal}
-use Rattle.lfs_tool.specs.declared.wrong_number.WrongNumber.{WrongNumber}
-use Rattle.lfs_tool.specs.declared.wrong_number.WrongNumber.TheVariants as stated
-use Rattle.lfs_model.specs.Listing.{newline}
+use Rattle.lfs_model.specs.Disk.{default_profile}
 use Rattle.lfs_model.specs.Slots.{pair_address_of_array}
-use Rattle.lfs_tool.specs.declared.check_result.GivenSizes.{GivenSizes}
-use Rattle.lfs_tool.specs.declared.verdict.AcceptedOrders.{AcceptedOrders}
-use Rattle.lfs_tool.specs.declared.verdict.AcceptedOrders.TheVariants as orders
-use Rattle.lfs_tool.specs.declared.check_result.RefusalReason.{RefusalReason}
-use Rattle.lfs_tool.specs.declared.check_result.RefusalReason.TheVariants as reason
-use Rattle.lfs_tool.specs.declared.verdict.ImageSummary.{ImageSummary}
-use Rattle.lfs_tool.specs.SuperblockLines.{superblock_lines_if_told_of}
 use Rattle.lfs_model.specs.declared.breaches.OtherLimit.{OtherLimit}
 use Rattle.lfs_model.specs.declared.breaches.OtherLimit.TheVariants as limit
 use Rattle.lfs_model.specs.declared.breaches.ProfileBreach.{ProfileBreach}
 use Rattle.lfs_model.specs.declared.breaches.ProfileBreach.TheVariants as breach
+use Rattle.lfs_tag.specs.declared.fields.Superblock.{Superblock}
+use Rattle.lfs_tool.specs.NumberTexts.{no_image_text, pair_text, wrong_number_text}
 use Rattle.lfs_tool.specs.declared.check_result.CheckResult.{CheckResult}
 use Rattle.lfs_tool.specs.declared.check_result.CheckResult.TheVariants as checked
-
--- ---- places
-
--- `pair A B`
-abbrev pub pair_text : ℕ × ℕ → List ℕ
-pair_text at = codes "pair " ++ decimal at.0 ++ codes " " ++ decimal at.1
-
--- `pair A B, slot N`
-abbrev pub slot_text : ℕ × ℕ → ℕ → List ℕ
-slot_text at slot = pair_text at ++ (codes ", slot " ++ decimal slot)
+use Rattle.lfs_tool.specs.declared.check_result.GivenSizes.{GivenSizes}
+use Rattle.lfs_tool.specs.declared.check_result.RefusalReason.{RefusalReason}
+use Rattle.lfs_tool.specs.declared.check_result.RefusalReason.TheVariants as reason
+use Rattle.lfs_tool.specs.declared.verdict.AcceptedOrders.{AcceptedOrders}
+use Rattle.lfs_tool.specs.declared.verdict.AcceptedOrders.TheVariants as orders
+use Rattle.lfs_tool.specs.declared.verdict.ImageSummary.{ImageSummary}
 
 -- ---- an accepted image
 
-abbrev pub labelled_number_line : List ℕ → ℕ → List ℕ
-labelled_number_line label n = label ++ decimal n ++ newline
+abbrev pub name_orders_text : AcceptedOrders → List ℕ
+name_orders_text orders.LongerFirst = codes "longer-first"
+name_orders_text orders.ShorterFirst = codes "shorter-first"
+name_orders_text orders.Either = codes "either"
 
--- `used N of M blocks`
-abbrev pub used_blocks_line : ℕ → ℕ → List ℕ
-used_blocks_line used blocks = (codes "used " ++ decimal used ++ codes " of " ++ decimal blocks) ++ (codes " blocks" ++ newline)
+-- `version 2.1`; nothing where it is 2.0
+abbrev pub version_line : ℕ → List ℕ
+version_line version = if version == 0x00020000 then [] else codes "version " ++ decimal (version / 65536) ++ codes "." ++ decimal (version % 65536) ++ codes "\n"
 
-abbrev pub accepted_name_orders_line : AcceptedOrders → List ℕ
-accepted_name_orders_line orders.LongerFirst = codes "order longer-first" ++ newline
-accepted_name_orders_line orders.ShorterFirst = codes "order shorter-first" ++ newline
-accepted_name_orders_line orders.Either = codes "order either" ++ newline
+-- the limit behind its name; nothing where it is the default one
+abbrev pub limit_line : List ℕ → ℕ → ℕ → List ℕ
+limit_line name default limit = if limit == default then [] else name ++ codes " " ++ decimal limit ++ codes "\n"
 
-abbrev pub needs_recovery_line : Bool → List ℕ
-needs_recovery_line true = codes "recover yes" ++ newline
-needs_recovery_line false = codes "recover no" ++ newline
+-- the version and each limit that isn't the default one, where the superblock is told of
+abbrev pub superblock_lines : Option Superblock → List ℕ
+superblock_lines None = []
+superblock_lines (Some s) =
+    version_line s.version ++ limit_line (codes "name_max") default_profile.name_max s.name_max
+    ++ limit_line (codes "file_max") default_profile.file_max s.file_max ++ limit_line (codes "attr_max") default_profile.attr_max s.attr_max
 
 -- `name_max N`
 abbrev pub other_limit_text : OtherLimit → List ℕ
@@ -61,42 +54,45 @@ inline_limit_text (Some n) = codes "inline_max " ++ decimal n
 -- which rule of the writing profile an image breaks
 abbrev pub profile_breach_text : Option ℕ → ProfileBreach → List ℕ
 profile_breach_text inline_max (breach.OtherLimits pair slot limit) =
-    (slot_text (pair_address_of_array pair) slot ++ codes ": a superblock with other limits than this library writes, ") ++ other_limit_text limit
-profile_breach_text inline_max (breach.LongInline pair slot) = (slot_text (pair_address_of_array pair) slot ++ codes ": more bytes inline than ") ++ inline_limit_text inline_max
+    pair_text (pair_address_of_array pair) ++ codes ", slot " ++ decimal slot ++ codes ": a superblock with other limits than this library writes, " ++ other_limit_text limit
+profile_breach_text inline_max (breach.LongInline pair slot) =
+    pair_text (pair_address_of_array pair) ++ codes ", slot " ++ decimal slot ++ codes ": more bytes inline than " ++ inline_limit_text inline_max
 profile_breach_text inline_max (breach.EmptyPair pair) = pair_text (pair_address_of_array pair) ++ codes ": no entry, but a directory goes on in it"
 profile_breach_text inline_max (breach.TooLarge pair) = codes "a pair or an entry is larger than this library writes"
 
--- whether an image may be changed, or why not
+abbrev pub writable_text : Option ℕ → Option ProfileBreach → List ℕ
+writable_text inline_max None = codes "yes"
+writable_text inline_max (Some b) = codes "no: " ++ profile_breach_text inline_max b
+
+abbrev pub yes_or_no_text : Bool → List ℕ
+yes_or_no_text true = codes "yes"
+yes_or_no_text false = codes "no"
+
+abbrev pub counts_text : ImageSummary → List ℕ
+counts_text s = codes "ok\nfiles " ++ decimal s.files ++ codes "\ndirectories " ++ decimal s.directories ++ codes "\n"
+
+abbrev pub blocks_text : ImageSummary → List ℕ
+blocks_text s = codes "used " ++ decimal s.used ++ codes " of " ++ decimal s.blocks ++ codes " blocks\nfree " ++ decimal (s.blocks - s.used) ++ codes "\n"
+
+abbrev pub order_line : AcceptedOrders → List ℕ
+order_line orders = codes "order " ++ name_orders_text orders ++ codes "\n"
+
+abbrev pub recover_line : Bool → List ℕ
+recover_line recover = codes "recover " ++ yes_or_no_text recover ++ codes "\n"
+
 abbrev pub writable_line : Option ℕ → Option ProfileBreach → List ℕ
-writable_line inline_max None = codes "writable yes" ++ newline
-writable_line inline_max (Some b) = codes "writable no: " ++ profile_breach_text inline_max b ++ newline
-
-abbrev pub used_and_free_blocks_text : ImageSummary → List ℕ
-used_and_free_blocks_text s = used_blocks_line s.used s.blocks ++ labelled_number_line (codes "free ") (s.blocks - s.used)
-
-abbrev pub order_and_superblock_text : ImageSummary → AcceptedOrders → List ℕ
-order_and_superblock_text s orders = accepted_name_orders_line orders ++ superblock_lines_if_told_of s.superblock
+writable_line inline_max b = codes "writable " ++ writable_text inline_max b ++ codes "\n"
 
 abbrev pub summary_text : ImageSummary → AcceptedOrders → List ℕ
-summary_text s orders =
-    (codes "ok" ++ newline) ++ labelled_number_line (codes "files ") s.files ++ labelled_number_line (codes "directories ") s.directories
-    ++ used_and_free_blocks_text s ++ order_and_superblock_text s orders ++ needs_recovery_line s.recover ++ writable_line s.inline_max s.breach
+summary_text s orders = counts_text s ++ blocks_text s ++ order_line orders ++ superblock_lines s.superblock ++ recover_line s.recover ++ writable_line s.inline_max s.breach
 
 -- ---- why one isn't accepted
 
-abbrev pub wrong_superblock_number_text : GivenSizes → WrongNumber → List ℕ
-wrong_superblock_number_text given (stated.BlockSize n) = codes "superblock: block size " ++ decimal n ++ codes ", given " ++ decimal given.block_size
-wrong_superblock_number_text given (stated.BlockCount n) = codes "superblock: block count " ++ decimal n ++ codes ", given " ++ decimal given.blocks
-wrong_superblock_number_text given (stated.Version n) = codes "superblock: version " ++ decimal (n / 65536) ++ codes "." ++ decimal (n % 65536)
-
-abbrev pub no_image_text : GivenSizes → List ℕ
-no_image_text given = (codes "no image of blocks of " ++ decimal given.block_size ++ codes " bytes and pages of " ++ decimal given.page) ++ (codes " has a length of " ++ decimal given.size)
-
-abbrev pub unaccepted_reason_text : GivenSizes → RefusalReason → List ℕ
-unaccepted_reason_text given (reason.WrongNumber stated) = wrong_superblock_number_text given stated
-unaccepted_reason_text given reason.NoImage = no_image_text given
-unaccepted_reason_text given (reason.Broken rule) = rule.line.items
+abbrev pub refusal_reason_text : GivenSizes → RefusalReason → List ℕ
+refusal_reason_text given (reason.WrongNumber stated) = wrong_number_text given stated
+refusal_reason_text given reason.NoImage = no_image_text given
+refusal_reason_text given (reason.Broken rule) = rule.line.items
 
 abbrev pub check_result_text : CheckResult → List ℕ
 check_result_text (checked.Accepted summary orders) = summary_text summary orders
-check_result_text (checked.Refused reason given) = (codes "corrupt" ++ newline) ++ unaccepted_reason_text given reason ++ newline
+check_result_text (checked.Refused reason given) = codes "corrupt\n" ++ refusal_reason_text given reason ++ codes "\n"

@@ -17,4 +17,4 @@ pub mod AppliedOperations
 pub mod MadeImages
 pub mod CheckResults
 pub mod CheckedLines
-pub mod SuperblockLines
+pub mod NumberTexts

@@ -1,5 +1,9 @@
 // The result of a check of an image.
 
+ghost use Rattle.std.specs.Prelude.{◌≡◌, ℕ, List, length};
+ghost use Rattle.lfs_tool.specs.CheckResults.{AreReportedSizesThoseGivenToCheck};
+
+use crate::ImageLayout;
 use crate::verdict::{AcceptedOrders, BrokenRule, ImageSummary};
 use crate::wrong_number::WrongNumber;
 
@@ -11,6 +15,25 @@ pub struct GivenSizes {
     pub page: u32,
     pub size: usize,
     pub blocks: usize,
+}
+
+impl GivenSizes {
+    // Returns the sizes with which an image of so many bytes is checked.
+    pub(crate) fn of(len: usize, layout: ImageLayout) -> GivenSizes
+        ensures { (image : List ℕ) → length image ≡ len → AreReportedSizesThoseGivenToCheck layout image result }
+    {
+        let blocks = if layout.block_size == 0 {
+            0
+        } else {
+            len / layout.block_size as usize
+        };
+        GivenSizes {
+            block_size: layout.block_size,
+            page: layout.page,
+            size: len,
+            blocks,
+        }
+    }
 }
 
 /// The cause for which an image isn't accepted.

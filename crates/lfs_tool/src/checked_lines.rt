@@ -1,209 +1,175 @@
 // The lines of a check's result.
 
-ghost use Rattle.std.specs.Prelude.{◌≡◌, ◌++◌, IfOk, OnOk, codes};
-ghost use Rattle.lfs_model.specs.Listing.{newline};
-ghost use Rattle.lfs_model.specs.Slots.{pair_address_of_array};
-ghost use Rattle.std.specs.Fmt.{decimal};
-ghost use Rattle.lfs_model.specs.declared.breaches.ProfileBreach.TheVariants.{LongInline};
-ghost use Rattle.lfs_tool.specs.CheckedLines.{inline_limit_text, other_limit_text, used_and_free_blocks_text, labelled_number_line, no_image_text, accepted_name_orders_line, order_and_superblock_text, pair_text, unaccepted_reason_text, needs_recovery_line, slot_text, wrong_superblock_number_text, summary_text, used_blocks_line, check_result_text, profile_breach_text, writable_line};
+ghost use Rattle.std.specs.Prelude.{◌≡◌, ◌++◌, IfOk, OnOk};
+ghost use Rattle.lfs_tool.specs.CheckedLines.{blocks_text, check_result_text, counts_text, inline_limit_text, limit_line, order_line, other_limit_text, profile_breach_text, recover_line, refusal_reason_text, summary_text, superblock_lines, version_line, writable_line, writable_text, yes_or_no_text};
 
 use crate::check_result::{CheckResult, GivenSizes, RefusalReason};
-use crate::superblock_lines::push_superblock_lines_if_told_of;
+use crate::number_text::{NoImageText, PairText, WrongNumberText};
 use crate::verdict::{AcceptedOrders, ImageSummary};
-use crate::wrong_number::WrongNumber;
-use lfs_lookup::push_escaped_path;
+use lfs_device::Profile;
 use lfs_model::{OtherLimit, ProfileBreach};
+use lfs_tag::Superblock;
 use std::alloc::{AllocError, Global};
 use std::io::Write;
-
-// ---- parts of lines
-
-// Adds a text.
-pub(crate) fn push_text(text: &mut Vec<u8>, add: &str) -> Result<(), AllocError>
-    ensures { OnOk result (text.new.items ≡ text.old.items ++ add.now) }
-{
-    text.extend_from_slice(add.as_bytes())?;
-    Ok(())
-}
-
-// Adds a line.
-pub(crate) fn push_line(text: &mut Vec<u8>, line: &str) -> Result<(), AllocError>
-    ensures { OnOk result (text.new.items ≡ text.old.items ++ (line.now ++ newline)) }
-{
-    text.extend_from_slice(line.as_bytes())?;
-    text.push(b'\n')?;
-    Ok(())
-}
-
-// Adds a text and a number after it.
-pub(crate) fn push_labelled_number(
-    text: &mut Vec<u8>,
-    before: &str,
-    number: usize,
-) -> Result<(), AllocError>
-    ensures { OnOk result (text.new.items ≡ text.old.items ++ (before.now ++ decimal number)) }
-{
-    text.extend_from_slice(before.as_bytes())?;
-    if write!(text, "{}", number).is_err() {
-        return Err(AllocError);
-    }
-    Ok(())
-}
-
-// Adds a line with a number after a text.
-pub(crate) fn push_number_line(
-    text: &mut Vec<u8>,
-    label: &str,
-    count: usize,
-) -> Result<(), AllocError>
-    ensures { OnOk result (text.new.items ≡ text.old.items ++ labelled_number_line label.now count) }
-{
-    push_labelled_number(text, label, count)?;
-    text.push(b'\n')?;
-    Ok(())
-}
+use std::{fmt, io};
 
 // ---- an accepted image
 
-fn push_used_blocks_line(text: &mut Vec<u8>, used: u32, blocks: u32) -> Result<(), AllocError>
-    ensures { OnOk result (text.new.items ≡ text.old.items ++ used_blocks_line used blocks) }
-{
-    push_two_labelled_numbers(text, "used ", used as usize, " of ", blocks as usize)?;
-    push_line(text, " blocks")?;
-    Ok(())
-}
+impl fmt::Display for AcceptedOrders {
+    ghost use Rattle.std.specs.Prelude.{Some};
+    ghost use Rattle.lfs_tool.specs.CheckedLines.{name_orders_text};
 
-fn push_used_and_free_blocks(text: &mut Vec<u8>, summary: &ImageSummary) -> Result<(), AllocError>
-    ensures { OnOk result (text.new.items ≡ text.old.items ++ used_and_free_blocks_text summary.now) }
-{
-    let free = summary.blocks.saturating_sub(summary.used);
-    push_used_blocks_line(text, summary.used, summary.blocks)?;
-    push_number_line(text, "free ", free as usize)?;
-    Ok(())
-}
+    ghost output = { λ orders. Some (name_orders_text orders) };
 
-fn push_accepted_name_orders_line(
-    text: &mut Vec<u8>,
-    orders: AcceptedOrders,
-) -> Result<(), AllocError>
-    ensures { OnOk result (text.new.items ≡ text.old.items ++ accepted_name_orders_line orders) }
-{
-    match orders {
-        AcceptedOrders::LongerFirst => push_line(text, "order longer-first"),
-        AcceptedOrders::ShorterFirst => push_line(text, "order shorter-first"),
-        AcceptedOrders::Either => push_line(text, "order either"),
+    fn fmt<W: fmt::Write>(&self, f: &mut fmt::Formatter<W>) -> fmt::Result {
+        match self {
+            AcceptedOrders::LongerFirst => f.write_str("longer-first"),
+            AcceptedOrders::ShorterFirst => f.write_str("shorter-first"),
+            AcceptedOrders::Either => f.write_str("either"),
+        }
     }
 }
 
-fn push_order_and_superblock(
-    text: &mut Vec<u8>,
-    summary: &ImageSummary,
-    orders: AcceptedOrders,
-) -> Result<(), AllocError>
-    ensures { OnOk result (text.new.items ≡ text.old.items ++ order_and_superblock_text summary.now orders) }
+// Adds the line of a version, unless it is 2.0.
+fn push_version_line(text: &mut Vec<u8>, version: u32) -> io::Result<()>
+    ensures { OnOk result (text.new.items ≡ text.old.items ++ version_line version) }
 {
-    push_accepted_name_orders_line(text, orders)?;
-    push_superblock_lines_if_told_of(text, summary.superblock)?;
-    Ok(())
-}
-
-fn push_needs_recovery_line(text: &mut Vec<u8>, recover: bool) -> Result<(), AllocError>
-    ensures { OnOk result (text.new.items ≡ text.old.items ++ needs_recovery_line recover) }
-{
-    if recover {
-        push_line(text, "recover yes")
-    } else {
-        push_line(text, "recover no")
+    if version == Superblock::VERSION {
+        return Ok(());
     }
+    write!(text, "version {}.{}\n", version / 65536, version % 65536)
 }
 
-fn push_other_limit(text: &mut Vec<u8>, limit: OtherLimit) -> Result<(), AllocError>
+// Adds the line of a limit, unless it is the default one.
+fn push_limit_line(text: &mut Vec<u8>, name: &str, default: u32, limit: u32) -> io::Result<()>
+    ensures { OnOk result (text.new.items ≡ text.old.items ++ limit_line name.now default limit) }
+{
+    if limit == default {
+        return Ok(());
+    }
+    write!(text, "{name} {limit}\n")
+}
+
+// Adds the lines of a superblock, if it is told of: its version, and each limit that isn't the default one.
+fn push_superblock_lines(text: &mut Vec<u8>, superblock: Option<Superblock>) -> io::Result<()>
+    ensures { OnOk result (text.new.items ≡ text.old.items ++ superblock_lines superblock) }
+{
+    let Some(superblock) = superblock else {
+        return Ok(());
+    };
+    let default = Profile::new();
+    push_version_line(text, superblock.version)?;
+    push_limit_line(text, "name_max", default.name_max, superblock.name_max)?;
+    push_limit_line(text, "file_max", default.file_max, superblock.file_max)?;
+    push_limit_line(text, "attr_max", default.attr_max, superblock.attr_max)
+}
+
+fn push_other_limit(text: &mut Vec<u8>, limit: OtherLimit) -> io::Result<()>
     ensures { OnOk result (text.new.items ≡ text.old.items ++ other_limit_text limit) }
 {
     match limit {
-        OtherLimit::Name(most) => push_labelled_number(text, "name_max ", most as usize),
-        OtherLimit::File(most) => push_labelled_number(text, "file_max ", most as usize),
-        OtherLimit::Attr(most) => push_labelled_number(text, "attr_max ", most as usize),
+        OtherLimit::Name(most) => write!(text, "name_max {most}"),
+        OtherLimit::File(most) => write!(text, "file_max {most}"),
+        OtherLimit::Attr(most) => write!(text, "attr_max {most}"),
     }
 }
 
-fn push_other_limits(
-    text: &mut Vec<u8>,
-    pair: [u32; 2],
-    slot: usize,
-    limit: OtherLimit,
-) -> Result<(), AllocError>
-    ensures { OnOk result (text.new.items ≡ text.old.items ++ ((slot_text (pair_address_of_array pair) slot ++ codes ": a superblock with other limits than this library writes, ") ++ other_limit_text limit)) }
-{
-    push_slot_message(
-        text,
-        pair,
-        slot,
-        ": a superblock with other limits than this library writes, ",
-    )?;
-    push_other_limit(text, limit)?;
-    Ok(())
-}
-
-fn push_inline_limit(text: &mut Vec<u8>, inline_max: Option<u32>) -> Result<(), AllocError>
+fn push_inline_limit(text: &mut Vec<u8>, inline_max: Option<u32>) -> io::Result<()>
     ensures { OnOk result (text.new.items ≡ text.old.items ++ inline_limit_text inline_max) }
 {
     match inline_max {
-        Some(most) => push_labelled_number(text, "inline_max ", most as usize),
-        None => push_text(text, "an eighth of a block"),
+        Some(most) => write!(text, "inline_max {most}"),
+        None => write!(text, "an eighth of a block"),
     }
-}
-
-fn push_long_inline(
-    text: &mut Vec<u8>,
-    inline_max: Option<u32>,
-    pair: [u32; 2],
-    slot: usize,
-) -> Result<(), AllocError>
-    ensures { OnOk result (text.new.items ≡ text.old.items ++ profile_breach_text inline_max (LongInline pair slot)) }
-{
-    push_slot_message(text, pair, slot, ": more bytes inline than ")?;
-    push_inline_limit(text, inline_max)?;
-    Ok(())
 }
 
 fn push_profile_breach(
     text: &mut Vec<u8>,
     inline_max: Option<u32>,
     breach: ProfileBreach,
-) -> Result<(), AllocError>
+) -> io::Result<()>
     ensures { OnOk result (text.new.items ≡ text.old.items ++ profile_breach_text inline_max breach) }
 {
     match breach {
         ProfileBreach::OtherLimits { pair, slot, limit } => {
-            push_other_limits(text, pair, slot, limit)?
+            let pair = PairText(pair);
+            write!(
+                text,
+                "{pair}, slot {slot}: a superblock with other limits than this library writes, "
+            )?;
+            push_other_limit(text, limit)
         }
-        ProfileBreach::LongInline { pair, slot } => push_long_inline(text, inline_max, pair, slot)?,
+        ProfileBreach::LongInline { pair, slot } => {
+            let pair = PairText(pair);
+            write!(text, "{pair}, slot {slot}: more bytes inline than ")?;
+            push_inline_limit(text, inline_max)
+        }
         ProfileBreach::EmptyPair { pair } => {
-            push_pair_message(text, pair, ": no entry, but a directory goes on in it")?
+            let pair = PairText(pair);
+            write!(text, "{pair}: no entry, but a directory goes on in it")
         }
-        ProfileBreach::TooLarge { .. } => push_text(
-            text,
-            "a pair or an entry is larger than this library writes",
-        )?,
+        ProfileBreach::TooLarge { .. } => {
+            write!(
+                text,
+                "a pair or an entry is larger than this library writes"
+            )
+        }
     }
-    Ok(())
 }
 
-fn push_writable_line(
+fn push_writable(
     text: &mut Vec<u8>,
     inline_max: Option<u32>,
     breach: Option<ProfileBreach>,
-) -> Result<(), AllocError>
-    ensures { OnOk result (text.new.items ≡ text.old.items ++ writable_line inline_max breach) }
+) -> io::Result<()>
+    ensures { OnOk result (text.new.items ≡ text.old.items ++ writable_text inline_max breach) }
 {
     let Some(breach) = breach else {
-        return push_line(text, "writable yes");
+        return write!(text, "yes");
     };
-    push_text(text, "writable no: ")?;
-    push_profile_breach(text, inline_max, breach)?;
-    text.push(b'\n')?;
-    Ok(())
+    write!(text, "no: ")?;
+    push_profile_breach(text, inline_max, breach)
+}
+
+fn yes_or_no(yes: bool) -> &'static str
+    ensures { result.now ≡ yes_or_no_text yes }
+{
+    if yes { "yes" } else { "no" }
+}
+
+fn push_counts(text: &mut Vec<u8>, summary: &ImageSummary) -> io::Result<()>
+    ensures { OnOk result (text.new.items ≡ text.old.items ++ counts_text summary.now) }
+{
+    let (files, directories) = (summary.files, summary.directories);
+    write!(text, "ok\nfiles {files}\ndirectories {directories}\n")
+}
+
+fn push_blocks(text: &mut Vec<u8>, summary: &ImageSummary) -> io::Result<()>
+    ensures { OnOk result (text.new.items ≡ text.old.items ++ blocks_text summary.now) }
+{
+    let (used, blocks) = (summary.used, summary.blocks);
+    let free = summary.blocks.saturating_sub(summary.used);
+    write!(text, "used {used} of {blocks} blocks\nfree {free}\n")
+}
+
+fn push_order_line(text: &mut Vec<u8>, orders: AcceptedOrders) -> io::Result<()>
+    ensures { OnOk result (text.new.items ≡ text.old.items ++ order_line orders) }
+{
+    write!(text, "order {orders}\n")
+}
+
+fn push_recover_line(text: &mut Vec<u8>, recover: bool) -> io::Result<()>
+    ensures { OnOk result (text.new.items ≡ text.old.items ++ recover_line recover) }
+{
+    write!(text, "recover {}\n", yes_or_no(recover))
+}
+
+fn push_writable_line(text: &mut Vec<u8>, summary: &ImageSummary) -> io::Result<()>
+    ensures { OnOk result (text.new.items ≡ text.old.items ++ writable_line summary.now.inline_max summary.now.breach) }
+{
+    write!(text, "writable ")?;
+    push_writable(text, summary.inline_max, summary.breach)?;
+    write!(text, "\n")
 }
 
 // Adds the lines of an accepted image.
@@ -211,158 +177,47 @@ fn push_summary(
     text: &mut Vec<u8>,
     summary: &ImageSummary,
     orders: AcceptedOrders,
-) -> Result<(), AllocError>
+) -> io::Result<()>
     ensures { OnOk result (text.new.items ≡ text.old.items ++ summary_text summary.now orders) }
 {
-    push_line(text, "ok")?;
-    push_number_line(text, "files ", summary.files)?;
-    push_number_line(text, "directories ", summary.directories)?;
-    push_used_and_free_blocks(text, summary)?;
-    push_order_and_superblock(text, summary, orders)?;
-    push_needs_recovery_line(text, summary.recover)?;
-    push_writable_line(text, summary.inline_max, summary.breach)?;
-    Ok(())
+    push_counts(text, summary)?;
+    push_blocks(text, summary)?;
+    push_order_line(text, orders)?;
+    push_superblock_lines(text, summary.superblock)?;
+    push_recover_line(text, summary.recover)?;
+    push_writable_line(text, summary)
 }
 
 // ---- why one isn't accepted
 
-// Adds two numbers, each with a text before it.
-pub(crate) fn push_two_labelled_numbers(
-    text: &mut Vec<u8>,
-    before: &str,
-    first: usize,
-    between: &str,
-    second: usize,
-) -> Result<(), AllocError>
-    ensures { OnOk result (text.new.items ≡ text.old.items ++ (before.now ++ decimal first ++ between.now ++ decimal second)) }
-{
-    push_labelled_number(text, before, first)?;
-    push_labelled_number(text, between, second)?;
-    Ok(())
-}
-
-pub(crate) fn push_wrong_superblock_number_text(
-    text: &mut Vec<u8>,
-    given: &GivenSizes,
-    stated: WrongNumber,
-) -> Result<(), AllocError>
-    ensures { OnOk result (text.new.items ≡ text.old.items ++ wrong_superblock_number_text given.now stated) }
-{
-    match stated {
-        WrongNumber::BlockSize(size) => {
-            let (size, given) = (size as usize, given.block_size as usize);
-            push_two_labelled_numbers(text, "superblock: block size ", size, ", given ", given)
-        }
-        WrongNumber::BlockCount(count) => {
-            let (count, given) = (count as usize, given.blocks);
-            push_two_labelled_numbers(text, "superblock: block count ", count, ", given ", given)
-        }
-        WrongNumber::Version(version) => {
-            let (major, minor) = (version as usize / 65536, version as usize % 65536);
-            push_two_labelled_numbers(text, "superblock: version ", major, ".", minor)
-        }
-    }
-}
-
-pub(crate) fn push_pair_text(text: &mut Vec<u8>, pair: [u32; 2]) -> Result<(), AllocError>
-    ensures { OnOk result (text.new.items ≡ text.old.items ++ pair_text (pair_address_of_array pair)) }
-{
-    push_two_labelled_numbers(text, "pair ", pair[0] as usize, " ", pair[1] as usize)
-}
-
-pub(crate) fn push_slot_text(
-    text: &mut Vec<u8>,
-    pair: [u32; 2],
-    slot: usize,
-) -> Result<(), AllocError>
-    ensures { OnOk result (text.new.items ≡ text.old.items ++ slot_text (pair_address_of_array pair) slot) }
-{
-    push_pair_text(text, pair)?;
-    push_labelled_number(text, ", slot ", slot)?;
-    Ok(())
-}
-
-// Adds the words for a pair.
-pub(crate) fn push_pair_message(
-    text: &mut Vec<u8>,
-    pair: [u32; 2],
-    says: &str,
-) -> Result<(), AllocError>
-    ensures { OnOk result (text.new.items ≡ text.old.items ++ (pair_text (pair_address_of_array pair) ++ says.now)) }
-{
-    push_pair_text(text, pair)?;
-    push_text(text, says)?;
-    Ok(())
-}
-
-// Adds the words for a slot.
-fn push_slot_message(
-    text: &mut Vec<u8>,
-    pair: [u32; 2],
-    slot: usize,
-    says: &str,
-) -> Result<(), AllocError>
-    ensures { OnOk result (text.new.items ≡ text.old.items ++ (slot_text (pair_address_of_array pair) slot ++ says.now)) }
-{
-    push_slot_text(text, pair, slot)?;
-    push_text(text, says)?;
-    Ok(())
-}
-
-// Adds a name between quotes.
-pub(crate) fn push_quoted_name(text: &mut Vec<u8>, name: &[u8]) -> Result<(), AllocError> {
-    text.push(b'"')?;
-    push_escaped_path(text, name)?;
-    text.push(b'"')?;
-    Ok(())
-}
-
-fn push_no_image_of_given_sizes_text(
-    text: &mut Vec<u8>,
-    given: &GivenSizes,
-) -> Result<(), AllocError>
-    ensures { OnOk result (text.new.items ≡ text.old.items ++ no_image_text given.now) }
-{
-    let (block_size, page) = (given.block_size as usize, given.page as usize);
-    push_two_labelled_numbers(
-        text,
-        "no image of blocks of ",
-        block_size,
-        " bytes and pages of ",
-        page,
-    )?;
-    push_labelled_number(text, " has a length of ", given.size)?;
-    Ok(())
-}
-
-fn push_unaccepted_reason(
+fn push_refusal_reason(
     text: &mut Vec<u8>,
     given: &GivenSizes,
     reason: &RefusalReason,
-) -> Result<(), AllocError>
-    ensures { OnOk result (text.new.items ≡ text.old.items ++ unaccepted_reason_text given.now reason.now) }
+) -> io::Result<()>
+    ensures { OnOk result (text.new.items ≡ text.old.items ++ refusal_reason_text given.now reason.now) }
 {
     match reason {
-        RefusalReason::WrongNumber(stated) => push_wrong_superblock_number_text(
-            text, given, *stated,
-        ),
-        RefusalReason::NoImage => push_no_image_of_given_sizes_text(text, given),
-        RefusalReason::Broken(rule) => text.extend_from_slice(&rule.line),
+        RefusalReason::WrongNumber(stated) => {
+            let (given, stated) = (*given, *stated);
+            write!(text, "{}", WrongNumberText { given, stated })
+        }
+        RefusalReason::NoImage => write!(text, "{}", NoImageText(*given)),
+        RefusalReason::Broken(rule) => text.write_all(&rule.line),
     }
 }
 
-// Adds the lines of an image that isn't accepted.
-fn push_unaccepted_lines(
-    text: &mut Vec<u8>,
-    given: &GivenSizes,
-    reason: &RefusalReason,
-) -> Result<(), AllocError>
-    ensures { OnOk result (text.new.items ≡ text.old.items ++ ((codes "corrupt" ++ newline) ++ unaccepted_reason_text given.now reason.now ++ newline)) }
+fn push_check_result(text: &mut Vec<u8>, checked: &CheckResult) -> io::Result<()>
+    ensures { OnOk result (text.new.items ≡ text.old.items ++ check_result_text checked.now) }
 {
-    push_line(text, "corrupt")?;
-    push_unaccepted_reason(text, given, reason)?;
-    text.push(b'\n')?;
-    Ok(())
+    match checked {
+        CheckResult::Accepted { summary, orders } => push_summary(text, summary, *orders),
+        CheckResult::Refused { reason, given } => {
+            write!(text, "corrupt\n")?;
+            push_refusal_reason(text, given, reason)?;
+            write!(text, "\n")
+        }
+    }
 }
 
 /// Returns the lines of a check's result, as `check` writes them.
@@ -370,9 +225,8 @@ pub fn lines_of_check_result(alloc: Global, checked: &CheckResult) -> Result<Vec
     ensures { IfOk result (λ text. text.items ≡ check_result_text checked.now) }
 {
     let mut text = Vec::new(alloc);
-    match checked {
-        CheckResult::Accepted { summary, orders } => push_summary(&mut text, summary, *orders)?,
-        CheckResult::Refused { reason, given } => push_unaccepted_lines(&mut text, given, reason)?,
+    match push_check_result(&mut text, checked) {
+        Ok(()) => Ok(text),
+        Err(_) => Err(AllocError),
     }
-    Ok(text)
 }

@@ -35,23 +35,6 @@ fn judge_image(
     }
 }
 
-// Returns the sizes with which an image of so many bytes is checked.
-fn given_sizes_with_block_count_of_image(len: usize, layout: ImageLayout) -> GivenSizes
-    ensures { (image : List ℕ) → length image ≡ len → AreReportedSizesThoseGivenToCheck layout image result }
-{
-    let blocks = if layout.block_size == 0 {
-        0
-    } else {
-        len / layout.block_size as usize
-    };
-    GivenSizes {
-        block_size: layout.block_size,
-        page: layout.page,
-        size: len,
-        blocks,
-    }
-}
-
 // Returns the result for an image that isn't accepted. What its superblock states comes first.
 fn refused_check_result(
     stated: Option<WrongNumber>,
@@ -101,7 +84,7 @@ fn check_result_of_bytes(
     ensures checked { IfOk result (IsCheckResultOfBytes layout image.items) }
     ensures err { IfErr result (λ e. e ≡ Error.NoMemory) }
 {
-    let given = given_sizes_with_block_count_of_image(image.len(), layout);
+    let given = GivenSizes::of(image.len(), layout);
     let stated = wrong_superblock_number_in_image(
         &image,
         layout.block_size,
@@ -134,7 +117,7 @@ pub fn check_result_of_image<R: ImageInput>(
 {
     let bytes = read_image(alloc, image)?;
     if bytes.len() > IMAGE_MAX {
-        let given = given_sizes_with_block_count_of_image(bytes.len(), layout);
+        let given = GivenSizes::of(bytes.len(), layout);
         return Ok(refused_check_result(None, RefusalReason::NoImage, given));
     }
     let checked = check_result_of_bytes(alloc, bytes, layout)?;

@@ -155,7 +155,10 @@ fn judge_thread(alloc: Global, mut thread: Thread<RamDevice>) -> Result<ImageVer
     ensures verdict { IfOk result (IsVerdictOnDisk (disk_in_order LongerFirst thread.kept.disk)) }
     ensures err { IfErr result (λ e. e ≡ Error.NoMemory) }
 {
-    let summary = image_summary_of_thread(alloc, &mut thread)?;
+    let Ok(summary) = image_summary_of_thread(alloc, &mut thread) else {
+        // The device has no fault, so memory ran out.
+        return Err(Error::NoMemory);
+    };
     let order = thread.order();
     let orders = accepted_name_orders(alloc, thread.into_device(), order)?;
     Ok(ImageVerdict::Accepted { summary, orders })

@@ -1,7 +1,7 @@
 // Texts to writers.
 
 ghost use Rattle.std.specs.Prelude.{◌≡◌, OnErr, OnOk, suc};
-ghost use Rattle.std.specs.Io.KnownBytes.{Appends, Keeps};
+ghost use Rattle.std.specs.Io.KnownBytes.{Appends};
 ghost use Rattle.lfs_tool.specs.KnownBytes.{AppendsBeginningOfBytes};
 
 use crate::{ToolError, ToolOutput};
@@ -17,7 +17,10 @@ pub fn write_bytes_and_flush<W: ToolOutput>(out: &mut W, bytes: &[u8]) -> Result
     ensures failed { OnErr result ((result ≡ Err ToolError.Output) × (W.faults out.new ≡ suc (W.faults out.old))) }
 {
     write_bytes(out, bytes)?;
-    flush(out)
+    match out.flush() {
+        Ok(()) => Ok(()),
+        Err(_) => Err(ToolError::Output),
+    }
 }
 
 // Writes the bytes. After an error a beginning of them was written.
@@ -35,16 +38,4 @@ fn write_bytes<W: ToolOutput>(out: &mut W, bytes: &[u8]) -> Result<(), ToolError
         }
     }
     Ok(())
-}
-
-// Flushes what was written.
-fn flush<W: ToolOutput>(out: &mut W) -> Result<(), ToolError>
-    ensures bytes { Keeps (W.contents out.old) (W.contents out.new) }
-    ensures kept { OnOk result (W.faults out.new ≡ W.faults out.old) }
-    ensures failed { OnErr result ((result ≡ Err ToolError.Output) × (W.faults out.new ≡ suc (W.faults out.old))) }
-{
-    match out.flush() {
-        Ok(()) => Ok(()),
-        Err(_) => Err(ToolError::Output),
-    }
 }

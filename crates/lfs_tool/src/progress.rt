@@ -13,6 +13,11 @@ impl FilesAndBytes {
         FilesAndBytes { files: 0, bytes: 0 }
     }
 
+    // Returns one file of that size in bytes.
+    pub(crate) fn one_file(bytes: usize) -> FilesAndBytes {
+        FilesAndBytes { files: 1, bytes }
+    }
+
     /// Returns both together, up to the greatest `usize`.
     pub fn plus(self, more: FilesAndBytes) -> FilesAndBytes {
         FilesAndBytes {

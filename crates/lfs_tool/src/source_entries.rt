@@ -58,10 +58,7 @@ fn copy_entry_into_session(
 // Returns what an entry is of the whole.
 fn file_and_byte_counts_of_entry(entry: &SourceEntry) -> FilesAndBytes {
     match &entry.bytes {
-        Some(bytes) => FilesAndBytes {
-            files: 1,
-            bytes: bytes.len(),
-        },
+        Some(bytes) => FilesAndBytes::one_file(bytes.len()),
         None => FilesAndBytes::none(),
     }
 }

@@ -1,6 +1,6 @@
 // What an accepted image in memory has.
 
-ghost use Rattle.std.specs.Prelude.{◌≡◌, ◌↔◌, ◌≤◌, IfErr, IfOk, IsTrue, count_by, false, length};
+ghost use Rattle.std.specs.Prelude.{◌≡◌, ◌↔◌, ◌≤◌, IfOk, IsTrue, OnOk, count_by, false, length};
 ghost use Rattle.lfs_model.specs.BlockSets.{AreExactlyTheUsedBlocks};
 ghost use Rattle.lfs_model.specs.Disk.{default_profile};
 ghost use Rattle.lfs_model.specs.ProfileBreaches.{IsBreachIfNotWritable};
@@ -10,13 +10,11 @@ ghost use Rattle.lfs_model.specs.View.{IsAcceptedImage};
 ghost use Rattle.lfs_tag.specs.FieldsView.{move_view};
 ghost use Rattle.lfs_thread.specs.Steps.{IsThreadOnlyRead};
 ghost use Rattle.lfs_lookup.specs.Items.{owned_struct_view};
-ghost use Rattle.lfs_lookup.specs.Walk.{ArePathsAndStructsOfWalk, tree_items_view};
 ghost use Rattle.lfs_tool.specs.ImageSummaries.{HasImageSummary, IsSuperblockToldOf, inline_max_if_less, is_file_item, is_file_struct, has_half_done_operation};
 
 use crate::verdict::ImageSummary;
 use lfs_device::{Error, Geometry, Profile, RamDevice};
 use lfs_lookup::{OwnedStruct, TreeItem, find_profile_breach, find_root, superblock, walk_tree};
-use lfs_model::ProfileBreach;
 use lfs_tag::{MoveState, Superblock};
 use lfs_thread::Thread;
 use std::alloc::Global;
@@ -52,68 +50,6 @@ fn has_unfinished_operation(state: &MoveState) -> bool
     state.sync || state.kind != 0
 }
 
-// Returns all entries of the image.
-fn tree_items_of_thread(
-    alloc: Global,
-    thread: &mut Thread<RamDevice>,
-) -> Result<Vec<TreeItem>, Error>
-    requires works { thread.old.failed ≡ false }
-    requires accepted { IsAcceptedImage thread.old.kept.disk thread.old.kept.pairs }
-    ensures walked { IfOk result (λ items. ArePathsAndStructsOfWalk thread.old.kept.disk thread.old.kept.pairs (tree_items_view items.items)) }
-    ensures only { (IsThreadOnlyRead thread.old.kept thread.new.kept) × (thread.new.failed ≡ false) }
-    ensures err { IfErr result (λ e. e ≡ Error.NoMemory) }
-{
-    match walk_tree(alloc, thread) {
-        Ok(items) => Ok(items),
-        Err(error) => {
-            // The device had no fault, so memory ran out.
-            let _device = thread.device();
-            Err(error)
-        }
-    }
-}
-
-// Returns the number of the root directory's first pair.
-fn root_index_of_thread(alloc: Global, thread: &mut Thread<RamDevice>) -> Result<usize, Error>
-    requires works { thread.old.failed ≡ false }
-    requires accepted { IsAcceptedImage thread.old.kept.disk thread.old.kept.pairs }
-    ensures root { IfOk result (λ root. root ≡ pair_count_before_root thread.old.kept.pairs) }
-    ensures only { (IsThreadOnlyRead thread.old.kept thread.new.kept) × (thread.new.failed ≡ false) }
-    ensures err { IfErr result (λ e. e ≡ Error.NoMemory) }
-{
-    match find_root(alloc, thread) {
-        Ok(root) => Ok(root),
-        Err(error) => {
-            // The device had no fault, so memory ran out.
-            let _device = thread.device();
-            Err(error)
-        }
-    }
-}
-
-// Returns what of the writing profile the image breaks.
-fn profile_breach_of_image(
-    alloc: Global,
-    thread: &mut Thread<RamDevice>,
-    root: usize,
-) -> Result<Option<ProfileBreach>, Error>
-    requires works { thread.old.failed ≡ false }
-    requires accepted { IsAcceptedImage thread.old.kept.disk thread.old.kept.pairs }
-    requires root { root ≡ pair_count_before_root thread.old.kept.pairs }
-    ensures breach { IfOk result (IsBreachIfNotWritable thread.old.kept.disk thread.old.kept.pairs) }
-    ensures only { (IsThreadOnlyRead thread.old.kept thread.new.kept) × (thread.new.failed ≡ false) }
-    ensures err { IfErr result (λ e. e ≡ Error.NoMemory) }
-{
-    match find_profile_breach(alloc, thread, root) {
-        Ok(breach) => Ok(breach),
-        Err(error) => {
-            // The device had no fault, so memory ran out.
-            let _device = thread.device();
-            Err(error)
-        }
-    }
-}
-
 // Returns the profile's own limit of a file that is inline, where it is less than that of the blocks.
 fn inline_max_if_less(geometry: &Geometry) -> Option<u32>
     ensures { result ≡ inline_max_if_less geometry.now.profile geometry.now.block_size }
@@ -143,7 +79,6 @@ fn superblock_to_tell_of(
     requires root { root ≡ pair_count_before_root thread.old.kept.pairs }
     ensures told { IfOk result (IsSuperblockToldOf thread.old.kept.disk.profile thread.old.kept.pairs) }
     ensures only { (IsThreadOnlyRead thread.old.kept thread.new.kept) × (thread.new.failed ≡ false) }
-    ensures err { IfErr result (λ e. e ≡ Error.NoMemory) }
 {
     let geometry = thread.geometry();
     if is_default_profile(&geometry.profile) {
@@ -151,11 +86,7 @@ fn superblock_to_tell_of(
     }
     match superblock(alloc, thread, root) {
         Ok(superblock) => Ok(Some(superblock)),
-        Err(error) => {
-            // The device had no fault, so memory ran out.
-            let _device = thread.device();
-            Err(error)
-        }
+        Err(error) => Err(error),
     }
 }
 
@@ -168,13 +99,12 @@ pub(crate) fn image_summary_of_thread(
     requires accepted { IsAcceptedImage thread.old.kept.disk thread.old.kept.pairs }
     requires used { AreExactlyTheUsedBlocks thread.old.kept.map (used_blocks thread.old.kept.disk thread.old.kept.pairs) }
     ensures summary { IfOk result (HasImageSummary thread.old.kept.disk thread.old.kept.pairs) }
-    ensures only { (IsThreadOnlyRead thread.old.kept thread.new.kept) × (thread.new.failed ≡ false) }
-    ensures err { IfErr result (λ e. e ≡ Error.NoMemory) }
+    ensures only { OnOk result (IsThreadOnlyRead thread.old.kept thread.new.kept) }
 {
-    let items = tree_items_of_thread(alloc, thread)?;
-    let root = root_index_of_thread(alloc, thread)?;
+    let items = walk_tree(alloc, thread)?;
+    let root = find_root(alloc, thread)?;
     let superblock = superblock_to_tell_of(alloc, thread, root)?;
-    let breach = profile_breach_of_image(alloc, thread, root)?;
+    let breach = find_profile_breach(alloc, thread, root)?;
     let files = count_files(&items);
     let state = thread.state();
     let geometry = thread.geometry();

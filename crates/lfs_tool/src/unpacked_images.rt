@@ -84,14 +84,8 @@ fn put_tree_item<T: Target>(
 // Returns what an item is of the whole.
 fn file_and_byte_counts_of_item(item: &TreeItem) -> FilesAndBytes {
     match &item.structure {
-        OwnedStruct::Inline(bytes) => FilesAndBytes {
-            files: 1,
-            bytes: bytes.len(),
-        },
-        OwnedStruct::Ctz { size, .. } => FilesAndBytes {
-            files: 1,
-            bytes: *size as usize,
-        },
+        OwnedStruct::Inline(bytes) => FilesAndBytes::one_file(bytes.len()),
+        OwnedStruct::Ctz { size, .. } => FilesAndBytes::one_file(*size as usize),
         OwnedStruct::Branch(_) => FilesAndBytes::none(),
     }
 }

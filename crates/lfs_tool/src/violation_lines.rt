@@ -1,258 +1,374 @@
 // The line that says which rule an image breaks, and where. Names, and what else the line tells, are
 // looked for in the image once more.
 
-ghost use Rattle.std.specs.Prelude.{◌≡◌, IfErr, IfOk, false};
+ghost use Rattle.std.specs.Prelude.{◌≡◌, IfErr, IfOk};
 
+use crate::ImageLayout;
 use crate::check_result::GivenSizes;
-use crate::checked_lines::{
-    push_labelled_number, push_pair_message, push_pair_text, push_text,
-    push_wrong_superblock_number_text,
-};
-use crate::entry_lines::{
-    push_branch_line, push_entry_line, push_names_line, push_place_line, push_two_paths_line,
-};
-use crate::list_lines::push_list_line;
-use crate::owned_pairs::{OwnedPair, OwnedSlot, owned_pairs_of_thread, root_pair_index};
-use crate::pair_lines::{push_earlier_pair_line, push_no_content_line};
-use crate::places_in_pairs::{ThreadSlots, place_at, slot_at};
+use crate::found_thread::{FoundSlot, FoundThread, current_block, escaped_name};
+use crate::number_text::{PairText, WrongNumberText};
 use crate::superblocks::wrong_number_in_superblock_fields;
 use crate::verdict::BrokenRule;
 use crate::wrong_number::WrongNumber;
 use lfs_device::{BlockDevice, Error, Geometry, RamDevice};
+use lfs_file::walk;
 use lfs_lookup::OwnedStruct;
-use lfs_model::Violation;
-use lfs_tag::{MoveState, Superblock, superblock_of};
-use lfs_thread::Thread;
+use lfs_model::{NameOrder, Violation};
+use lfs_pair::is_same_pair;
+use lfs_tag::{Content, ContentError, Log, SlotNameKind, superblock_of};
 use std::alloc::{AllocError, Global};
 
-const NO_SUPERBLOCK: &str = "superblock: the root directory doesn't begin with one";
+// ---- rules of one pair
 
-const OTHER_FIRST_ENTRY: &str = ": its log doesn't begin with the superblock's name";
-
-const NO_PATH: &str = ": no path leads to its directory, and the sync bit is clear";
-
-fn push_out_of_range_line(
-    text: &mut Vec<u8>,
-    pair: [u32; 2],
-    count: u32,
-) -> Result<(), AllocError> {
-    let [first, second] = pair;
-    let block = if first >= count { first } else { second };
-    push_pair_text(text, pair)?;
-    push_labelled_number(text, ": block ", block as usize)?;
-    push_text(text, " isn't in the image")
-}
-
-// Returns the sizes of a geometry.
-fn given_sizes(geometry: &Geometry) -> GivenSizes {
-    GivenSizes {
-        block_size: geometry.block_size,
-        page: geometry.page,
-        size: geometry.block_size as usize * geometry.block_count as usize,
-        blocks: geometry.block_count as usize,
+// Returns for what a pair holds no content: it has no commit, its log is malformed, or a slot lacks its name or its
+// struct.
+fn no_content_line(alloc: Global, device: &mut RamDevice, pair: [u32; 2]) -> Result<String, Error> {
+    let at = PairText(pair);
+    let Some(block) = current_block(alloc, device, pair)? else {
+        return Ok(format!(in alloc; "{at}: no commit with a right checksum")?);
+    };
+    let content = match Content::read(alloc, &Log::read(&block)) {
+        Ok(content) => content,
+        Err(ContentError::Malformed) => {
+            return Ok(format!(in alloc; "{at}: its log has an entry that may not stand there")?);
+        }
+        Err(ContentError::NoMemory) => return Err(Error::NoMemory),
+    };
+    for number in 0..content.slots.len() {
+        let slot = &content.slots[number];
+        match (slot.name, slot.structure) {
+            (None, _) => return Ok(format!(in alloc; "{at}, slot {number}: no name")?),
+            (Some(name), None) => {
+                let name = escaped_name(alloc, name.bytes)?;
+                return Ok(format!(in alloc; "{at}, slot {number}: \"{name}\" has no struct")?);
+            }
+            _ => {}
+        }
     }
+    Ok(String::new(alloc))
 }
 
-// Returns the fields of a superblock's struct.
-fn superblock_fields_of_struct(structure: &OwnedStruct) -> Option<Superblock> {
-    let OwnedStruct::Inline(bytes) = structure else {
+// Returns the line of a rule for which no more than one pair is read, if it is one.
+fn pair_line(
+    alloc: Global,
+    device: &mut RamDevice,
+    violation: Violation,
+) -> Result<Option<String>, Error> {
+    let line = match violation {
+        Violation::OutOfRange { pair } => {
+            let [first, second] = pair;
+            let count = device.geometry().block_count;
+            let (at, block) = (PairText(pair), if first >= count { first } else { second });
+            format!(in alloc; "{at}: block {block} isn't in the image")?
+        }
+        Violation::OneBlock { pair } => format!(in alloc; "{}: one block twice", PairText(pair))?,
+        Violation::NoSuperblock => no_superblock_line(alloc)?,
+        Violation::FirstEntry { pair } => format!(in alloc;
+            "{}: its log doesn't begin with the superblock's name",
+            PairText(pair)
+        )?,
+        Violation::NoPath { pair } => format!(in alloc;
+            "{}: no path leads to its directory, and the sync bit is clear",
+            PairText(pair)
+        )?,
+        Violation::NoContent { pair } => no_content_line(alloc, device, pair)?,
+        _ => return Ok(None),
+    };
+    Ok(Some(line))
+}
+
+// ---- superblocks and entries
+
+// A line, and the number of a superblock that is wrong, where it tells of one.
+type LineAndNumber = (String, Option<WrongNumber>);
+
+fn no_superblock_line(alloc: Global) -> Result<String, AllocError> {
+    format!(in alloc; "superblock: the root directory doesn't begin with one")
+}
+
+// Returns which number of a superblock's struct is wrong for the image.
+fn wrong_number_of_slot(geometry: &Geometry, slot: &FoundSlot) -> Option<WrongNumber> {
+    let OwnedStruct::Inline(bytes) = &slot.structure else {
         return None;
     };
     match <&[u8; 24]>::try_from(bytes.as_slice()) {
-        Ok(bytes) => Some(superblock_of(bytes)),
+        Ok(bytes) => wrong_number_in_superblock_fields(
+            geometry.block_size,
+            geometry.block_count as usize,
+            geometry.profile.versions,
+            &superblock_of(bytes),
+        ),
         Err(_) => None,
     }
 }
 
-// Returns which number of a superblock's struct is wrong for the image.
-fn wrong_number_of_slot(geometry: &Geometry, slot: &OwnedSlot) -> Option<WrongNumber> {
-    let Some(fields) = superblock_fields_of_struct(&slot.structure) else {
-        return None;
-    };
-    let count = geometry.block_count as usize;
-    let versions = geometry.profile.versions;
-    wrong_number_in_superblock_fields(geometry.block_size, count, versions, &fields)
-}
-
-// Adds the number of a pair's superblock that is wrong.
-fn push_wrong_number(
-    rule: &mut BrokenRule,
+// Returns which number of a pair's superblock is wrong, as a line.
+fn wrong_number_line(
+    alloc: Global,
     geometry: &Geometry,
-    at: [u32; 2],
+    pair: [u32; 2],
     stated: WrongNumber,
-) -> Result<(), AllocError> {
-    rule.stated = Some(stated);
-    push_pair_message(&mut rule.line, at, ", ")?;
-    push_wrong_superblock_number_text(&mut rule.line, &given_sizes(geometry), stated)
-}
-
-// Adds what is wrong with the first superblock of the thread.
-fn push_superblock_line(
-    rule: &mut BrokenRule,
-    geometry: &Geometry,
-    pairs: &[OwnedPair],
-    at: [u32; 2],
-) -> Result<(), AllocError> {
-    let place = place_at(pairs, at, 0);
-    let Some(slot) = slot_at(pairs, place) else {
-        return push_text(&mut rule.line, NO_SUPERBLOCK);
+) -> Result<LineAndNumber, AllocError> {
+    let layout = ImageLayout::new(geometry.block_size, geometry.page);
+    let size = geometry.block_size as usize * geometry.block_count as usize;
+    let number = WrongNumberText {
+        given: GivenSizes::of(size, layout),
+        stated,
     };
-    if !slot.kind.is_superblock() {
-        return push_text(&mut rule.line, NO_SUPERBLOCK);
-    }
+    let line = format!(in alloc; "{}, {number}", PairText(pair))?;
+    Ok((line, Some(stated)))
+}
+
+// Returns what is wrong with the first superblock of the thread.
+fn first_superblock_line(
+    alloc: Global,
+    thread: &FoundThread,
+    geometry: &Geometry,
+    pair: [u32; 2],
+) -> Result<LineAndNumber, AllocError> {
+    let slot = match thread.slot_at(pair, 0) {
+        Some(slot) if slot.kind.is_superblock() => slot,
+        _ => return Ok((no_superblock_line(alloc)?, None)),
+    };
     if slot.name.as_slice() != b"littlefs".as_slice() {
-        return push_place_line(
-            &mut rule.line,
-            pairs,
-            place,
-            " isn't the name of a superblock",
-        );
+        return Ok((
+            format!(in alloc; "{slot} isn't the name of a superblock")?,
+            None,
+        ));
     }
-    match wrong_number_of_slot(geometry, slot) {
-        Some(stated) => push_wrong_number(rule, geometry, at, stated),
-        None => push_pair_message(&mut rule.line, at, ", slot 0: no superblock's struct"),
+    if let Some(stated) = wrong_number_of_slot(geometry, slot) {
+        return wrong_number_line(alloc, geometry, pair, stated);
+    }
+    let line = format!(in alloc; "{}, slot 0: no superblock's struct", PairText(pair))?;
+    Ok((line, None))
+}
+
+// Returns which number of a later superblock is wrong, or that it differs from the one before it.
+fn other_superblock_line(
+    alloc: Global,
+    thread: &FoundThread,
+    geometry: &Geometry,
+    pair: [u32; 2],
+) -> Result<LineAndNumber, AllocError> {
+    if let Some(slot) = thread.slot_at(pair, 0) {
+        if let Some(stated) = wrong_number_of_slot(geometry, slot) {
+            return wrong_number_line(alloc, geometry, pair, stated);
+        }
+    }
+    let first = match thread.slots.first() {
+        Some(slot) => slot.pair,
+        None => pair,
+    };
+    let (at, first) = (PairText(pair), PairText(first));
+    let line = format!(in alloc; "{at}, superblock: another one than in {first}")?;
+    Ok((line, None))
+}
+
+// Returns for what a slot is no entry.
+fn entry_flaw(slot: &FoundSlot) -> &'static str {
+    match (slot.kind, &slot.structure) {
+        (SlotNameKind::Superblock, _) => "is a second superblock",
+        (SlotNameKind::File, OwnedStruct::Branch(_)) => "has another kind's struct",
+        (SlotNameKind::Directory, OwnedStruct::Branch(_)) => "is no name",
+        (SlotNameKind::Directory, _) => "has another kind's struct",
+        (SlotNameKind::File, _) => "is no name",
     }
 }
 
-// Returns the address of the first pair that has a slot.
-fn first_with_slots(pairs: &[OwnedPair]) -> Option<[u32; 2]> {
-    for pair in pairs {
-        if !pair.slots.is_empty() {
-            return Some(pair.at);
+// ---- directories
+
+// Returns the names of a directory that don't rise with longer names first. With shorter ones first those of
+// another directory don't, where the rule `other` says so.
+fn names_line(
+    alloc: Global,
+    thread: &FoundThread,
+    pair: [u32; 2],
+    other: Violation,
+) -> Result<String, AllocError> {
+    let other = match other {
+        Violation::Names { pair } => pair,
+        _ => pair,
+    };
+    let one = thread.first_fall(NameOrder::LongerFirst, pair);
+    let two = thread.first_fall(NameOrder::ShorterFirst, other);
+    let (Some(one), Some(two)) = (one, two) else {
+        return Ok(String::new(alloc));
+    };
+    if !one.do_rise(NameOrder::ShorterFirst) {
+        format!(in alloc; "{one}")
+    } else if !two.do_rise(NameOrder::LongerFirst) {
+        format!(in alloc; "{two}")
+    } else {
+        format!(in alloc; "names in two orders: {one}, and {two}")
+    }
+}
+
+// Returns the first entry of a directory that leads to no directory.
+fn branch_line(alloc: Global, thread: &FoundThread, pair: [u32; 2]) -> Result<String, AllocError> {
+    for slot in &thread.slots {
+        match slot.structure {
+            OwnedStruct::Branch(to)
+                if thread.is_entry_in(slot, pair) && !thread.has_directory(to) => {
+                let to = PairText(to);
+                return format!(in alloc; "{slot} leads to {to}, where no directory begins");
+            }
+            _ => {}
+        }
+    }
+    Ok(String::new(alloc))
+}
+
+// Returns the entries that lead to one directory, or one that leads to the root.
+fn two_paths_line(
+    alloc: Global,
+    thread: &FoundThread,
+    pair: [u32; 2],
+) -> Result<String, AllocError> {
+    let is_root = match thread.directories.first() {
+        Some(root) => is_same_pair(*root, pair),
+        None => false,
+    };
+    match thread.entries_leading_to(alloc, pair)?.as_slice() {
+        [one, ..] if is_root => format!(in alloc; "{one} leads to the root directory"),
+        [one, other, ..] => format!(in alloc; "{other} leads to the same directory as {one}"),
+        _ => Ok(String::new(alloc)),
+    }
+}
+
+// ---- blocks
+
+// Returns whether a block is in a list that is well formed.
+fn has_list_block(
+    device: &mut RamDevice,
+    structure: &OwnedStruct,
+    wanted: u32,
+) -> Result<bool, Error> {
+    let OwnedStruct::Ctz { head, size } = structure else {
+        return Ok(false);
+    };
+    let mut met = false;
+    let walked = walk(
+        device,
+        *head,
+        *size,
+        &mut |block: u32| {
+            met = met || block == wanted;
+        },
+    );
+    match walked {
+        Ok(()) => Ok(met),
+        Err(Error::Corrupt) => Ok(false),
+        Err(error) => Err(error),
+    }
+}
+
+// Returns the first pair of the thread that has a block.
+fn pair_with_block(thread: &FoundThread, block: u32) -> Option<[u32; 2]> {
+    for pair in &thread.pairs {
+        if pair.contains(&block) {
+            return Some(*pair);
         }
     }
     None
 }
 
-// Adds which number of a pair's superblock is wrong, or that it differs from the one of the first pair that
-// has a slot.
-fn push_other_superblock_line(
-    rule: &mut BrokenRule,
-    geometry: &Geometry,
-    pairs: &[OwnedPair],
-    at: [u32; 2],
-) -> Result<(), AllocError> {
-    if let Some(slot) = slot_at(pairs, place_at(pairs, at, 0)) {
-        if let Some(stated) = wrong_number_of_slot(geometry, slot) {
-            return push_wrong_number(rule, geometry, at, stated);
-        }
-    }
-    push_pair_message(&mut rule.line, at, ", superblock: another one than in ")?;
-    push_pair_text(&mut rule.line, first_with_slots(pairs).unwrap_or(at))
-}
-
-// Adds the line of a rule of directories. In the other order of names the image breaks the rule `other`.
-fn push_directory_line(
+// Returns who has a block of an entry's list beside it: a pair, or the first other entry.
+fn two_owners_line(
     alloc: Global,
-    rule: &mut BrokenRule,
-    slots: &ThreadSlots<'_>,
-    other: Violation,
-) -> Result<(), AllocError> {
-    let text = &mut rule.line;
-    match rule.violation {
-        Violation::Names { pair } => push_names_line(alloc, text, slots, pair, other),
-        Violation::Branch { pair } => push_branch_line(alloc, text, slots, pair),
-        Violation::TwoPaths { pair } => push_two_paths_line(alloc, text, slots, pair),
-        _ => Ok(()),
+    device: &mut RamDevice,
+    thread: &FoundThread,
+    slot: &FoundSlot,
+    block: u32,
+) -> Result<String, Error> {
+    if let Some(pair) = pair_with_block(thread, block) {
+        let at = PairText(pair);
+        return Ok(format!(in alloc; "block {block}: in {at} and in a file, {slot}")?);
     }
+    for other in &thread.slots {
+        let is_other = other.number != slot.number || other.pair != slot.pair;
+        if is_other && thread.is_entry(other) && has_list_block(device, &other.structure, block)? {
+            return Ok(format!(in alloc; "block {block}: in two files, {other} and {slot}")?);
+        }
+    }
+    Ok(String::new(alloc))
 }
 
-// Adds the line of a rule of superblocks or entries.
-fn push_slot_line(
-    rule: &mut BrokenRule,
-    geometry: &Geometry,
-    pairs: &[OwnedPair],
-) -> Result<(), AllocError> {
-    match rule.violation {
-        Violation::Superblock { pair } => push_superblock_line(rule, geometry, pairs, pair),
-        Violation::OtherSuperblock { pair } => {
-            push_other_superblock_line(rule, geometry, pairs, pair)
-        }
-        Violation::Entry { pair, slot } => {
-            push_entry_line(&mut rule.line, pairs, place_at(pairs, pair, slot))
-        }
-        _ => Ok(()),
-    }
-}
+// ---- all rules
 
-// Adds what is wrong with the move of a global state.
-fn push_move_line(rule: &mut BrokenRule, state: &MoveState) -> Result<(), AllocError> {
-    match rule.violation {
-        Violation::Move if state.kind == 0 => {
-            push_text(
-                &mut rule.line,
-                "global state: no move is set, but it names a slot",
-            )
-        }
-        Violation::Move => push_text(&mut rule.line, "global state: its move names no entry"),
-        _ => Ok(()),
-    }
-}
-
-// Adds the line of a rule for which the slots of a whole thread are read.
-fn push_thread_line(
+// Returns the line of a rule that names a slot by its number.
+fn slot_line(
     alloc: Global,
-    rule: &mut BrokenRule,
-    mut thread: Thread<RamDevice>,
-    other: Violation,
-) -> Result<(), Error>
-    requires { thread.failed ≡ false }
-{
-    let geometry = thread.geometry();
-    let state = thread.state();
-    let pairs = owned_pairs_of_thread(alloc, &mut thread)?;
-    if pairs.is_empty() {
-        return Ok(());
-    }
-    let slots = ThreadSlots {
-        pairs: &pairs,
-        state: &state,
-        root: root_pair_index(&pairs),
-    };
-    push_move_line(rule, &state)?;
-    push_slot_line(rule, &geometry, &pairs)?;
-    push_directory_line(alloc, rule, &slots, other)?;
-    let mut device = thread.into_device();
-    push_list_line(alloc, rule, &mut device, &slots)
-}
-
-// Adds the line of a rule that takes no more than its pair. Returns whether it is such a rule.
-fn push_plain_line(
-    text: &mut Vec<u8>,
+    device: &mut RamDevice,
+    thread: &FoundThread,
     violation: Violation,
-    count: u32,
-) -> Result<bool, AllocError> {
-    match violation {
-        Violation::OutOfRange { pair } => push_out_of_range_line(text, pair, count)?,
-        Violation::OneBlock { pair } => push_pair_message(text, pair, ": one block twice")?,
-        Violation::NoSuperblock => push_text(text, NO_SUPERBLOCK)?,
-        Violation::FirstEntry { pair } => push_pair_message(text, pair, OTHER_FIRST_ENTRY)?,
-        Violation::NoPath { pair } => push_pair_message(text, pair, NO_PATH)?,
-        _ => return Ok(false),
-    }
-    Ok(true)
+) -> Result<String, Error> {
+    let (pair, number) = match violation {
+        Violation::Entry { pair, slot } => (pair, slot),
+        Violation::List { pair, slot } => (pair, slot),
+        Violation::TwoOwners { pair, slot, .. } => (pair, slot),
+        _ => return Ok(String::new(alloc)),
+    };
+    let Some(slot) = thread.slot_at(pair, number as usize) else {
+        return Ok(String::new(alloc));
+    };
+    let line = match violation {
+        Violation::TwoOwners { block, .. } => two_owners_line(alloc, device, thread, slot, block)?,
+        Violation::List { .. } => {
+            format!(in alloc; "{slot} has a list with a wrong size, block or pointer")?
+        }
+        _ => format!(in alloc; "{slot} {}", entry_flaw(slot))?,
+    };
+    Ok(line)
 }
 
-// Adds the line of a rule for which the image is read once more.
-fn push_read_line(
+// Returns the line of a rule for which the thread is read once more. In the other order of names the image breaks
+// the rule `other`.
+fn thread_line(
     alloc: Global,
-    rule: &mut BrokenRule,
-    mut device: RamDevice,
+    device: &mut RamDevice,
+    violation: Violation,
     other: Violation,
-) -> Result<(), Error> {
-    let text = &mut rule.line;
-    match rule.violation {
+) -> Result<LineAndNumber, Error> {
+    let geometry = device.geometry();
+    let stop = match violation {
+        Violation::TwoPairs { pair, .. } => Some(pair),
+        _ => None,
+    };
+    let thread = FoundThread::read(alloc, device, stop)?;
+    let line = match violation {
+        Violation::Superblock { pair } => {
+            return Ok(first_superblock_line(alloc, &thread, &geometry, pair)?);
+        }
+        Violation::OtherSuperblock { pair } => {
+            return Ok(other_superblock_line(alloc, &thread, &geometry, pair)?);
+        }
         Violation::TwoPairs { pair, block } => {
-            return push_earlier_pair_line(alloc, text, &mut device, pair, block);
+            let [a, b] = pair_with_block(&thread, block).unwrap_or(pair);
+            let [c, d] = pair;
+            format!(in alloc; "block {block}: in two pairs, {a} {b} and {c} {d}")?
         }
-        Violation::NoContent { pair } => {
-            return push_no_content_line(alloc, text, &mut device, pair);
+        Violation::Names { pair } => names_line(alloc, &thread, pair, other)?,
+        Violation::Branch { pair } => branch_line(alloc, &thread, pair)?,
+        Violation::TwoPaths { pair } => two_paths_line(alloc, &thread, pair)?,
+        Violation::Move if thread.state.kind == 0 => {
+            format!(in alloc; "global state: no move is set, but it names a slot")?
         }
-        _ => {}
-    }
-    match Thread::read(alloc, device) {
-        Ok(thread) => push_thread_line(alloc, rule, thread, other),
-        Err((_device, error)) => Err(error.into()),
+        Violation::Move => format!(in alloc; "global state: its move names no entry")?,
+        _ => slot_line(alloc, device, &thread, violation)?,
+    };
+    Ok((line, None))
+}
+
+// Returns the line of a rule.
+fn rule_line(
+    alloc: Global,
+    device: &mut RamDevice,
+    violation: Violation,
+    other: Violation,
+) -> Result<LineAndNumber, Error> {
+    match pair_line(alloc, device, violation)? {
+        Some(line) => Ok((line, None)),
+        None => thread_line(alloc, device, violation, other),
     }
 }
 
@@ -267,20 +383,12 @@ pub(crate) fn broken_rule(
     ensures rule { IfOk result (λ rule. rule.violation ≡ violation) }
     ensures err { IfErr result (λ e. e ≡ Error.NoMemory) }
 {
-    let count = device.geometry().block_count;
-    let mut rule = BrokenRule {
-        violation,
-        line: Vec::new(alloc),
-        stated: None,
-    };
-    if push_plain_line(&mut rule.line, violation, count)? {
-        return Ok(rule);
-    }
-    match push_read_line(alloc, &mut rule, device, other) {
-        Ok(()) => Ok(BrokenRule {
+    let mut device = device;
+    match rule_line(alloc, &mut device, violation, other) {
+        Ok((line, stated)) => Ok(BrokenRule {
             violation,
-            line: rule.line,
-            stated: rule.stated,
+            line: line.into_bytes(),
+            stated,
         }),
         // The device has no fault, and a rule was found by the same reads.
         Err(_) => Err(Error::NoMemory),

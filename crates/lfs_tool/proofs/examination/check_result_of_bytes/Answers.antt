@@ -11,4 +11,4 @@ returns-clause-checked c =
     let number = number_or_none c.args.layout c.deref.result.now stated.result stated.ensures.found stated.ensures.none fits in
     let len = c.len.ensures in
     c.check_result_of_verdict.ensures c.args.layout items (subst (λ (b : List ℕ). IsWrongNumberIfAny c.args.layout b stated.result) c.deref.ensures.value number) c.in_ok-verdict.ensures.judged
-    (c.given_sizes_with_block_count_of_image-given.ensures items (omega (arith, len)))
+    (c.of-given.ensures items (omega (arith, len)))

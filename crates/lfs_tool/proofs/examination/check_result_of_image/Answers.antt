@@ -8,8 +8,8 @@ returns-then-len-gt-IMAGE_MAX-clause-checked g c =
     let len = c.len.ensures in
     let again = c.len-then-len-gt-IMAGE_MAX.ensures in
     let more = c.if-len-gt-IMAGE_MAX.true in
-    refused_read (g.R.ImageInput.remaining c.args.image.now) c.args.layout items c.given_sizes_with_block_count_of_image-given.result c.refused_check_result.result c.in_ok-bytes.ensures.bytes (omega (arith, len, more))
-    (c.given_sizes_with_block_count_of_image-given.ensures items (omega (arith, again)))
+    refused_read (g.R.ImageInput.remaining c.args.image.now) c.args.layout items c.of-given.result c.refused_check_result.result c.in_ok-bytes.ensures.bytes (omega (arith, len, more))
+    (c.of-given.ensures items (omega (arith, again)))
     (λ bytes long none given. c.refused_check_result.ensures c.args.layout bytes (λ is. absurd (none is)) (λ short. absurd (omega (arith, long, short))) (λ is. ((λ short. absurd (omega (arith, long, short))), none)) given)
 
 pub returns-clause-checked : goal.returns-clause-checked

@@ -1,0 +1,20 @@
+-- Addresses and wrong numbers, as lines show them.
+use Rattle.std.specs.Prelude.{ℕ, ◌/◌, ◌%◌, ◌++◌, List, codes}
+use Rattle.std.specs.Fmt.{decimal}
+use Rattle.lfs_tool.specs.declared.wrong_number.WrongNumber.{WrongNumber}
+use Rattle.lfs_tool.specs.declared.wrong_number.WrongNumber.TheVariants as stated
+use Rattle.lfs_tool.specs.declared.check_result.GivenSizes.{GivenSizes}
+
+-- `pair A B`
+abbrev pub pair_text : ℕ × ℕ → List ℕ
+pair_text at = codes "pair " ++ decimal at.0 ++ codes " " ++ decimal at.1
+
+-- which number of a superblock is wrong
+abbrev pub wrong_number_text : GivenSizes → WrongNumber → List ℕ
+wrong_number_text given (stated.BlockSize n) = codes "superblock: block size " ++ decimal n ++ codes ", given " ++ decimal given.block_size
+wrong_number_text given (stated.BlockCount n) = codes "superblock: block count " ++ decimal n ++ codes ", given " ++ decimal given.blocks
+wrong_number_text given (stated.Version n) = codes "superblock: version " ++ decimal (n / 65536) ++ codes "." ++ decimal (n % 65536)
+
+-- no image has these sizes
+abbrev pub no_image_text : GivenSizes → List ℕ
+no_image_text given = (codes "no image of blocks of " ++ decimal given.block_size ++ codes " bytes") ++ codes " and pages of " ++ decimal given.page ++ codes " has a length of " ++ decimal given.size

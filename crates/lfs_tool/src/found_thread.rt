@@ -1,0 +1,295 @@
+// The slots of a thread, for the lines that name them.
+
+use crate::number_text::PairText;
+use lfs_device::{BlockDevice, Error, RamDevice, read_block};
+use lfs_lookup::{OwnedStruct, push_escaped_path};
+use lfs_model::NameOrder;
+use lfs_pair::is_same_pair;
+use lfs_tag::kinds::DELETE;
+use lfs_tag::{
+    Content, Log, MoveState, Slot, SlotNameKind, Struct, has_hard_tail, is_revision_later_than,
+    name_cmp,
+};
+use lfs_thread::gstate_xor_delta;
+use std::alloc::{AllocError, Global};
+use std::fmt;
+
+// Returns a name as a list shows it.
+pub(crate) fn escaped_name(alloc: Global, name: &[u8]) -> Result<String, AllocError> {
+    let mut text = Vec::new(alloc);
+    push_escaped_path(&mut text, name)?;
+    String::from_utf8_lossy(alloc, &text)
+}
+
+// Returns whether the second block of a pair holds. Returns None where neither does.
+fn does_second_hold(first: &[u8], second: &[u8]) -> Option<bool> {
+    let (first, second) = (Log::read(first), Log::read(second));
+    let is_later = is_revision_later_than(first.revision(), second.revision());
+    match (first.has_commit(), second.has_commit()) {
+        (true, true) => Some(is_later),
+        (true, false) => Some(false),
+        (false, true) => Some(true),
+        (false, false) => None,
+    }
+}
+
+// Returns the block of a pair that holds, if it has one and both are on the device.
+pub(crate) fn current_block(
+    alloc: Global,
+    device: &mut RamDevice,
+    pair: [u32; 2],
+) -> Result<Option<Vec<u8>>, Error> {
+    let [first, second] = pair;
+    let count = device.geometry().block_count;
+    if first >= count || second >= count {
+        return Ok(None);
+    }
+    let first = read_block(alloc, device, first)?;
+    let second = read_block(alloc, device, second)?;
+    match does_second_hold(&first, &second) {
+        Some(true) => Ok(Some(second)),
+        Some(false) => Ok(Some(first)),
+        None => Ok(None),
+    }
+}
+
+// A slot with a name and a struct.
+#[derive(Drop)]
+pub(crate) struct FoundSlot {
+    // Its pair, as the thread names it, and its number there.
+    pub pair: [u32; 2],
+    pub number: usize,
+    // The first pair of its directory.
+    pub directory: [u32; 2],
+    pub kind: SlotNameKind,
+    pub name: Vec<u8>,
+    // The name as a list shows it.
+    pub shown: String,
+    pub structure: OwnedStruct,
+}
+
+impl fmt::Display for FoundSlot {
+    fn fmt<W: fmt::Write>(&self, f: &mut fmt::Formatter<W>) -> fmt::Result {
+        let (pair, shown) = (PairText(self.pair), self.shown.as_str());
+        write!(f, "{pair}, slot {}: \"{shown}\"", self.number)
+    }
+}
+
+impl FoundSlot {
+    // Returns the address that it leads to, if it is a directory's.
+    pub(crate) fn branch(&self) -> Option<[u32; 2]> {
+        match self.structure {
+            OwnedStruct::Branch(to) => Some(to),
+            _ => None,
+        }
+    }
+}
+
+// Neighbours in a directory.
+#[derive(Clone, Copy, Drop)]
+pub(crate) struct Neighbours<'a> {
+    before: &'a FoundSlot,
+    slot: &'a FoundSlot,
+}
+
+impl fmt::Display for Neighbours<'_> {
+    fn fmt<W: fmt::Write>(&self, f: &mut fmt::Formatter<W>) -> fmt::Result {
+        let (slot, before) = (self.slot, self.before.shown.as_str());
+        write!(f, "{slot} stands behind \"{before}\"")
+    }
+}
+
+impl Neighbours<'_> {
+    // Returns whether the later name comes after the earlier one.
+    pub(crate) fn do_rise(&self, order: NameOrder) -> bool {
+        name_cmp(order, &self.before.name, &self.slot.name).is_lt()
+    }
+}
+
+// What a thread has.
+#[derive(Drop)]
+pub(crate) struct FoundThread {
+    pub pairs: Vec<[u32; 2]>,
+    // The first pairs of its directories. That of the root comes first.
+    pub directories: Vec<[u32; 2]>,
+    pub slots: Vec<FoundSlot>,
+    pub state: MoveState,
+}
+
+impl FoundThread {
+    // Reads the thread of a device, up to a pair at which to stop.
+    pub(crate) fn read(
+        alloc: Global,
+        device: &mut RamDevice,
+        stop: Option<[u32; 2]>,
+    ) -> Result<FoundThread, Error> {
+        let mut thread = FoundThread {
+            pairs: Vec::new(alloc),
+            directories: Vec::new(alloc),
+            slots: Vec::new(alloc),
+            state: MoveState::none(),
+        };
+        let mut next = Some([0, 1]);
+        let mut is_chain = true;
+        for _ in 0..device.geometry().block_count {
+            let Some(at) = next else {
+                break;
+            };
+            if next == stop {
+                break;
+            }
+            let Some(block) = current_block(alloc, device, at)? else {
+                break;
+            };
+            let content = Content::read(alloc, &Log::read(&block))?;
+            is_chain = thread.push_pair(alloc, at, &content, is_chain)?;
+            next = content.tail.map(|tail| tail.pair);
+        }
+        Ok(thread)
+    }
+
+    // Adds a pair. Returns whether the superblock's chain may go on behind it. The root directory begins at the
+    // last superblock of the chain (SPEC.md of littlefs, "0x0ff LFS_TYPE_SUPERBLOCK").
+    fn push_pair(
+        &mut self,
+        alloc: Global,
+        pair: [u32; 2],
+        content: &Content<'_>,
+        is_chain: bool,
+    ) -> Result<bool, AllocError> {
+        let (is_superblock, is_short) = match content.slots.as_slice() {
+            [] => (false, true),
+            [only] => (only.is_superblock(), only.is_superblock()),
+            [first, ..] => (first.is_superblock(), false),
+        };
+        if self.pairs.is_empty() || is_chain && is_superblock {
+            self.directories.clear();
+            self.directories.push(pair)?;
+        }
+        self.pairs.push(pair)?;
+        self.push_slots(alloc, pair, &content.slots)?;
+        self.state = gstate_xor_delta(&self.state, &content.move_state);
+        match content.tail {
+            Some(tail) if !tail.hard => self.directories.push(tail.pair)?,
+            _ => {}
+        }
+        Ok(is_chain && is_short && has_hard_tail(content.tail))
+    }
+
+    // Adds the slots of a pair that have a name and a struct.
+    fn push_slots(
+        &mut self,
+        alloc: Global,
+        pair: [u32; 2],
+        slots: &[Slot<'_>],
+    ) -> Result<(), AllocError> {
+        let directory = self.directories.last().copied().unwrap_or(pair);
+        for number in 0..slots.len() {
+            let (Some(name), Some(part)) = (slots[number].name, slots[number].structure) else {
+                continue;
+            };
+            let structure = match Struct::of(&part) {
+                Some(Struct::Inline(bytes)) => OwnedStruct::Inline(Vec::from_slice(alloc, bytes)?),
+                Some(Struct::Ctz { head, size }) => OwnedStruct::Ctz { head, size },
+                Some(Struct::Branch(to)) => OwnedStruct::Branch(to),
+                None => continue,
+            };
+            self.slots.push(FoundSlot {
+                pair,
+                number,
+                directory,
+                kind: SlotNameKind::of(&name),
+                name: Vec::from_slice(alloc, name.bytes)?,
+                shown: escaped_name(alloc, name.bytes)?,
+                structure,
+            })?;
+        }
+        Ok(())
+    }
+
+    // Returns a slot of the pair at an address.
+    pub(crate) fn slot_at(&self, pair: [u32; 2], number: usize) -> Option<&FoundSlot> {
+        for slot in &self.slots {
+            if slot.number == number && is_same_pair(slot.pair, pair) {
+                return Some(slot);
+            }
+        }
+        None
+    }
+
+    // Returns whether a slot is an entry: no superblock's, and not the one that a set move names.
+    pub(crate) fn is_entry(&self, slot: &FoundSlot) -> bool {
+        let is_moved = self.state.kind == DELETE
+            && is_same_pair(self.state.pair, slot.pair)
+            && usize::from(self.state.id) == slot.number;
+        !is_moved && !slot.kind.is_superblock()
+    }
+
+    // Returns whether a slot is an entry of the directory at an address.
+    pub(crate) fn is_entry_in(&self, slot: &FoundSlot, directory: [u32; 2]) -> bool {
+        is_same_pair(slot.directory, directory) && self.is_entry(slot)
+    }
+
+    // Returns whether a directory begins at an address.
+    pub(crate) fn has_directory(&self, at: [u32; 2]) -> bool {
+        for first in &self.directories {
+            if is_same_pair(*first, at) {
+                return true;
+            }
+        }
+        false
+    }
+
+    // Returns the first neighbours in a directory whose names don't rise.
+    pub(crate) fn first_fall(
+        &self,
+        order: NameOrder,
+        directory: [u32; 2],
+    ) -> Option<Neighbours<'_>> {
+        let mut last: Option<&FoundSlot> = None;
+        for slot in &self.slots {
+            if !self.is_entry_in(slot, directory) {
+                continue;
+            }
+            if let Some(before) = last {
+                let two = Neighbours { before, slot };
+                if !two.do_rise(order) {
+                    return Some(two);
+                }
+            }
+            last = Some(slot);
+        }
+        None
+    }
+
+    // Returns the entries that lead to an address, of the directories that paths lead to.
+    pub(crate) fn entries_leading_to(
+        &self,
+        alloc: Global,
+        at: [u32; 2],
+    ) -> Result<Vec<&FoundSlot>, AllocError> {
+        let mut leading = Vec::new(alloc);
+        let mut reached: Vec<[u32; 2]> = Vec::new(alloc);
+        reached.extend_from_slice(self.directories.get(..1).unwrap_or(&[]))?;
+        for step in 0..self.directories.len() {
+            let Some(directory) = reached.get(step).copied() else {
+                break;
+            };
+            for slot in &self.slots {
+                let Some(to) = slot.branch() else {
+                    continue;
+                };
+                if !self.is_entry_in(slot, directory) {
+                    continue;
+                }
+                if is_same_pair(to, at) {
+                    leading.push(slot)?;
+                }
+                if self.has_directory(to) && !reached.iter().any(|one| is_same_pair(*one, to)) {
+                    reached.push(to)?;
+                }
+            }
+        }
+        Ok(leading)
+    }
+}

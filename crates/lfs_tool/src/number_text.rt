@@ -1,0 +1,68 @@
+// Addresses and wrong numbers, as lines show them.
+
+use crate::check_result::GivenSizes;
+use crate::wrong_number::WrongNumber;
+use std::fmt;
+
+// The two blocks of a pair.
+#[derive(Clone, Copy, Drop)]
+pub(crate) struct PairText(pub [u32; 2]);
+
+impl fmt::Display for PairText {
+    ghost use Rattle.std.specs.Prelude.{Some};
+    ghost use Rattle.lfs_model.specs.Slots.{pair_address_of_array};
+    ghost use Rattle.lfs_tool.specs.NumberTexts.{pair_text};
+
+    ghost output = { λ pair. Some (pair_text (pair_address_of_array pair.0)) };
+
+    fn fmt<W: fmt::Write>(&self, f: &mut fmt::Formatter<W>) -> fmt::Result {
+        write!(f, "pair {} {}", self.0[0], self.0[1])
+    }
+}
+
+// A number of a superblock that is wrong, and the sizes that were given.
+#[derive(Clone, Copy, Drop)]
+pub(crate) struct WrongNumberText {
+    pub given: GivenSizes,
+    pub stated: WrongNumber,
+}
+
+impl fmt::Display for WrongNumberText {
+    ghost use Rattle.std.specs.Prelude.{Some};
+    ghost use Rattle.lfs_tool.specs.NumberTexts.{wrong_number_text};
+
+    ghost output = { λ number. Some (wrong_number_text number.given number.stated) };
+
+    fn fmt<W: fmt::Write>(&self, f: &mut fmt::Formatter<W>) -> fmt::Result {
+        let (block_size, blocks) = (self.given.block_size, self.given.blocks);
+        match self.stated {
+            WrongNumber::BlockSize(size) => {
+                write!(f, "superblock: block size {size}, given {block_size}")
+            }
+            WrongNumber::BlockCount(count) => {
+                write!(f, "superblock: block count {count}, given {blocks}")
+            }
+            WrongNumber::Version(version) => {
+                let (major, minor) = (version / 65536, version % 65536);
+                write!(f, "superblock: version {major}.{minor}")
+            }
+        }
+    }
+}
+
+// The sizes of which there is no image.
+#[derive(Clone, Copy, Drop)]
+pub(crate) struct NoImageText(pub GivenSizes);
+
+impl fmt::Display for NoImageText {
+    ghost use Rattle.std.specs.Prelude.{Some};
+    ghost use Rattle.lfs_tool.specs.NumberTexts.{no_image_text};
+
+    ghost output = { λ sizes. Some (no_image_text sizes.0) };
+
+    fn fmt<W: fmt::Write>(&self, f: &mut fmt::Formatter<W>) -> fmt::Result {
+        let (block_size, page, size) = (self.0.block_size, self.0.page, self.0.size);
+        write!(f, "no image of blocks of {block_size} bytes")?;
+        write!(f, " and pages of {page} has a length of {size}")
+    }
+}

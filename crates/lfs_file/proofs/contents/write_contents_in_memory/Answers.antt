@@ -30,8 +30,8 @@ pub move_memory_contents_to_list_and_write-requires-clause-room : goal.move_memo
 move_memory_contents_to_list_and_write-requires-clause-room g c =
     let m = c.max-size.ensures in
     let size = c.size.ensures in
-    let all = held_size c.args.list c.requires.quiet.resting.held in
+    let all = held_size c.args.list c.requires.stands.resting.held in
     let test = c.if-size-limit.false in
-    let some = c.requires.some in
-    let room = c.requires.room (omega arith) in
-    record { longer = omega arith; small = c.requires.small; room = omega arith }
+    let some = c.requires.fits.some in
+    let room = c.requires.fits.room (omega arith) in
+    record { longer = omega arith; small = c.requires.fits.small; room = omega arith }

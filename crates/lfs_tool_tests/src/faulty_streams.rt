@@ -86,10 +86,10 @@ fn stream_failing_at_call<'a>(
 const KINDS: [(ErrorKind, bool); 2] = [(ErrorKind::Other, true), (ErrorKind::Interrupted, false)];
 
 // Whether an image is unpacked or listed, with which block size, how many bytes a call gives, how many
-// calls that takes, and what is shown where none fails. Each of 16 blocks is listed by two calls, and the
-// image unpacked by three, which also pass it where no image has such blocks; a further call finds its end.
+// calls that takes, and what is shown where none fails. The image's 65,536 bytes take 22 calls of 3,000
+// bytes, or three of 30,000, also where no image has such blocks; a further call finds its end.
 const READERS: [(bool, u32, usize, u32, &[u8]); 4] = [
-    (false, 4096, 3000, 33, LINES),
+    (false, 4096, 3000, 23, LINES),
     (true, 4096, 30000, 4, b"f /b \n"),
     (false, 3, 30000, 4, INVALID),
     (true, 3, 30000, 4, INVALID),
